@@ -4,9 +4,9 @@ use Rattle.std.specs.Prelude.{Bool, true, false}
 use Rattle.std.specs.declared.io.Error.{Error}
 use Rattle.std.specs.declared.io.ErrorKind.{ErrorKind}
 use Rattle.std.specs.Io.KnownBytes.{Appends}
-use Rattle.mtxkit_texts.specs.Facts.{WritesInfo}
+use Rattle.mtxkit_texts.specs.Facts.{WritesInfo, IsInfoFailure}
 use Rattle.mtxkit_texts.specs.Headers.{header_in}
-use Rattle.mtxkit_texts.specs.Loaded.{IsLoadFailure, IsValuesFailure, IsWholeFailure}
+use Rattle.mtxkit_texts.specs.Loaded.{IsLoadFailure, IsValuesFailure}
 use Rattle.mtxkit_texts.specs.Lower.{IsSymmetricFailure, Symmetrised}
 use Rattle.mtxkit_texts.specs.Rewritten.{WritesIntegers, WritesPattern}
 use Rattle.mtxkit_texts.specs.Shown.{ShowsBitmap, ShowsBlocks}
@@ -128,7 +128,7 @@ IsUnchecked modulus a x b old new failure = IsUnread 1 a old new failure
 -- why a command has no answer: one of its files, counted from 1, is not read, and those before it
 -- were; or the texts of its files are at fault
 abbrev pub IsFailure : Command → List Reading → List Reading → Failure → Type 0
-IsFailure (Info file) old new failure = FailsOne file.now (IsWholeFailure 1) old new failure
+IsFailure (Info file) old new failure = FailsOne file.now IsInfoFailure old new failure
 IsFailure (Spy file size target) old new failure =
     FailsOne file.now (IsLoadFailure 1) old new failure
 IsFailure (Field file values) old new failure =

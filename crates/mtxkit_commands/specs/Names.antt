@@ -3,7 +3,7 @@ use Rattle.std.specs.Prelude.{◌≡◌, ℕ, ◌==◌, if◌then◌else◌, Lis
 use Rattle.std.specs.Prelude.{Some, None}
 use Rattle.mtxkit_texts.specs.declared.failure.Failure.{Failure}
 use Rattle.mtxkit_texts.specs.declared.failure.Failure.TheVariants.{Unread, Input, NotCarried}
-use Rattle.mtxkit_texts.specs.declared.failure.Failure.TheVariants.{Wide, Unsaved}
+use Rattle.mtxkit_texts.specs.declared.failure.Failure.TheVariants.{Wide, Overflow, Unsaved}
 use Rattle.mtxkit_commands.specs.declared.commands.Command.{Command}
 use Rattle.mtxkit_commands.specs.declared.commands.Command.TheVariants.{Info, Spy, Field}
 use Rattle.mtxkit_commands.specs.declared.commands.Command.TheVariants.{Integer}
@@ -51,6 +51,7 @@ fault_file command (Unread number error) = file_of command number
 fault_file command (Input number kind spot) = file_of command number
 fault_file command (NotCarried number) = file_of command number
 fault_file command (Wide number) = file_of command number
+fault_file command (Overflow number) = file_of command number
 fault_file command (Unsaved error) = saved_file command
 fault_file command failure = None
 

@@ -135,7 +135,8 @@ impl<'a> Command<'a> {
             Failure::Unread(number, _)
             | Failure::Input(number, _, _)
             | Failure::NotCarried(number)
-            | Failure::Wide(number) => self.file(number),
+            | Failure::Wide(number)
+            | Failure::Overflow(number) => self.file(number),
             Failure::Unsaved(_) => self.path(),
             _ => None,
         }

@@ -1,6 +1,7 @@
 -- The lines that are copied: blank lines, comments and the size line.
-use Rattle.std.proofs.Common.{◌≡◌, ◌≢◌, ℕ, Bool, true, false, eqb, List, ◌∷◌, ◌++◌, get_or, Option}
-use Rattle.std.proofs.Common.{Some, Result, Ok, Err, refl, sym, ap, ◌∙◌, inl, inr}
+use Rattle.std.proofs.Common.{◌≡◌, ◌≢◌, ℕ, Bool, true, false, eqb, List, [], ◌∷◌, ◌++◌, get_or}
+use Rattle.std.proofs.Common.{Option}
+use Rattle.std.proofs.Common.{Some, None, Result, Ok, Err, refl, sym, ap, ◌∙◌, inl, inr}
 use Rattle.std.specs.Prelude.{IfOk}
 use Rattle.std.specs.Option.{option_map}
 use Rattle.std.proofs.lemmas.Bool.{eqb-true, eqb-false}
@@ -10,11 +11,18 @@ use Rattle.sparse_parser.specs.declared.header.Header.{Header}
 use Rattle.sparse_parser.specs.Grammar.{IsOneLine, is_size}
 use Rattle.sparse_parser.specs.InnerReading.{is_content, words_of, size_numbers, size_at}
 use Rattle.sparse_parser.proofs.ContentLaws.{content_line, is_content-comment}
-use Rattle.sparse_parser.proofs.LineShapes.{size_some}
+use Rattle.sparse_parser.specs.Errors.{kind_of_cause}
+use Rattle.sparse_parser.specs.Meaning.{sizes_of}
+use Rattle.sparse_parser.proofs.LineShapes.{size_some, size_none}
+use Rattle.mtxkit_matrices.specs.declared.line_faults.LineFault.{LineFault}
+use Rattle.mtxkit_matrices.specs.declared.line_faults.LineFault.TheVariants as faults
+use Rattle.mtxkit_matrices.specs.LineFaults.{IsFaultOfKind, IsSizesFault}
 use Rattle.mtxkit_matrices.specs.declared.decimals.error.ScaleError.{ScaleError}
 use Rattle.mtxkit_matrices.specs.declared.decimals.stage.Stage.{Stage}
 use Rattle.mtxkit_matrices.specs.declared.decimals.stage.Stage.TheVariants.{Head, Sizes, Entries}
-use Rattle.mtxkit_matrices.specs.InnerRewriting.{IsStep, IsLineWritten}
+use Rattle.mtxkit_matrices.specs.InnerScaleFailures.{AreContent}
+use Rattle.mtxkit_matrices.specs.ScaledTexts.{IsSized}
+use Rattle.mtxkit_matrices.specs.InnerRewriting.{IsStep, IsCopied, IsLineWritten}
 
 -- whether the first word begins a comment
 pub is_commented : (line : List ℕ) {word : List ℕ} {words : List (List ℕ)} {t : Bool}
@@ -29,12 +37,32 @@ pub is_contained : (line : List ℕ) {word : List ℕ} {words : List (List ℕ)}
 is_contained line {word} {words} e f g =
     rw e (content_line word words (eqb-false _ _ (sym f ∙ g)))
 
--- a line whose sizes are read is a size line
-pub sized_from : (h : Header) (words : List (List ℕ)) (o : Option (Result Size Cause))
-    (r : Result Size Cause) → o ≡ Some r → option_map (λ x. size_numbers x) o ≡ size_at h words
-    → is_size words ≡ true
-sized_from h words o r e s =
-    (size_some h words (size_numbers r) (sym (ap (option_map (λ x. size_numbers x)) e) ∙ s)).0
+pub are_content : (line : List ℕ) {word : List ℕ} {words : List (List ℕ)} {t : Bool}
+    → words_of line ≡ word ∷ words → t ≡ eqb (get_or word 0 0) 37 → t ≡ false
+    → AreContent (words_of line)
+are_content line e f g = record { some = λ n. cc; content = is_contained line e f g }
+
+-- a line whose sizes are read is a size line, and the sizes are its
+module _ (h : Header) (words : List (List ℕ)) (o : Option (Result Size Cause))
+    (s : option_map (λ x. size_numbers x) o ≡ size_at h words) where
+  sized_from : (r : Result Size Cause) → o ≡ Some r
+      → (is_size words ≡ true) × (size_numbers r ≡ sizes_of h words)
+  sized_from r e =
+      size_some h words (size_numbers r) (sym (ap (option_map (λ x. size_numbers x)) e) ∙ s)
+
+  pub sized : (size : Size) → o ≡ Some (Ok size)
+      → (is_size words ≡ true) × IsSized h words
+  sized size e = let k = sized_from (Ok size) e in (k.0, (_, sym k.1))
+
+  -- a line whose sizes are refused
+  pub unsized : (cause : Cause) (fault : LineFault) → o ≡ Some (Err cause)
+      → IsFaultOfKind (kind_of_cause cause) fault → IsSizesFault h words fault
+  unsized cause fault e is =
+      let k = sized_from (Err cause) e in inr (kind_of_cause cause, k.0, sym k.1, is)
+
+  -- a line without sizes
+  pub no_size : o ≡ None → IsSizesFault h words faults.Size
+  no_size e = inl (size_none h words (sym (ap (option_map (λ x. size_numbers x)) e) ∙ s), refl)
 
 pub comment_step : (scale : ℕ) (stage : Stage) (words : List (List ℕ)) → stage ≢ Head
     → is_content words ≡ false → IsStep scale stage words stage words
@@ -47,6 +75,16 @@ pub copied : (line old new : List ℕ) (stage at : Stage) → IsOneLine line
     → ((scale : ℕ) → IsStep scale stage (words_of line) at (words_of line))
     → (r : Result Stage ScaleError) → IfOk r (λ s. s ≡ at) → IfOk r (λ s. new ≡ old ++ line)
     → IfOk r (λ next. (scale : ℕ) → IsLineWritten scale stage line next old new)
-copied line old new stage at plain step (Ok s) e a = λ scale.
-    record { written = line; appended = a; plain = plain; step = rw e (step scale) }
+copied line old new stage at plain step (Ok s) e a = λ scale. record {
+  written = line;
+  appended = a;
+  plain = plain;
+  kept = same stage;
+  step = rw e (step scale);
+}
+  where
+    same : (stage : Stage) → IsCopied stage line line
+    same Head = λ e. refl
+    same (Sizes h) = λ e. refl
+    same (Entries h) = λ e. refl
 copied line old new stage at plain step (Err f) e a = tt

@@ -16,6 +16,7 @@ mod TrimmedDigits
 mod CopiedLines
 mod CountedLines
 mod HeaderLines
+mod KeptLines
 mod LineEnds
 mod LineLists
 mod Rewriting

@@ -12,7 +12,7 @@ use Rattle.sparse_parser.proofs.Fronts.{IsStopped, Passes-front, IsStopped-after
 use Rattle.sparse_parser.proofs.Fronts.{front-append-after, length-after}
 use Rattle.sparse_parser.proofs.FrontLines.{plain-from}
 use Rattle.sparse_parser.proofs.LineLaws.{some_byte, written_of-end}
-use Rattle.mtxkit_matrices.specs.InnerScaleFailures.{IsEnded}
+use Rattle.mtxkit_matrices.specs.InnerLines.{IsCut, IsEnded}
 
 -- ---- line ends
 
@@ -69,12 +69,6 @@ ended_same others next (inr (end, inr (inl e), o)) =
 ended_same others next (inr (end, inr (inr e), o)) = rw (o, e.0) (written_of-end 13 next refl)
 
 -- ---- the front line
-
--- a text that is not empty, its front line, and the text from the line's end on
-pub record IsCut (rest line others : List ℕ) : Type 0 where
-  pub some : 0 < length rest
-  pub line_is : line ≡ front is_within_line rest
-  pub others_are : others ≡ after is_within_line rest
 
 stopped_end : (text : List ℕ) → IsStopped is_within_line text → ends_line text ≡ true
 stopped_end [] h = refl

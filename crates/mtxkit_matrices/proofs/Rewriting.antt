@@ -1,21 +1,23 @@
 -- How a text is written again, line by line.
-use Rattle.std.proofs.Common.{◌≡◌, ℕ, List, [], ◌∷◌, ◌++◌, length, refl, sym, ap, ◌∙◌, inl, inr}
-use Rattle.std.proofs.Common.{append_assoc, append-nil}
-use Rattle.std.proofs.lemmas.List.{nil_from_length}
+use Rattle.std.proofs.Common.{◌≡◌, ℕ, ◌+◌, List, [], ◌∷◌, ◌++◌, length, map, refl, sym, ap, subst}
+use Rattle.std.proofs.Common.{◌∙◌, arith, inl, inr, append_assoc, append-nil, length-append}
+use Rattle.std.specs.Prelude.{filter}
+use Rattle.std.proofs.lemmas.List.{nil_from_length, map-append}
+use Rattle.std.proofs.lemmas.List.Elements.{filter-append}
 use Rattle.sparse_parser.specs.declared.header.Header.{Header}
-use Rattle.sparse_parser.specs.Grammar.{is_entry}
-use Rattle.sparse_parser.specs.InnerReading.{words_of, written_of}
-use Rattle.sparse_parser.proofs.LineLaws.{ended}
-use Rattle.sparse_parser.proofs.FrontLines.{written_of-line, written_of-nil}
+use Rattle.sparse_parser.specs.Grammar.{AreLines, is_entry}
+use Rattle.sparse_parser.specs.InnerReading.{is_some_line, words_of, written_lines, written_of}
 use Rattle.sparse_parser.proofs.ContentLaws.{lines_headed}
+use Rattle.sparse_parser.proofs.LineLaws.{lines_only}
 use Rattle.mtxkit_matrices.specs.declared.decimals.stage.Stage.{Stage}
 use Rattle.mtxkit_matrices.specs.declared.decimals.stage.Stage.TheVariants.{Head, Sizes, Entries}
 use Rattle.mtxkit_matrices.specs.ScaledTexts.{IsScaledText, with_integers}
-use Rattle.mtxkit_matrices.specs.InnerScaleFailures.{IsEnded}
+use Rattle.mtxkit_matrices.specs.InnerLines.{IsCut, IsEnded}
 use Rattle.mtxkit_matrices.specs.InnerRewriting.{IsStep, AreBelow}
 use Rattle.mtxkit_matrices.specs.InnerRewriting.{AreRewritten, IsLineWritten, IsTextWritten}
-use Rattle.mtxkit_matrices.proofs.LineEnds.{IsCut, ended_same}
-use Rattle.mtxkit_matrices.proofs.LineLists.{ones, add-ones, ones-some, nothing-more, one-more}
+use Rattle.mtxkit_matrices.proofs.CountedLines.{front_line}
+use Rattle.mtxkit_matrices.proofs.KeptLines.{kept_more}
+use Rattle.mtxkit_matrices.proofs.LineLists.{ones, ones-some, nothing-more, one-more}
 use Rattle.mtxkit_matrices.proofs.LineLists.{all_more, scaled_more, some_header, some_size, some_entry}
 
 -- ---- one line more
@@ -31,6 +33,7 @@ below_more l a b = record {
   says = l.says;
   says' = l.says';
   field = l.field;
+  allowed = l.allowed;
 }
 
 module _ (scale : ℕ) (next : Stage) (read wrote : List (List (List ℕ)))
@@ -39,7 +42,7 @@ module _ (scale : ℕ) (next : Stage) (read wrote : List (List (List ℕ)))
       → IsStep scale stage words next written
       → AreRewritten scale next (read ++ ones words) (wrote ++ ones written)
   line_more Head (r, w) (inl (e, f, n)) = rw (n, r, w, e, f) (refl, refl)
-  line_more Head (r, w) (inr (h, n, says, says', field)) = rw n (
+  line_more Head (r, w) (inr (h, n, says, says', field, allowed)) = rw n (
     [],
     record {
       head = words;
@@ -49,6 +52,7 @@ module _ (scale : ℕ) (next : Stage) (read wrote : List (List (List ℕ)))
       says = says;
       says' = says';
       field = field;
+      allowed = allowed;
     },
     refl,
   )
@@ -57,7 +61,7 @@ module _ (scale : ℕ) (next : Stage) (read wrote : List (List (List ℕ)))
     below_more below (ones words) (ones words),
     nothing-more others words s ∙ none,
   )
-  line_more (Sizes h) (others, below, none) (inr (c, e, n, z)) =
+  line_more (Sizes h) (others, below, none) (inr (c, e, n, z, sizes)) =
       let one = one-more others words (some_size words z) c ∙ rw none refl in
       rw (n, e) (
         others ++ ones words,
@@ -70,6 +74,7 @@ module _ (scale : ℕ) (next : Stage) (read wrote : List (List (List ℕ)))
           contents_are = one;
           contents'_are = one;
           sized = z;
+          sizes = sizes;
           listed = refl;
           listed' = refl;
           values = tt;
@@ -86,6 +91,7 @@ module _ (scale : ℕ) (next : Stage) (read wrote : List (List (List ℕ)))
       contents_are = nothing-more others words s ∙ es.contents_are;
       contents'_are = nothing-more more words s ∙ es.contents'_are;
       sized = es.sized;
+      sizes = es.sizes;
       listed = es.listed;
       listed' = es.listed';
       values = es.values;
@@ -102,6 +108,7 @@ module _ (scale : ℕ) (next : Stage) (read wrote : List (List (List ℕ)))
       contents_are = one-more others words (some_entry words i) c ∙ rw es.contents_are refl;
       contents'_are = one-more more written (some_entry written i') c' ∙ rw es.contents'_are refl;
       sized = es.sized;
+      sizes = es.sizes;
       listed = all_more is_entry es.lines words es.listed i;
       listed' = all_more is_entry es.entries written es.listed' i';
       values = scaled_more scale h.format es.lines es.entries words written es.values v;
@@ -110,51 +117,87 @@ module _ (scale : ℕ) (next : Stage) (read wrote : List (List (List ℕ)))
 
 -- ---- the text
 
+-- the words of one line more
+lines_more : (lines : List (List ℕ)) (line : List ℕ)
+    → written_lines (lines ++ (line ∷ [])) ≡ written_lines lines ++ ones (words_of line)
+lines_more lines line = ap (filter is_some_line) (map-append words_of lines (line ∷ []))
+    ∙ filter-append is_some_line (map words_of lines) (words_of line ∷ [])
+    ∙ ap (λ (x : List (List (List ℕ))). written_lines lines ++ x) (one (words_of line))
+  where
+    one : (words : List (List ℕ)) → filter is_some_line (words ∷ []) ≡ ones words
+    one [] = refl
+    one (word ∷ words) = refl
+
 module _ (scale : ℕ) (text : List ℕ) where
-  pub text_begins : IsTextWritten scale text Head text []
+  pub text_begins : IsTextWritten scale text Head 1 text []
   text_begins = record {
-    read = [];
+    before = [];
     wrote = [];
-    read_is = refl;
-    wrote_is = λ more. refl;
+    counted = refl;
+    read_is = λ behind h. h;
+    wrote_is = λ more behind h. h;
     are = (refl, refl);
+    kept = (refl, tt);
   }
 
-  pub text_more : {stage next : Stage} {rest line others rest' old new : List ℕ}
-      → IsTextWritten scale text stage rest old → IsCut rest line others → IsEnded others rest'
-      → IsLineWritten scale stage line next old new
-      → IsTextWritten scale text next rest' (new ++ (10 ∷ []))
-  text_more {rest} {line} {others} {rest'} {old} {new} t c e w = record {
-    read = t.read ++ ones (words_of line);
-    wrote = t.wrote ++ ones (words_of w.written);
-    read_is = t.read_is ∙ rw (front_is, append_assoc) refl;
-    wrote_is = λ more.
-        ap written_of (rw w.appended (regroup old w.written more))
-        ∙ t.wrote_is (w.written ++ (10 ∷ more))
-        ∙ rw (ended w.written 10 more w.plain refl, add-ones, append_assoc) refl;
-    are = line_more scale _ t.read t.wrote (words_of line) (words_of w.written) _ t.are w.step;
+  pub text_more : {stage next : Stage} {number : ℕ} {rest line others rest' old new : List ℕ}
+      → IsTextWritten scale text stage number rest old → IsCut rest line others
+      → IsEnded others rest' → IsLineWritten scale stage line next old new
+      → IsTextWritten scale text next (number + 1) rest' (new ++ (10 ∷ []))
+  text_more {stage} {next} {number} {rest} {line} {others} {rest'} {old} {new} t c e w = record {
+    before = t.before ++ (line ∷ []);
+    wrote = t.wrote ++ (w.written ∷ []);
+    counted =
+        let n = length-append t.before (line ∷ []) in
+        let m = t.counted in
+        omega arith;
+    read_is = λ behind h. rw append_assoc
+        (t.read_is (line ∷ behind) (front_line c rest' behind e h));
+    wrote_is = λ more behind h. rw (append_assoc t.wrote (w.written ∷ []) behind)
+        (subst (λ (x : List ℕ). AreLines x (t.wrote ++ (w.written ∷ behind)))
+        (sym (whole more)) (t.wrote_is (w.written ++ (10 ∷ more)) (w.written ∷ behind)
+        (w.plain, inr (10 ∷ [], more, inl refl, refl, h))));
+    are = subst (AreRewritten scale next (written_lines (t.before ++ (line ∷ []))))
+        (sym (lines_more t.wrote w.written))
+        (subst (λ (x : List (List (List ℕ))). AreRewritten scale next x
+        (written_lines t.wrote ++ ones (words_of w.written))) (sym (lines_more t.before line))
+        (line_more scale next (written_lines t.before) (written_lines t.wrote) (words_of line)
+        (words_of w.written) stage t.are w.step));
+    kept = kept_more scale next t.before t.wrote line w.written (words_of w.written) stage t.kept
+        w.kept w.step;
   }
     where
-      front_is : written_of rest ≡ ones (words_of line) ++ written_of rest'
-      front_is = rw (written_of-line rest, ← c.line_is, ← c.others_are, ended_same others rest' e)
-          (add-ones line (written_of rest'))
+      regroup : (a b d : List ℕ) → ((a ++ b) ++ (10 ∷ [])) ++ d ≡ a ++ (b ++ (10 ∷ d))
+      regroup a b d = simp append_assoc
 
-      regroup : (a b c : List ℕ) → ((a ++ b) ++ (10 ∷ [])) ++ c ≡ a ++ (b ++ (10 ∷ c))
-      regroup a b c = simp append_assoc
+      whole : (more : List ℕ) → (new ++ (10 ∷ [])) ++ more ≡ old ++ (w.written ++ (10 ∷ more))
+      whole more = ap (λ (x : List ℕ). (x ++ (10 ∷ [])) ++ more) w.appended
+          ∙ regroup old w.written more
 
--- where the whole text was read
-pub text_ends : (scale : ℕ) (text rest written : List ℕ) (h : Header)
-    → IsTextWritten scale text (Entries h) rest written → length rest ≡ 0
+-- ---- where the whole text was read
+
+module _ {scale : ℕ} {text : List ℕ} {stage : Stage} {number : ℕ} {rest written : List ℕ}
+    (t : IsTextWritten scale text stage number rest written) (empty : length rest ≡ 0) where
+  pub lines_read : AreLines text t.before
+  lines_read = subst (AreLines text) (append-nil t.before)
+      (t.read_is [] (nil_from_length rest empty))
+
+  lines_wrote : AreLines written t.wrote
+  lines_wrote = subst (λ (x : List ℕ). AreLines x t.wrote) (append-nil written)
+      (subst (AreLines (written ++ [])) (append-nil t.wrote) (t.wrote_is [] [] refl))
+
+pub text_ends : (scale : ℕ) (text : List ℕ) (number : ℕ) (rest written : List ℕ) (h : Header)
+    → IsTextWritten scale text (Entries h) number rest written → length rest ≡ 0
     → IsScaledText scale text written
-text_ends scale text rest written h t empty =
+text_ends scale text number rest written h t empty =
     let others = t.are.0 in
     let more = t.are.1 in
     let below = t.are.2 in
     let es = t.are.3 in
-    let r : written_of text ≡ below.head ∷ others = t.read_is
-    ∙ rw (nil_from_length rest empty, written_of-nil) (append-nil t.read ∙ below.read_is) in
-    let w : written_of written ≡ below.head' ∷ more = ap written_of (sym (append-nil written))
-    ∙ t.wrote_is [] ∙ rw written_of-nil (append-nil t.wrote ∙ below.wrote_is) in
+    let r : written_of text ≡ below.head ∷ others =
+    sym (lines_only text t.before (lines_read t empty)) ∙ below.read_is in
+    let w : written_of written ≡ below.head' ∷ more =
+    sym (lines_only written t.wrote (lines_wrote t empty)) ∙ below.wrote_is in
     record {
       header = h;
       size = es.size;
@@ -167,6 +210,8 @@ text_ends scale text rest written h t empty =
         listed = es.listed;
       };
       field = below.field;
+      allowed = below.allowed;
+      sizes = es.sizes;
       wrote = record {
         headed = rw es.contents'_are
             at (lines_headed written below.head' more (with_integers h) w below.says');
@@ -174,4 +219,11 @@ text_ends scale text rest written h t empty =
         listed = es.listed';
       };
       values = es.values;
+      comments = record {
+        lines = t.before;
+        lines' = t.wrote;
+        read = lines_read t empty;
+        wrote = lines_wrote t empty;
+        kept = t.kept;
+      };
     }

@@ -1,5 +1,6 @@
 -- The words of the data lines that are written.
-use Rattle.std.proofs.Common.{◌≡◌, ℕ, ℤ, List, [], ◌∷◌, ◌++◌, true, Ok, refl, sym, ap, ◌∙◌, inr}
+use Rattle.std.proofs.Common.{◌≡◌, ℕ, ℤ, List, [], ◌∷◌, ◌++◌, true, Ok, refl, sym, ap, ◌∙◌}
+use Rattle.std.proofs.Common.{inl, inr}
 use Rattle.std.specs.Prelude.{FitsSigned}
 use Rattle.std.specs.Int.{w128}
 use Rattle.std.specs.Fmt.{signed_decimal}
@@ -20,7 +21,7 @@ use Rattle.sparse_market_scalar.specs.IntegerTexts.{number_text}
 use Rattle.mtxkit_matrices.specs.declared.decimals.stage.Stage.TheVariants.{Entries}
 use Rattle.mtxkit_matrices.specs.Decimals.{IsScaled}
 use Rattle.mtxkit_matrices.specs.ScaledTexts.{IsScaledWord}
-use Rattle.mtxkit_matrices.specs.InnerRewriting.{IsLineWritten, coordinate_text}
+use Rattle.mtxkit_matrices.specs.InnerRewriting.{IsSkipped, IsLineWritten, coordinate_text}
 use Rattle.mtxkit_matrices.specs.InnerRewriting.{IsCoordinateLine, IsArrayLine}
 
 -- ---- words
@@ -41,6 +42,11 @@ pub integer_is_number : (z : ℤ) → FitsSigned w128 z → is_number (signed_de
 integer_is_number z f = integer-number (signed_decimal z) (number_text w128 z f).spelled
 
 -- ---- lines
+
+not_skipped : (words : List (List ℕ)) (word : List ℕ) (others : List (List ℕ))
+    → words ≡ word ∷ others → is_content words ≡ true → IsSkipped words → ⊥
+not_skipped words word others e c (inl n) = cc
+not_skipped words word others e c (inr n) = cc
 
 one_word : (word : List ℕ) → IsText word → words_of word ≡ word ∷ []
 one_word word h = ap words_of (sym (append-nil word))
@@ -78,6 +84,7 @@ coordinate_line h line f content l =
       appended = l.appended;
       plain = unended l.row _ r.solid
           (refl, unended l.col _ c.solid (refl, plain_text text v.solid));
+      kept = λ skipped. absurd (not_skipped (words_of line) l.row _ l.words_are content skipped);
       step = inr (
         content,
         rw ws (content_line l.row _ (not_comment l.row r)),
@@ -102,6 +109,7 @@ array_line h line f content l =
       written = text;
       appended = l.appended;
       plain = plain_text text v.solid;
+      kept = λ skipped. absurd (not_skipped (words_of line) l.value _ l.words_are content skipped);
       step = inr (
         content,
         rw ws (content_line text [] (not_comment text v)),

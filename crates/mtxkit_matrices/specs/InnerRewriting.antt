@@ -1,18 +1,21 @@
 -- How far a text is written again, line by line.
-use Rattle.std.specs.Prelude.{◌≡◌, ◌⊎◌, ℕ, ℤ, true, false, List, [], ◌∷◌, ◌++◌, Some, filter}
+use Rattle.std.specs.Prelude.{◌≡◌, ◌⊎◌, ℕ, ℤ, ◌+◌, true, false, List, [], ◌∷◌, ◌++◌, length}
+use Rattle.std.specs.Prelude.{Some, filter}
 use Rattle.std.specs.Fmt.{signed_decimal}
 use Rattle.std.specs.Int.{w128}
 use Rattle.std.specs.Int.RustNames.{FitsSigned}
-use Rattle.std.specs.List.{list_all}
+use Rattle.std.specs.List.{list_all, AllByRecursion}
 use Rattle.sparse_parser.specs.declared.header.Field.TheVariants.{Integer}
 use Rattle.sparse_parser.specs.declared.header.Format.{Format}
 use Rattle.sparse_parser.specs.declared.header.Symmetry.{Symmetry}
 use Rattle.sparse_parser.specs.declared.header.Header.{Header}
-use Rattle.sparse_parser.specs.Header.{header_of}
-use Rattle.sparse_parser.specs.Grammar.{IsOneLine, is_index, is_number, is_size, is_entry}
-use Rattle.sparse_parser.specs.InnerReading.{is_content, words_of, written_of}
+use Rattle.sparse_parser.specs.Header.{header_of, is_allowed}
+use Rattle.sparse_parser.specs.Grammar.{IsOneLine, AreLines, AreBlanks}
+use Rattle.sparse_parser.specs.Grammar.{is_index, is_number, is_size, is_entry}
+use Rattle.sparse_parser.specs.InnerReading.{is_content, words_of, written_lines}
 use Rattle.mtxkit_matrices.specs.Decimals.{IsScaled}
 use Rattle.mtxkit_matrices.specs.ScaledTexts.{IsScaledEntry, AreScaled, is_decimal, with_integers}
+use Rattle.mtxkit_matrices.specs.ScaledTexts.{IsSized, AreKeptBelowHeader}
 use Rattle.mtxkit_matrices.specs.declared.decimals.stage.Stage.{Stage}
 use Rattle.mtxkit_matrices.specs.declared.decimals.stage.Stage.TheVariants.{Head, Sizes, Entries}
 
@@ -25,11 +28,12 @@ abbrev pub IsStep : ℕ → Stage → List (List ℕ) → Stage → List (List �
 IsStep scale Head words next written =
     ((words ≡ []) × (written ≡ []) × (next ≡ Head))
     ⊎ ((h : Header) × (next ≡ Sizes h) × (header_of words ≡ Some h)
-    × (header_of written ≡ Some (with_integers h)) × (is_decimal h.field ≡ true))
+    × (header_of written ≡ Some (with_integers h)) × (is_decimal h.field ≡ true)
+    × (is_allowed h ≡ true))
 IsStep scale (Sizes h) words next written =
     (IsSkipped words × (written ≡ words) × (next ≡ Sizes h))
     ⊎ ((is_content words ≡ true) × (written ≡ words) × (next ≡ Entries h)
-    × (is_size words ≡ true))
+    × (is_size words ≡ true) × IsSized h words)
 IsStep scale (Entries h) words next written =
     (IsSkipped words × (written ≡ words) × (next ≡ Entries h))
     ⊎ ((is_content words ≡ true) × (is_content written ≡ true) × (next ≡ Entries h)
@@ -45,6 +49,7 @@ pub record AreBelow (h : Header) (read wrote others more : List (List (List ℕ)
   pub says : header_of head ≡ Some h
   pub says' : header_of head' ≡ Some (with_integers h)
   pub field : is_decimal h.field ≡ true
+  pub allowed : is_allowed h ≡ true
 
 -- the sizes and the data lines so far
 pub record AreEntries (scale : ℕ) (h : Header) (contents contents' : List (List (List ℕ))) : Type
@@ -55,6 +60,7 @@ pub record AreEntries (scale : ℕ) (h : Header) (contents contents' : List (Lis
   pub contents_are : contents ≡ size ∷ lines
   pub contents'_are : contents' ≡ size ∷ entries
   pub sized : is_size size ≡ true
+  pub sizes : IsSized h size
   pub listed : list_all is_entry lines ≡ true
   pub listed' : list_all is_entry entries ≡ true
   pub values : AreScaled scale h.format lines entries
@@ -77,6 +83,12 @@ pub record IsHead (format : Format) (symmetry : Symmetry) (line : List ℕ) : Ty
   pub plain : IsOneLine line
   pub says : header_of (words_of line)
       ≡ Some (record { format = format; field = Integer; symmetry = symmetry })
+  pub allowed : is_allowed (record { format = format; field = Integer; symmetry = symmetry }) ≡ true
+
+-- a line that is blank, or a comment below the header, is written as it is
+abbrev pub IsCopied : Stage → List ℕ → List ℕ → Type 0
+IsCopied Head line written = words_of line ≡ [] → written ≡ line
+IsCopied stage line written = IsSkipped (words_of line) → written ≡ line
 
 -- for this line one was appended, and the next is at this stage
 pub record IsLineWritten (scale : ℕ) (stage : Stage) (line : List ℕ) (next : Stage)
@@ -84,6 +96,7 @@ pub record IsLineWritten (scale : ℕ) (stage : Stage) (line : List ℕ) (next :
   pub written : List ℕ
   pub appended : new ≡ old ++ written
   pub plain : IsOneLine written
+  pub kept : IsCopied stage line written
   pub step : IsStep scale stage (words_of line) next (words_of written)
 
 -- two indices and an integer
@@ -116,11 +129,19 @@ pub record IsArrayLine (scale : ℕ) (words : List (List ℕ)) (old new : List �
 
 -- ---- the text
 
--- the text up to this rest was read, and this is written
-pub record IsTextWritten (scale : ℕ) (text : List ℕ) (stage : Stage) (rest written : List ℕ) : Type
-    0 where
-  pub read : List (List (List ℕ))
-  pub wrote : List (List (List ℕ))
-  pub read_is : written_of text ≡ read ++ written_of rest
-  pub wrote_is : (more : List ℕ) → written_of (written ++ more) ≡ wrote ++ written_of more
-  pub are : AreRewritten scale stage read wrote
+-- the lines that were written are those that were read, but for the header and what is content
+abbrev pub AreLinesWritten : Stage → List (List ℕ) → List (List ℕ) → Type 0
+AreLinesWritten Head lines written = (written ≡ lines) × AllByRecursion AreBlanks lines
+AreLinesWritten stage lines written = AreKeptBelowHeader lines written
+
+-- the text up to this rest, which begins with the line of this number, was read, and this is written
+pub record IsTextWritten (scale : ℕ) (text : List ℕ) (stage : Stage) (number : ℕ)
+    (rest written : List ℕ) : Type 0 where
+  pub before : List (List ℕ)
+  pub wrote : List (List ℕ)
+  pub counted : number ≡ length before + 1
+  pub read_is : (behind : List (List ℕ)) → AreLines rest behind → AreLines text (before ++ behind)
+  pub wrote_is : (more : List ℕ) (behind : List (List ℕ)) → AreLines more behind
+      → AreLines (written ++ more) (wrote ++ behind)
+  pub are : AreRewritten scale stage (written_lines before) (written_lines wrote)
+  pub kept : AreLinesWritten stage before wrote

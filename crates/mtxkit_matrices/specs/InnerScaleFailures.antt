@@ -1,11 +1,17 @@
--- Why a line is refused, and which lines were read.
-use Rattle.std.specs.Prelude.{◌≡◌, ◌⊎◌, ℕ, ◌+◌, List, [], ◌++◌, length}
-use Rattle.sparse_parser.specs.Grammar.{AreLines, IsLineEnd}
+-- Why a line is refused, by the lines that were read before it.
+use Rattle.std.specs.Prelude.{◌≡◌, ◌≢◌, ◌⊎◌, ℕ, true, false, List, []}
+use Rattle.sparse_parser.specs.declared.header.Format.{Format}
+use Rattle.sparse_parser.specs.declared.header.Header.{Header}
+use Rattle.sparse_parser.specs.InnerReading.{is_content}
 use Rattle.mtxkit_matrices.specs.declared.decimals.error.ScaleError.{ScaleError}
 use Rattle.mtxkit_matrices.specs.declared.decimals.error.ScaleError.TheVariants as errors
 use Rattle.mtxkit_matrices.specs.declared.decimals.number.Misfit.TheVariants as misfits
+use Rattle.mtxkit_matrices.specs.declared.decimals.stage.Stage.{Stage}
+use Rattle.mtxkit_matrices.specs.declared.decimals.stage.Stage.TheVariants.{Head, Sizes, Entries}
 use Rattle.mtxkit_matrices.specs.Decimals.{IsMisfit}
-use Rattle.mtxkit_matrices.specs.ScaleFailures.{HasOtherField, HasMisfit}
+use Rattle.mtxkit_matrices.specs.LineFaults.{IsSizesFault}
+use Rattle.mtxkit_matrices.specs.ScaleFailures.{IsHeaderFault, HasOtherField, HasMisfit}
+use Rattle.mtxkit_matrices.specs.ScaleFailures.{is_decimal_entry}
 
 -- a value of the line with this number is not taken
 abbrev pub IsValueFailure : ℕ → ℕ → List ℕ → ScaleError → Type 0
@@ -15,26 +21,39 @@ IsValueFailure scale number value (errors.Range n) =
     (n ≡ number) × IsMisfit misfits.Range scale value
 IsValueFailure scale number value e = ⊥
 
--- the line with this number and these words is at fault
-abbrev pub IsLineFailure : ℕ → ℕ → List (List ℕ) → ScaleError → Type 0
-IsLineFailure scale number words (errors.Header n) = n ≡ number
-IsLineFailure scale number words (errors.Field n) = (n ≡ number) × HasOtherField words
-IsLineFailure scale number words (errors.Sizes n) = n ≡ number
-IsLineFailure scale number words (errors.Entry n) = n ≡ number
-IsLineFailure scale number words (errors.Fraction n) =
-    (n ≡ number) × HasMisfit misfits.Fraction scale words
-IsLineFailure scale number words (errors.Range n) =
-    (n ≡ number) × HasMisfit misfits.Range scale words
-IsLineFailure scale number words errors.Ended = ⊥
-IsLineFailure scale number words errors.OutOfMemory = Unit {0}
+-- the line with this number and these words is no header of decimal numbers
+abbrev pub IsHeadFailure : ℕ → List (List ℕ) → ScaleError → Type 0
+IsHeadFailure number words (errors.Header n fault) = (n ≡ number) × IsHeaderFault words fault
+IsHeadFailure number words (errors.Field n) = (n ≡ number) × HasOtherField words
+IsHeadFailure number words errors.OutOfMemory = Unit {0}
+IsHeadFailure number words e = ⊥
 
--- the text from a line end on, and after it
-abbrev pub IsEnded : List ℕ → List ℕ → Type 0
-IsEnded others next = ((others ≡ []) × (next ≡ []))
-    ⊎ ((end : List ℕ) × IsLineEnd end next × (others ≡ end ++ next))
+-- it is no size line of this header
+abbrev pub IsSizesFailure : Header → ℕ → List (List ℕ) → ScaleError → Type 0
+IsSizesFailure h number words (errors.Sizes n fault) = (n ≡ number) × IsSizesFault h words fault
+IsSizesFailure h number words errors.OutOfMemory = Unit {0}
+IsSizesFailure h number words e = ⊥
 
--- the text that is left begins with the line of this number
-pub record IsCounted (text rest : List ℕ) (number : ℕ) : Type 0 where
-  pub before : List (List ℕ)
-  pub counted : number ≡ length before + 1
-  pub lines : (behind : List (List ℕ)) → AreLines rest behind → AreLines text (before ++ behind)
+-- it is no data line of this format, or has a value that is not taken
+abbrev pub IsEntryFailure : ℕ → Format → ℕ → List (List ℕ) → ScaleError → Type 0
+IsEntryFailure scale format number words (errors.Entry n) =
+    (n ≡ number) × (is_decimal_entry format words ≡ false)
+IsEntryFailure scale format number words (errors.Fraction n) =
+    (n ≡ number) × HasMisfit misfits.Fraction scale format words
+IsEntryFailure scale format number words (errors.Range n) =
+    (n ≡ number) × HasMisfit misfits.Range scale format words
+IsEntryFailure scale format number words errors.OutOfMemory = Unit {0}
+IsEntryFailure scale format number words e = ⊥
+
+-- the words are neither none nor a comment
+pub record AreContent (words : List (List ℕ)) : Type 0 where
+  pub some : words ≢ []
+  pub content : is_content words ≡ true
+
+-- the line with this number and these words is at fault at this stage
+abbrev pub IsLineFailure : ℕ → Stage → ℕ → List (List ℕ) → ScaleError → Type 0
+IsLineFailure scale Head number words e = IsHeadFailure number words e
+IsLineFailure scale (Sizes h) number words e =
+    (e ≡ errors.OutOfMemory) ⊎ (AreContent words × IsSizesFailure h number words e)
+IsLineFailure scale (Entries h) number words e =
+    (e ≡ errors.OutOfMemory) ⊎ (AreContent words × IsEntryFailure scale h.format number words e)

@@ -1,44 +1,122 @@
 -- Why a text is not scaled.
-use Rattle.std.specs.Prelude.{◌≡◌, ℕ, ◌+◌, true, false, List, [], ◌∷◌, ◌++◌, length, Some}
+use Rattle.std.specs.Prelude.{◌≡◌, ◌≢◌, ◌⊎◌, ℕ, ◌+◌, Bool, true, false, ◌&&◌, List, [], ◌∷◌, ◌++◌}
+use Rattle.std.specs.Prelude.{length, slice_index, Some, None}
+use Rattle.std.specs.List.{AllByRecursion}
+use Rattle.sparse_parser.specs.declared.header.Format.{Format}
+use Rattle.sparse_parser.specs.declared.header.Format.TheVariants.{Coordinate, Array}
 use Rattle.sparse_parser.specs.declared.header.Header.{Header}
-use Rattle.sparse_parser.specs.Header.{header_of}
-use Rattle.sparse_parser.specs.Grammar.{AreLines, AreWords, is_number}
+use Rattle.sparse_parser.specs.Header.{header_of, is_allowed}
+use Rattle.sparse_parser.specs.Grammar.{AreLines, AreWords, AreBlanks, AreHeaded}
+use Rattle.sparse_parser.specs.Grammar.{is_index, is_number, is_size}
 use Rattle.mtxkit_matrices.specs.declared.decimals.error.ScaleError.{ScaleError}
 use Rattle.mtxkit_matrices.specs.declared.decimals.error.ScaleError.TheVariants as errors
 use Rattle.mtxkit_matrices.specs.declared.decimals.number.Misfit.{Misfit}
 use Rattle.mtxkit_matrices.specs.declared.decimals.number.Misfit.TheVariants as misfits
+use Rattle.mtxkit_matrices.specs.declared.line_faults.LineFault.{LineFault}
+use Rattle.mtxkit_matrices.specs.declared.line_faults.LineFault.TheVariants as faults
 use Rattle.mtxkit_matrices.specs.Decimals.{IsMisfit}
-use Rattle.mtxkit_matrices.specs.ScaledTexts.{is_decimal}
+use Rattle.mtxkit_matrices.specs.LineFaults.{IsSizesFault}
+use Rattle.mtxkit_matrices.specs.Lines.{IsLineOf}
+use Rattle.mtxkit_matrices.specs.ScaledTexts.{is_decimal, IsSized, AreScaled}
 
--- the line of a text with this number, counted from 1
-pub record IsLineOf (text : List ℕ) (number : ℕ) (line : List ℕ) : Type 0 where
-  pub before : List (List ℕ)
-  pub behind : List (List ℕ)
-  pub lines : AreLines text (before ++ (line ∷ behind))
-  pub counted : number ≡ length before + 1
+-- ---- lines
 
--- the text has a line with this number, and its words are such
-abbrev pub HasLine : List ℕ → ℕ → (List (List ℕ) → Type 0) → Type 0
-HasLine text number IsSuch = (line : List ℕ) × (words : List (List ℕ))
-    × IsLineOf text number line × AreWords line words × IsSuch words
+-- the text has a line with this number, and the lines above it and its words are such
+abbrev pub HasLine : List ℕ → ℕ → (List (List ℕ) → List (List ℕ) → Type 0) → Type 0
+HasLine text number AreSuch = (line : List ℕ) × (words : List (List ℕ))
+    × (l : IsLineOf text number line) × AreWords line words × AreSuch l.before words
+
+-- the words of a line that is neither blank nor a comment
+abbrev pub IsContent : List (List ℕ) → Type 0
+IsContent [] = ⊥
+IsContent (word ∷ words) = slice_index word 0 ≢ 37
+
+-- ---- the lines above one
+
+abbrev pub AreBlankLines : List (List ℕ) → Type 0
+AreBlankLines lines = AllByRecursion AreBlanks lines
+
+-- the lines have this header, which is one of decimal numbers, and these contents below it
+pub record AreBelowHeader (lines : List (List ℕ)) (h : Header) (contents : List (List (List ℕ)))
+    : Type 0 where
+  pub words : List (List ℕ)
+  pub headed : AreHeaded lines words contents
+  pub says : header_of words ≡ Some h
+  pub field : is_decimal h.field ≡ true
+  pub allowed : is_allowed h ≡ true
+
+-- the lines have this header, and below it sizes and data lines whose values are scaled
+pub record AreBelowSizes (scale : ℕ) (lines : List (List ℕ)) (h : Header) : Type 0 where
+  pub size : List (List ℕ)
+  pub read : List (List (List ℕ))
+  pub wrote : List (List (List ℕ))
+  pub headed : AreBelowHeader lines h (size ∷ read)
+  pub sized : is_size size ≡ true
+  pub sizes : IsSized h size
+  pub values : AreScaled scale h.format read wrote
+
+-- ---- what is wrong with the words of a line
+
+-- the words of the first line that is not blank are no header, or one that only complex numbers have
+abbrev pub IsHeaderFault : List (List ℕ) → LineFault → Type 0
+IsHeaderFault words fault = ((words ≢ []) × (header_of words ≡ None) × (fault ≡ faults.Header))
+    ⊎ ((h : Header) × (header_of words ≡ Some h) × (is_decimal h.field ≡ true)
+    × (is_allowed h ≡ false) × (fault ≡ faults.Hermitian))
 
 -- the words are a header of values that are not decimal numbers
 abbrev pub HasOtherField : List (List ℕ) → Type 0
 HasOtherField words =
     (h : Header) × (header_of words ≡ Some h) × (is_decimal h.field ≡ false)
 
--- the last word is a number that is not taken
-abbrev pub HasMisfit : Misfit → ℕ → List (List ℕ) → Type 0
-HasMisfit why scale words = (places : List (List ℕ)) × (value : List ℕ)
-    × (words ≡ places ++ (value ∷ [])) × (is_number value ≡ true) × IsMisfit why scale value
+-- the words of a data line: a place and a number, or a number
+abbrev pub is_decimal_entry : Format → List (List ℕ) → Bool
+is_decimal_entry Coordinate (row ∷ col ∷ value ∷ []) =
+    is_index row && is_index col && is_number value
+is_decimal_entry Array (value ∷ []) = is_number value
+is_decimal_entry format words = false
 
--- the line with the number of the error is at fault
+-- the words are a data line whose last word is a number that is not taken
+pub record HasMisfit (why : Misfit) (scale : ℕ) (format : Format) (words : List (List ℕ)) : Type
+    0 where
+  pub places : List (List ℕ)
+  pub value : List ℕ
+  pub words_are : words ≡ places ++ (value ∷ [])
+  pub is : is_decimal_entry format words ≡ true
+  pub not : IsMisfit why scale value
+
+-- ---- the failures
+
+abbrev pub HasNoHeader : List ℕ → ℕ → LineFault → Type 0
+HasNoHeader text n fault =
+    HasLine text n (λ above words. AreBlankLines above × IsHeaderFault words fault)
+
+abbrev pub HasWrongField : List ℕ → ℕ → Type 0
+HasWrongField text n = HasLine text n (λ above words. AreBlankLines above × HasOtherField words)
+
+abbrev pub HasNoSizes : List ℕ → ℕ → LineFault → Type 0
+HasNoSizes text n fault = HasLine text n (λ above words. (h : Header)
+    × AreBelowHeader above h [] × IsContent words × IsSizesFault h words fault)
+
+abbrev pub HasNoEntry : ℕ → List ℕ → ℕ → Type 0
+HasNoEntry scale text n = HasLine text n (λ above words. (h : Header)
+    × AreBelowSizes scale above h × IsContent words × (is_decimal_entry h.format words ≡ false))
+
+abbrev pub HasNoValue : Misfit → ℕ → List ℕ → ℕ → Type 0
+HasNoValue why scale text n = HasLine text n (λ above words. (h : Header)
+    × AreBelowSizes scale above h × IsContent words × HasMisfit why scale h.format words)
+
+-- the text has only blank lines, or a header and below it blank lines and comments
+abbrev pub EndsEarly : List ℕ → Type 0
+EndsEarly text = (lines : List (List ℕ)) × AreLines text lines
+    × (AreBlankLines lines ⊎ ((h : Header) × AreBelowHeader lines h []))
+
+-- the line with the number of the error is the first at fault, or the text ends before its sizes
 abbrev pub IsScaleFailure : ℕ → List ℕ → ScaleError → Type 0
-IsScaleFailure scale text (errors.Header n) = HasLine text n (λ words. Unit {0})
-IsScaleFailure scale text (errors.Field n) = HasLine text n HasOtherField
-IsScaleFailure scale text (errors.Sizes n) = HasLine text n (λ words. Unit {0})
-IsScaleFailure scale text (errors.Entry n) = HasLine text n (λ words. Unit {0})
-IsScaleFailure scale text (errors.Fraction n) = HasLine text n (HasMisfit misfits.Fraction scale)
-IsScaleFailure scale text (errors.Range n) = HasLine text n (HasMisfit misfits.Range scale)
-IsScaleFailure scale text errors.Ended = Unit {0}
+IsScaleFailure scale text (errors.Header n fault) = HasNoHeader text n fault
+IsScaleFailure scale text (errors.Field n) = HasWrongField text n
+IsScaleFailure scale text (errors.Sizes n fault) = HasNoSizes text n fault
+IsScaleFailure scale text (errors.Entry n) = HasNoEntry scale text n
+IsScaleFailure scale text (errors.Fraction n) = HasNoValue misfits.Fraction scale text n
+IsScaleFailure scale text (errors.Range n) = HasNoValue misfits.Range scale text n
+IsScaleFailure scale text errors.Ended = EndsEarly text
 IsScaleFailure scale text errors.OutOfMemory = Unit {0}

@@ -1,12 +1,14 @@
 -- Texts written again with integers.
-use Rattle.std.specs.Prelude.{◌≡◌, ℕ, ℤ, Bool, true, false, List, [], ◌∷◌, Ok}
+use Rattle.std.specs.Prelude.{◌≡◌, ◌⊎◌, ℕ, ℤ, Bool, true, false, List, [], ◌∷◌, ◌++◌, Ok}
+use Rattle.std.specs.List.{AllByRecursion}
 use Rattle.sparse_parser.specs.declared.header.Format.{Format}
 use Rattle.sparse_parser.specs.declared.header.Format.TheVariants.{Coordinate, Array}
 use Rattle.sparse_parser.specs.declared.header.Field.{Field}
 use Rattle.sparse_parser.specs.declared.header.Field.TheVariants.{Real, Complex, Integer, Pattern}
 use Rattle.sparse_parser.specs.declared.header.Header.{Header}
-use Rattle.sparse_parser.specs.Grammar.{IsDocument}
-use Rattle.sparse_parser.specs.Meaning.{integer_of}
+use Rattle.sparse_parser.specs.Grammar.{IsDocument, AreLines, AreBlanks}
+use Rattle.sparse_parser.specs.Header.{is_allowed}
+use Rattle.sparse_parser.specs.Meaning.{integer_of, Sizes, sizes_of}
 use Rattle.mtxkit_matrices.specs.Decimals.{IsScaled}
 
 -- a word, and the word of the integer that is its number times 10 ^ scale
@@ -36,12 +38,49 @@ is_decimal Complex = false
 is_decimal Integer = true
 is_decimal Pattern = false
 
+-- the words are a size line that the header takes
+abbrev pub IsSized : Header → List (List ℕ) → Type 0
+IsSized h words = (s : Sizes) × (sizes_of h words ≡ Ok s)
+
 -- the header with the field of integers
 abbrev pub with_integers : Header → Header
 with_integers h = record { format = h.format; field = Integer; symmetry = h.symmetry }
 
--- a text of decimal numbers, and the text with the same sizes and places whose values are these
--- numbers times 10 ^ scale
+-- the line is blank or a comment
+abbrev pub IsPassedOver : List ℕ → Type 0
+IsPassedOver line = AreBlanks line ⊎ ((before : List ℕ) × (rest : List ℕ) × AreBlanks before
+    × (line ≡ before ++ (37 ∷ rest)))
+
+-- a line for each line; those of blank lines and comments are the same
+abbrev pub AreKept : List (List ℕ) → List (List ℕ) → Type 0
+AreKept [] [] = Unit {0}
+AreKept (line ∷ lines) (written ∷ more) =
+    (IsPassedOver line → written ≡ line) × AreKept lines more
+AreKept lines more = ⊥
+
+-- the same of lines of which the first that is not blank, the header, is written anew
+pub record AreKeptBelowHeader (lines written : List (List ℕ)) : Type 0 where
+  pub blank : List (List ℕ)
+  pub head : List ℕ
+  pub head' : List ℕ
+  pub below : List (List ℕ)
+  pub below' : List (List ℕ)
+  pub lines_are : lines ≡ blank ++ (head ∷ below)
+  pub written_are : written ≡ blank ++ (head' ∷ below')
+  pub blanks : AllByRecursion AreBlanks blank
+  pub some : AreBlanks head → ⊥
+  pub kept : AreKept below below'
+
+-- the lines of the text stay in their places, and comments as they are
+pub record HasLinesOf (text written : List ℕ) : Type 0 where
+  pub lines : List (List ℕ)
+  pub lines' : List (List ℕ)
+  pub read : AreLines text lines
+  pub wrote : AreLines written lines'
+  pub kept : AreKeptBelowHeader lines lines'
+
+-- a text of decimal numbers, and the text with the same sizes, places and comments whose values are
+-- these numbers times 10 ^ scale
 pub record IsScaledText (scale : ℕ) (text written : List ℕ) : Type 0 where
   pub header : Header
   pub size : List (List ℕ)
@@ -49,5 +88,8 @@ pub record IsScaledText (scale : ℕ) (text written : List ℕ) : Type 0 where
   pub entries : List (List (List ℕ))
   pub read : IsDocument text header size lines
   pub field : is_decimal header.field ≡ true
+  pub allowed : is_allowed header ≡ true
+  pub sizes : IsSized header size
   pub wrote : IsDocument written (with_integers header) size entries
   pub values : AreScaled scale header.format lines entries
+  pub comments : HasLinesOf text written

@@ -4,6 +4,8 @@
 
 mod decimals;
 mod facts;
+mod line_faults;
+mod lines;
 mod pictures;
 mod systems;
 mod triangle;
@@ -14,6 +16,8 @@ pub use facts::{
     Histogram, Info, bandwidth, count_lanes, counted_lanes, info_of, is_symmetric, longest_lane,
     push_count, push_facts, push_line,
 };
+pub use line_faults::LineFault;
+pub use lines::line_number;
 pub use pictures::{Picture, bitmap_text, block_text, draw, scaled_sizes};
 pub use systems::{SystemError, is_solution, solve, solve_listed};
 pub use triangle::lower_of;

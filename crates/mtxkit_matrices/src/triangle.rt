@@ -3,7 +3,7 @@
 ghost use Rattle.std.specs.Prelude.{◌≡◌, IfOk, MatchOption};
 ghost use Rattle.sparse_compressed.specs.PlainOfLanes.{plain_of_rows};
 ghost use Rattle.sparse_compressed.specs.Compressed.{lane_triplets};
-ghost use Rattle.sparse_compressed.specs.Filter.{is_lower};
+ghost use Rattle.sparse_compressed.specs.Filter.{is_lower, HasSizesOf};
 ghost use Rattle.std.specs.List.{filter};
 ghost use Rattle.mtxkit_matrices.specs.Values.{IsSymmetricMatrix};
 
@@ -12,13 +12,15 @@ use sparse_algebra::scalar::Ring;
 use sparse_csr_csc::csr::CsrMatrix;
 use std::alloc::{AllocError, Global};
 
-/// Returns the lower triangle of a symmetric matrix with its diagonal, or `None` exactly if the matrix is not
-/// symmetric.
+/// Returns the lower triangle of a symmetric matrix with its diagonal, in the same shape, or `None` exactly if the
+/// matrix is not symmetric.
 pub fn lower_of<T: Ring>(
     alloc: Global,
     matrix: &CsrMatrix<T>,
 ) -> Result<Option<CsrMatrix<T>>, AllocError>
-    ensures { IfOk result (λ found. MatchOption found
+    ensures sizes { IfOk result
+        (λ found. MatchOption found (Unit {0}) (HasSizesOf matrix.now)) }
+    ensures lower { IfOk result (λ found. MatchOption found
         (¬ IsSymmetricMatrix T.ring (plain_of_rows T.ring T.value matrix.now))
         (λ l. IsSymmetricMatrix T.ring (plain_of_rows T.ring T.value matrix.now)
         × (lane_triplets l ≡ filter is_lower (lane_triplets matrix.now)))) }

@@ -4,6 +4,7 @@ mod HighSums
 mod ListedPlaces
 pub mod Revalued
 mod SumRoom
+mod UncarriedTexts
 mod WideLists
 mod PlaceLines
 mod ShapeParts

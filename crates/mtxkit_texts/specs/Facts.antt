@@ -1,5 +1,5 @@
 -- Facts about the matrix of a text.
-use Rattle.std.specs.Prelude.{◌≡◌, ◌⊎◌, ℕ, pos, List, ◌++◌}
+use Rattle.std.specs.Prelude.{◌≡◌, ◌≢◌, ◌⊎◌, ℕ, pos, List, ◌++◌}
 use Rattle.std.specs.Ordering.{int_eq}
 use Rattle.sparse_algebra.specs.WrappingValues.{w128_number}
 use Rattle.sparse_algebra.specs.declared.scalar.wide.W128.{W128}
@@ -9,8 +9,10 @@ use Rattle.mtxkit_matrices.specs.Facts.{AreFacts}
 use Rattle.mtxkit_matrices.specs.declared.facts.info.Info.{Info}
 use Rattle.mtxkit_texts.specs.HeaderLines.{header_lines, size_lines}
 use Rattle.mtxkit_texts.specs.Headers.{header_in}
-use Rattle.mtxkit_texts.specs.Loaded.{MeansWhole, ring128, value128}
+use Rattle.mtxkit_texts.specs.Loaded.{MeansWhole, IsWholeFailure, ring128, value128}
 use Rattle.mtxkit_texts.specs.Shapes.{WritesShape}
+use Rattle.mtxkit_texts.specs.declared.failure.Failure.{Failure}
+use Rattle.mtxkit_texts.specs.declared.failure.Failure.TheVariants.{NotCarried, OutOfMemory}
 
 -- the facts are those of the matrix
 abbrev pub AreFactsOf : Compressed W128 → Info → Type 0
@@ -31,3 +33,9 @@ pub record WritesFacts (text written : List ℕ) : Type 0 where
 -- those lines, or the lines of a shape where the values are not carried
 abbrev pub WritesInfo : List ℕ → List ℕ → Type 0
 WritesInfo text written = WritesFacts text written ⊎ WritesShape text written
+
+-- why the text is not described: an allocation failed, or why its exact sums are not loaded, but
+-- never that its values are real or complex
+abbrev pub IsInfoFailure : List ℕ → Failure → Type 0
+IsInfoFailure text failure = (failure ≡ OutOfMemory)
+    ⊎ ((failure ≢ NotCarried 1) × IsWholeFailure 1 text failure)

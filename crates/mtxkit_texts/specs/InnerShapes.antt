@@ -3,6 +3,7 @@ use Rattle.std.specs.Prelude.{◌≡◌, ℕ, List, ◌∷◌, length, Option, O
 use Rattle.std.specs.List.{list_all}
 use Rattle.sparse_parser.specs.Grammar.{is_size, is_entry}
 use Rattle.sparse_parser.specs.Meaning.{sizes_of, is_count}
+use Rattle.sparse_parser.specs.declared.header.Header.{Header}
 use Rattle.mtxkit_texts.specs.declared.shapes.Shape.{Shape}
 
 -- these contents are a size line and as many entries as it says
@@ -16,3 +17,8 @@ pub record IsShapeBelow (contents : List (List (List ℕ))) (s : Shape) : Type 0
   pub sizes : sizes_of s.header size ≡ Ok (s.rows, s.cols, count)
   pub complete : is_count count s.entries ≡ true
   pub entries : s.entries ≡ length lines
+
+-- there is no such shape with this header
+abbrev pub HasNoShapeBelow : Header → List (List (List ℕ)) → Type 0
+HasNoShapeBelow header contents =
+    (s : Shape) → s.header ≡ header → IsShapeBelow contents s → ⊥

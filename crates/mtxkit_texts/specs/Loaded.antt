@@ -23,6 +23,7 @@ use Rattle.mtxkit_texts.specs.Headers.{header_in, is_pattern}
 use Rattle.mtxkit_texts.specs.Places.{HasPlacesOf}
 use Rattle.mtxkit_texts.specs.declared.failure.Failure.{Failure}
 use Rattle.mtxkit_texts.specs.declared.failure.Failure.TheVariants.{OutOfMemory, Wide}
+use Rattle.mtxkit_texts.specs.declared.failure.Failure.TheVariants.{Overflow}
 
 -- the integers modulo 2 ^ 64 and 2 ^ 128, and those that values mean
 abbrev pub ring64 : CommRing
@@ -130,7 +131,7 @@ scalar_read false = signed_scalar w128
 pub record IsRefused (S : Scalar) (number : ℕ) (text : List ℕ) (failure : Failure) : Type 0 where
   pub fault : MatrixMarketErrorKind
   pub means : Means S text (Err fault)
-  pub is : IsTextFault number (header_in text) fault failure
+  pub is : IsTextFault number text fault failure
 
 -- the same, read as the field that its header names
 abbrev pub IsMisread : ℕ → List ℕ → Failure → Type 0
@@ -149,7 +150,7 @@ pub record IsOverflow (number : ℕ) (text : List ℕ) (failure : Failure) : Typ
   pub list : Coo ℤ
   pub means : MeansIntegers text list
   pub left : HasFittingSums list → ⊥
-  pub is : failure ≡ Wide number
+  pub is : failure ≡ Overflow number
 
 -- why the text with this number is not loaded: an allocation failed, or the text means an error
 abbrev pub IsLoadFailure : ℕ → List ℕ → Failure → Type 0

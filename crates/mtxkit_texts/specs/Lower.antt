@@ -1,16 +1,20 @@
 -- Lower triangles of symmetric matrices, written in symmetric form.
-use Rattle.std.specs.Prelude.{◌≡◌, ◌⊎◌, ℕ, List, ◌++◌, codes, Option, Some, None, Bool, true, false}
+use Rattle.std.specs.Prelude.{◌≡◌, ◌≢◌, ◌⊎◌, ℕ, ℤ, List, ◌++◌, codes, Option, Some, None, Ok}
+use Rattle.std.specs.Prelude.{Bool, true, false}
 use Rattle.std.specs.List.{filter}
 use Rattle.sparse_algebra.specs.Algebra.{CommRing}
 use Rattle.sparse_algebra.specs.declared.scalar.wide.W128.{W128}
 use Rattle.sparse_algebra.specs.declared.scalar.wrapping.W64.{W64}
 use Rattle.sparse_compressed.specs.Compressed.{Compressed, lane_triplets}
-use Rattle.sparse_compressed.specs.Filter.{is_lower}
+use Rattle.sparse_compressed.specs.Filter.{is_lower, HasSizesOf}
 use Rattle.sparse_compressed.specs.PlainOfLanes.{plain_of_rows}
+use Rattle.sparse_coo_dense.specs.Coo.{Coo}
+use Rattle.sparse_market_scalar.specs.ScalarTypes.{pattern_scalar}
+use Rattle.sparse_parser.specs.Meaning.{Means}
 use Rattle.sparse_pattern.specs.Raw.{Raw}
 use Rattle.mtxkit_matrices.specs.Values.{IsSymmetricMatrix}
 use Rattle.mtxkit_texts.specs.Loaded.{MeansMatrix, MeansValues, ring64, value64, ring128, value128}
-use Rattle.mtxkit_texts.specs.Loaded.{IsValuesFailure}
+use Rattle.mtxkit_texts.specs.Loaded.{MeansIntegers, IsValuesFailure}
 use Rattle.mtxkit_texts.specs.declared.failure.Failure.{Failure}
 use Rattle.mtxkit_texts.specs.declared.failure.Failure.TheVariants.{NotSymmetric}
 use Rattle.sparse_parser.specs.declared.header.Field.{Field}
@@ -40,10 +44,11 @@ abbrev pub IsSymmetricPattern : Raw → List ℕ → Type 0
 IsSymmetricPattern lower written = (general : List ℕ)
     × (IsPatternText lower general × IsSymmetricForm (codes "pattern") general written)
 
--- the matrix is symmetric, and the other one has its places on and below the diagonal
+-- the matrix is symmetric, and the other one has its shape and its places on and below the diagonal
 pub record IsLowerOf {T : Type 0} (R : CommRing) (f : T → R.Carrier) (matrix lower : Compressed T)
     : Type 0 where
   pub is : IsSymmetricMatrix R (plain_of_rows R f matrix)
+  pub sizes : HasSizesOf matrix lower
   pub kept : lane_triplets lower ≡ filter is_lower (lane_triplets matrix)
 
 -- the lower triangle of the symmetric pattern that the text means, in symmetric form
@@ -86,32 +91,46 @@ abbrev pub Symmetrised : Option Header → List ℕ → List ℕ → Type 0
 Symmetrised (Some h) text written = SymmetrisedUnder h text written
 Symmetrised None text written = WritesIntegers text written
 
+-- the pattern that the text means is not square
+abbrev pub MeansOblongPattern : List ℕ → Type 0
+MeansOblongPattern text = (list : Coo (Unit {0}))
+    × (Means pattern_scalar text (Ok list) × (list.nrows ≢ list.ncols))
+
+-- the matrix of integers that the text means is not square
+abbrev pub MeansOblongIntegers : List ℕ → Type 0
+MeansOblongIntegers text = (list : Coo ℤ) × (MeansIntegers text list × (list.nrows ≢ list.ncols))
+
 -- the pattern that the text means is not symmetric
 abbrev pub MeansUnsymmetricPattern : List ℕ → Type 0
-MeansUnsymmetricPattern text = (entries : ℕ) × ((m : Compressed W128)
-    × (MeansMatrix text entries m × (¬ IsSymmetricMatrix ring128 (plain_of_rows ring128 value128 m))))
+MeansUnsymmetricPattern text = MeansOblongPattern text ⊎ ((entries : ℕ) × ((m : Compressed W128)
+    × (MeansMatrix text entries m × (¬ IsSymmetricMatrix ring128 (plain_of_rows ring128 value128 m)))))
 
 -- the matrix of integers that the text means is not symmetric
 abbrev pub MeansUnsymmetricIntegers : List ℕ → Type 0
-MeansUnsymmetricIntegers text = (m : Compressed W64)
-    × (MeansValues text m × (¬ IsSymmetricMatrix ring64 (plain_of_rows ring64 value64 m)))
+MeansUnsymmetricIntegers text = MeansOblongIntegers text ⊎ ((m : Compressed W64)
+    × (MeansValues text m × (¬ IsSymmetricMatrix ring64 (plain_of_rows ring64 value64 m))))
 
 abbrev pub MeansUnsymmetricOf : Field → List ℕ → Type 0
 MeansUnsymmetricOf Pattern text = MeansUnsymmetricPattern text
 MeansUnsymmetricOf field text = MeansUnsymmetricIntegers text
 
+-- this header names no symmetry, and the matrix that the text means is not symmetric
+abbrev pub MeansUnsymmetricBy : Header → List ℕ → Type 0
+MeansUnsymmetricBy h text =
+    (is_mirrored h.symmetry ≡ false) × MeansUnsymmetricOf h.field text
+
 abbrev pub MeansUnsymmetricUnder : Option Header → List ℕ → Type 0
-MeansUnsymmetricUnder (Some h) text = MeansUnsymmetricOf h.field text
+MeansUnsymmetricUnder (Some h) text = MeansUnsymmetricBy h text
 MeansUnsymmetricUnder None text = ⊥
 
--- the matrix that the text means is not symmetric
+-- the text has a header, which names no symmetry, and the matrix that it means is not symmetric
 abbrev pub MeansUnsymmetric : List ℕ → Type 0
 MeansUnsymmetric text = MeansUnsymmetricUnder (header_in text) text
 
--- why a text whose header names this field is not expanded, nor written in symmetric form
-abbrev pub IsFieldFailure : Field → List ℕ → Failure → Type 0
-IsFieldFailure field text failure =
-    IsValuesFailure 1 text failure ⊎ ((failure ≡ NotSymmetric) × MeansUnsymmetricOf field text)
+-- why a text with this header is not expanded, nor written in symmetric form
+abbrev pub IsHeaderFailure : Header → List ℕ → Failure → Type 0
+IsHeaderFailure h text failure =
+    IsValuesFailure 1 text failure ⊎ ((failure ≡ NotSymmetric) × MeansUnsymmetricBy h text)
 
 -- the same, by the header of the text
 abbrev pub IsSymmetricFailure : List ℕ → Failure → Type 0

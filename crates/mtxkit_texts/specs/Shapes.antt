@@ -1,10 +1,13 @@
 -- The shapes of texts whose values are not carried.
-use Rattle.std.specs.Prelude.{◌≡◌, ℕ, List, ◌++◌, codes, length, Option, Some, Ok, true, false}
+use Rattle.std.specs.Prelude.{◌≡◌, ℕ, List, ◌++◌, codes, length, Option, Some, Ok, Err, true, false}
+use Rattle.std.specs.Int.{w128}
 use Rattle.sparse_parser.specs.Grammar.{IsDocument}
-use Rattle.sparse_parser.specs.Meaning.{sizes_of, is_count}
+use Rattle.sparse_parser.specs.Meaning.{Means, sizes_of, is_count}
+use Rattle.sparse_parser.specs.declared.error.MatrixMarketErrorKind.TheVariants.{TypeMismatch}
+use Rattle.sparse_market_scalar.specs.ScalarTypes.{signed_scalar}
 use Rattle.mtxkit_matrices.specs.FactLines.{count_line}
 use Rattle.mtxkit_texts.specs.HeaderLines.{header_lines}
-use Rattle.mtxkit_texts.specs.Headers.{is_carried_field}
+use Rattle.mtxkit_texts.specs.Headers.{header_in, is_carried}
 use Rattle.mtxkit_texts.specs.declared.shapes.Shape.{Shape}
 
 -- the text is a document of this header and these sizes, and of as many entries as it says
@@ -17,15 +20,24 @@ pub record IsShapeOf (text : List ℕ) (s : Shape) : Type 0 where
   pub complete : is_count count s.entries ≡ true
   pub entries : s.entries ≡ length lines
 
+-- the text has no header, or not the sizes that it needs, or another number of entries
+abbrev pub HasNoShape : List ℕ → Type 0
+HasNoShape text = (s : Shape) → IsShapeOf text s → ⊥
+
+-- the first error of the text is a value, and its header names a real or complex field
+pub record IsUncarried (text : List ℕ) : Type 0 where
+  pub field : is_carried (header_in text) ≡ false
+  pub means : Means (signed_scalar w128) text (Err TypeMismatch)
+
 -- the lines of the shape
 abbrev pub shape_lines : Shape → List ℕ
 shape_lines s = header_lines (Some s.header) ++ (count_line (codes "rows") s.rows
     ++ (count_line (codes "columns") s.cols
     ++ count_line (codes "entries in the file") s.entries))
 
--- the lines of the shape of the text, whose values are real or complex
+-- the lines of the shape of the text, which has real or complex values
 pub record WritesShape (text written : List ℕ) : Type 0 where
   pub shape : Shape
   pub of : IsShapeOf text shape
-  pub uncarried : is_carried_field shape.header.field ≡ false
+  pub uncarried : IsUncarried text
   pub is : written ≡ shape_lines shape

@@ -1,15 +1,14 @@
 //! The lines of `mtxkit info`.
 
-ghost use Rattle.std.specs.Prelude.{◌≡◌, ◌⊎◌, ◌++◌, IfOk, IfErr, OnOk, codes, string_bytes};
+ghost use Rattle.std.specs.Prelude.{◌≡◌, ◌++◌, IfOk, IfErr, OnOk, codes, string_bytes};
 ghost use Rattle.mtxkit_texts.specs.HeaderLines.{format_name, field_name, symmetry_name};
 ghost use Rattle.mtxkit_texts.specs.HeaderLines.{header_lines, size_lines};
-ghost use Rattle.mtxkit_texts.specs.Facts.{WritesFacts, WritesInfo};
+ghost use Rattle.mtxkit_texts.specs.Facts.{WritesFacts, WritesInfo, IsInfoFailure};
 ghost use Rattle.mtxkit_texts.specs.Loaded.{IsWholeFailure, MeansWhole};
-ghost use Rattle.mtxkit_texts.specs.Shapes.{WritesShape, shape_lines};
-ghost use Rattle.mtxkit_texts.specs.declared.failure.Failure.TheVariants.{OutOfMemory};
+ghost use Rattle.mtxkit_texts.specs.Shapes.{IsUncarried, WritesShape, shape_lines};
 
 use crate::failure::Failure;
-use crate::loaded::{Loaded, header_of, is_carried_field};
+use crate::loaded::{Loaded, header_of};
 use crate::shapes::{Shape, shape_of};
 use crate::whole::load_whole;
 use mtxkit_matrices::{info_of, push_count, push_facts, push_line};
@@ -19,11 +18,11 @@ use std::alloc::{AllocError, Global};
 /// Returns the lines that `mtxkit info` writes of a text: what its header says, and the facts about its matrix. Of a text
 /// with real or complex values they are what the header says, the shape, and the number of entries in the file.
 ///
-/// Fails as [`load_whole`](crate::load_whole) does, but with real or complex values only if an allocation fails or the
-/// text means an error.
+/// Fails as [`load_whole`](crate::load_whole) does, but never with `NotCarried`: a text whose first error is a real or
+/// complex value has its lines.
 pub fn info_text(alloc: Global, text: &str) -> Result<String, Failure>
     ensures written { IfOk result (λ written. WritesInfo text.now (string_bytes written)) }
-    ensures refused { IfErr result (IsWholeFailure 1 text.now) }
+    ensures refused { IfErr result (IsInfoFailure text.now) }
 {
     match load_whole(alloc, 1, text) {
         Ok(loaded) => Ok(facts_text(alloc, text, &loaded)?),
@@ -31,17 +30,26 @@ pub fn info_text(alloc: Global, text: &str) -> Result<String, Failure>
     }
 }
 
-// Returns the lines of the shape of a text whose values are not carried, for which it failed so.
+// Returns the lines of the shape of a text that failed so, if the reason is that its values are not carried.
 fn shape_text(alloc: Global, text: &str, failure: Failure) -> Result<String, Failure>
+    requires { IsWholeFailure 1 text.now failure }
     ensures written { IfOk result (λ written. WritesShape text.now (string_bytes written)) }
-    ensures refused { IfErr result (λ e. (e ≡ OutOfMemory) ⊎ (e ≡ failure)) }
+    ensures refused { IfErr result (IsInfoFailure text.now) }
 {
-    let Failure::NotCarried(_) = failure else {
-        return Err(failure);
-    };
+    match failure {
+        Failure::NotCarried(_) => Ok(uncarried_text(alloc, text)?),
+        failure => Err(failure),
+    }
+}
+
+// Returns the lines of the shape of a text with real or complex values.
+fn uncarried_text(alloc: Global, text: &str) -> Result<String, AllocError>
+    requires { IsUncarried text.now }
+    ensures { IfOk result (λ written. WritesShape text.now (string_bytes written)) }
+{
     match shape_of(text) {
-        Some(shape) if !is_carried_field(shape.header.field) => Ok(lines_of(alloc, shape)?),
-        _ => Err(failure),
+        Some(shape) => lines_of(alloc, shape),
+        None => unreachable!(),
     }
 }
 

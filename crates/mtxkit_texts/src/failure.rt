@@ -21,6 +21,8 @@ pub enum Failure {
     NotCarried(usize),
     /// An integer of the text with this number, or the sum of those of one place, does not fit in 64 bits.
     Wide(usize),
+    /// The sum of the integers of some place of the text with this number does not fit in 128 bits.
+    Overflow(usize),
     /// The matrix is not symmetric.
     NotSymmetric,
     /// The shapes of the matrices do not fit.
@@ -60,6 +62,7 @@ impl Failure {
             Failure::NotCarried(_) =>
                 "real and complex values are not carried, nor is their pattern",
             Failure::Wide(_) => "a value or a sum of repeated entries does not fit in 64 bits",
+            Failure::Overflow(_) => "a sum of repeated entries does not fit in 128 bits",
             Failure::NotSymmetric => "not symmetric",
             Failure::Shapes => "shapes do not fit",
             Failure::NoFactors => "no factorisation L D L^T exists",

@@ -142,7 +142,7 @@ pub fn read_integers(alloc: Global, number: usize, text: &str) -> Result<CooMatr
 
 // Returns the failure of a text whose matrix cannot be read as integers or as the field of its header.
 fn unread(number: usize, kind: MatrixMarketErrorKind, text: &str, as_integers: bool) -> Failure
-    ensures { IsTextFault number (header_in text.now) kind result }
+    ensures { IsTextFault number text.now kind result }
 {
     match kind {
         MatrixMarketErrorKind::OutOfMemory => Failure::OutOfMemory,
@@ -162,7 +162,7 @@ fn is_carried(text: &str) -> bool
 }
 
 // Whether the values of a field are integers or patterns.
-pub(crate) fn is_carried_field(field: Field) -> bool
+fn is_carried_field(field: Field) -> bool
     ensures { result ≡ is_carried_field field }
 {
     match field {

@@ -1,10 +1,10 @@
 //! The shapes of texts whose values are not carried.
 
-ghost use Rattle.std.specs.Prelude.{◌≡◌, IfSome, Some, true};
+ghost use Rattle.std.specs.Prelude.{◌≡◌, ℕ, IfSome, MatchOption, Some, true};
 ghost use Rattle.sparse_parser.specs.InnerReading.{contents_of, count_of};
 ghost use Rattle.sparse_parser.specs.Meaning.{is_count};
-ghost use Rattle.mtxkit_texts.specs.Shapes.{IsShapeOf};
-ghost use Rattle.mtxkit_texts.specs.InnerShapes.{IsShapeBelow};
+ghost use Rattle.mtxkit_texts.specs.Shapes.{IsShapeOf, HasNoShape};
+ghost use Rattle.mtxkit_texts.specs.InnerShapes.{IsShapeBelow, HasNoShapeBelow};
 
 use sparse_io::count_entries;
 use sparse_parser::header::Header;
@@ -24,10 +24,10 @@ pub struct Shape {
     pub entries: usize,
 }
 
-/// Returns the shape of a text, whatever its values are, or `None` if the text does not match the grammar, has an
-/// invalid header or sizes, or has another number of entries than it says.
+/// Returns the shape of a text, whatever its values are, or `None` exactly if the text does not match the grammar, has
+/// an invalid header or sizes, or has another number of entries than it says.
 pub fn shape_of(text: &str) -> Option<Shape>
-    ensures { IfSome result (IsShapeOf text.now) }
+    ensures { MatchOption result (HasNoShape text.now) (IsShapeOf text.now) }
 {
     let (line, below) = split_line(after_space(text.as_bytes()));
     match Header::from_line(line) {
@@ -39,12 +39,14 @@ pub fn shape_of(text: &str) -> Option<Shape>
 // Returns the shape of the text below a header.
 fn shape_below(header: Header, text: &[u8]) -> Option<Shape>
     ensures header { IfSome result (λ s. s.header ≡ header) }
-    ensures below { IfSome result (IsShapeBelow (contents_of text.now)) }
+    ensures below { MatchOption result (HasNoShapeBelow header (contents_of text.now))
+        (IsShapeBelow (contents_of text.now)) }
 {
     let (line, rest) = split_line(next_line(text));
     match Size::from_line(header, line) {
         Some(Ok(size)) => counted(header, size, rest),
-        _ => None,
+        Some(Err(_)) => None,
+        None => None,
     }
 }
 
@@ -54,6 +56,8 @@ fn counted(header: Header, size: Size, text: &[u8]) -> Option<Shape>
     ensures sizes { IfSome result (λ s. (s.rows ≡ size.rows) × (s.cols ≡ size.cols)) }
     ensures complete { IfSome result (λ s. is_count size.count s.entries ≡ true) }
     ensures counted { IfSome result (λ s. Some s.entries ≡ count_of (contents_of text.now)) }
+    ensures none { MatchOption result ((n : ℕ) → is_count size.count n ≡ true
+        → Some n ≡ count_of (contents_of text.now) → ⊥) (λ s. Unit {0}) }
 {
     match count_entries(text) {
         Some(entries) if is_count(size.count, entries) => Some(Shape {
@@ -62,7 +66,8 @@ fn counted(header: Header, size: Size, text: &[u8]) -> Option<Shape>
             cols: size.cols,
             entries,
         }),
-        _ => None,
+        Some(_) => None,
+        None => None,
     }
 }
 

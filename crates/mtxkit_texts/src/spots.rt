@@ -1,10 +1,13 @@
-//! The first line of a text that is at fault. It is found for a message, after a text was refused; no clause names it.
+//! The first line of a text that is at fault. It is found for a message, after a text was refused. It is proved that it
+//! is a line of the text; that it is the first at fault is tested.
 
 ghost use Rattle.std.specs.Prelude.{◌<◌, IfSome, length};
 ghost use Rattle.sparse_parser.specs.InnerBytes.{BeginsLine};
 ghost use Rattle.sparse_parser.specs.InnerLines.{AreNumbers};
+ghost use Rattle.mtxkit_matrices.specs.Lines.{HasLineNumber};
 
-use crate::line_faults::{LineFault, array_fault, bounds_fault, coordinate_fault};
+use crate::line_faults::{array_fault, bounds_fault, coordinate_fault};
+use mtxkit_matrices::{LineFault, line_number};
 use sparse_io::count_entries;
 use sparse_parser::data_lines::{Line, data_line};
 use sparse_parser::error::Cause;
@@ -15,7 +18,7 @@ use sparse_parser::size::Size;
 /// A line of a text, counted from 1, and what is wrong with it.
 #[derive(Clone, Copy, Debug)]
 pub struct Spot {
-    /// The number of the line.
+    /// The number of the line; the last line, if the text ends too early.
     pub line: usize,
     /// What is wrong with it.
     pub fault: LineFault,
@@ -34,24 +37,15 @@ enum Search {
 
 /// Returns the first line at fault of a text that means an error, read as integers or as the field of its header. It
 /// reads the text again, up to three times.
-pub(crate) fn spot_of(text: &str, as_integers: bool) -> Spot {
+pub(crate) fn spot_of(text: &str, as_integers: bool) -> Spot
+    ensures { HasLineNumber text.now result.line }
+{
     let text = text.as_bytes();
     let (fault, rest) = fault_of(text, as_integers);
     Spot {
         line: line_number(text, text.len().saturating_sub(rest.len())),
         fault,
     }
-}
-
-// The number of the line that a position lies in.
-fn line_number(text: &[u8], at: usize) -> usize {
-    let mut line: usize = 1;
-    for k in 0..at.min(text.len()) {
-        if text[k] == b'\n' || text[k] == b'\r' && text.get(k + 1) != Some(&b'\n') {
-            line = line.saturating_add(1);
-        }
-    }
-    line
 }
 
 // What is at fault in a text, and the text from there on.
@@ -74,15 +68,10 @@ fn fault_of(text: &[u8], as_integers: bool) -> (LineFault, &[u8]) {
 
 // What is at fault in the header line or the size line.
 fn size_fault<'a>(cause: Cause, start: &'a [u8], sizes: &'a [u8]) -> (LineFault, &'a [u8]) {
-    match cause {
-        Cause::RealHermitian | Cause::IntegerHermitian | Cause::PatternHermitian => (
-            LineFault::Hermitian,
-            start,
-        ),
-        Cause::PatternSkewSymmetric | Cause::PatternArray => (LineFault::Pattern, start),
-        Cause::SizeCount => (LineFault::SizeCount, sizes),
-        Cause::NotSquare => (LineFault::NotSquare, sizes),
-        _ => (LineFault::SizeTooLarge, sizes),
+    match LineFault::of_size(cause) {
+        LineFault::Hermitian => (LineFault::Hermitian, start),
+        LineFault::Pattern => (LineFault::Pattern, start),
+        fault => (fault, sizes),
     }
 }
 

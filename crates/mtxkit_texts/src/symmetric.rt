@@ -1,24 +1,28 @@
 //! Symmetric texts expanded, and symmetric matrices written by their lower triangles.
 
-ghost use Rattle.std.specs.Prelude.{◌≡◌, ◌⊎◌, ◌++◌, ℕ, List, IfOk, IfErr, string_bytes};
+ghost use Rattle.std.specs.Prelude.{◌≡◌, ◌⊎◌, ◌++◌, ℕ, List, Some, IfOk, IfErr, true, false};
+ghost use Rattle.std.specs.Prelude.{string_bytes};
 ghost use Rattle.mtxkit_matrices.specs.Values.{IsSymmetricMatrix};
 ghost use Rattle.sparse_compressed.specs.PlainOfLanes.{plain_of_rows};
-ghost use Rattle.mtxkit_texts.specs.Headers.{header_in, is_mirrored};
+ghost use Rattle.mtxkit_texts.specs.Headers.{header_in, is_mirrored, is_pattern};
 ghost use Rattle.mtxkit_texts.specs.Lower.{IsSymmetricIntegers, IsSymmetricPattern};
 ghost use Rattle.mtxkit_texts.specs.Loaded.{IsLoadFailure, IsValuesFailure};
+ghost use Rattle.mtxkit_texts.specs.Loaded.{MeansMatrix, MeansValues};
+ghost use Rattle.mtxkit_texts.specs.Lower.{MeansOblongPattern, MeansOblongIntegers};
 ghost use Rattle.mtxkit_texts.specs.Lower.{MeansUnsymmetricPattern, MeansUnsymmetricIntegers};
 ghost use Rattle.mtxkit_texts.specs.Lower.{WritesLowerPattern, WritesLowerIntegers, IsLowerOf};
 ghost use Rattle.mtxkit_texts.specs.Lower.{Symmetrised, SymmetrisedUnder};
-ghost use Rattle.mtxkit_texts.specs.Lower.{IsSymmetricFailure, IsFieldFailure};
+ghost use Rattle.mtxkit_texts.specs.Lower.{IsSymmetricFailure, IsHeaderFailure};
 ghost use Rattle.mtxkit_texts.specs.declared.failure.Failure.TheVariants.{OutOfMemory, NotSymmetric};
 
 use crate::failure::Failure;
 use crate::field::{integer_text, pattern_text};
-use crate::loaded::{header_of, load};
+use crate::loaded::{header_of, read_integers, read_places};
 use crate::pattern_texts::write_pattern;
-use crate::values::load_values;
+use crate::places::ones_of;
+use crate::values::narrow_sums;
 use mtxkit_matrices::lower_of;
-use sparse_algebra::scalar::{Ring, W64};
+use sparse_algebra::scalar::{Ring, W64, W128};
 use sparse_csr_csc::csr::CsrMatrix;
 use sparse_io::save_to_matrix_market_str;
 use sparse_parser::header::{Field, Header, Symmetry};
@@ -29,7 +33,7 @@ use std::alloc::{AllocError, Global};
 /// triangle, with a header that says `symmetric`.
 ///
 /// Fails as [`load_values`](crate::load_values) does, with `NotSymmetric` if the lower triangle is wanted of a matrix that
-/// is not symmetric, or if an allocation fails.
+/// is not symmetric, or if an allocation fails. That a matrix is not square is said before its integers are added.
 pub fn symmetric_text(alloc: Global, text: &str) -> Result<String, Failure>
     ensures written { IfOk result
         (λ written. Symmetrised (header_in text.now) text.now (string_bytes written)) }
@@ -43,9 +47,10 @@ pub fn symmetric_text(alloc: Global, text: &str) -> Result<String, Failure>
 
 // Returns the text of all entries if this header names a symmetry, and otherwise that of the lower triangle.
 fn symmetrised(alloc: Global, text: &str, header: Header) -> Result<String, Failure>
+    requires { header_in text.now ≡ Some header }
     ensures written { IfOk result
         (λ written. SymmetrisedUnder header text.now (string_bytes written)) }
-    ensures refused { IfErr result (IsFieldFailure header.field text.now) }
+    ensures refused { IfErr result (IsHeaderFailure header text.now) }
 {
     match (is_mirrored(header.symmetry), header.field) {
         (true, Field::Pattern) => pattern_text(alloc, text),
@@ -67,25 +72,56 @@ fn is_mirrored(symmetry: Symmetry) -> bool
 
 // Returns the text of the lower triangle of a symmetric pattern.
 fn lower_pattern(alloc: Global, text: &str) -> Result<String, Failure>
+    requires { is_pattern (header_in text.now) ≡ true }
     ensures written { IfOk result (λ written. WritesLowerPattern text.now (string_bytes written)) }
     ensures refused { IfErr result (λ e. IsLoadFailure 1 text.now e
         ⊎ ((e ≡ NotSymmetric) × MeansUnsymmetricPattern text.now)) }
 {
-    let loaded = load(alloc, 1, text)?;
-    let lower = triangle_of(alloc, &loaded.matrix)?;
+    let matrix = square_ones(alloc, text)?;
+    let lower = triangle_of(alloc, &matrix)?;
     Ok(symmetric_pattern(alloc, lower.pattern())?)
 }
 
 // Returns the text of the lower triangle of a symmetric matrix of integers.
 fn lower_integers(alloc: Global, text: &str) -> Result<String, Failure>
+    requires { is_pattern (header_in text.now) ≡ false }
     ensures written { IfOk result
         (λ written. WritesLowerIntegers text.now (string_bytes written)) }
     ensures refused { IfErr result (λ e. IsValuesFailure 1 text.now e
         ⊎ ((e ≡ NotSymmetric) × MeansUnsymmetricIntegers text.now)) }
 {
-    let matrix = load_values(alloc, 1, text)?;
+    let matrix = square_values(alloc, text)?;
     let lower = triangle_of(alloc, &matrix)?;
     Ok(symmetric_integers(alloc, &lower)?)
+}
+
+// Reads the places of a square pattern as a matrix of ones. One that is not square fails before memory for its rows is
+// asked for.
+fn square_ones(alloc: Global, text: &str) -> Result<CsrMatrix<W128>, Failure>
+    requires { is_pattern (header_in text.now) ≡ true }
+    ensures meant { IfOk result (λ m. (entries : ℕ) × MeansMatrix text.now entries m) }
+    ensures refused { IfErr result (λ e. IsLoadFailure 1 text.now e
+        ⊎ ((e ≡ NotSymmetric) × MeansOblongPattern text.now)) }
+{
+    let places = read_places(alloc, 1, text)?;
+    if places.nrows() != places.ncols() {
+        return Err(Failure::NotSymmetric);
+    }
+    Ok(ones_of(alloc, &places)?)
+}
+
+// Reads a square matrix of 64-bit integers. One that is not square fails before memory for its rows is asked for.
+fn square_values(alloc: Global, text: &str) -> Result<CsrMatrix<W64>, Failure>
+    requires { is_pattern (header_in text.now) ≡ false }
+    ensures meant { IfOk result (MeansValues text.now) }
+    ensures refused { IfErr result (λ e. IsValuesFailure 1 text.now e
+        ⊎ ((e ≡ NotSymmetric) × MeansOblongIntegers text.now)) }
+{
+    let integers = read_integers(alloc, 1, text)?;
+    if integers.nrows() != integers.ncols() {
+        return Err(Failure::NotSymmetric);
+    }
+    narrow_sums(alloc, 1, &integers)
 }
 
 // Returns the lower triangle of a symmetric matrix.

@@ -42,7 +42,7 @@ pub fn load_values(alloc: Global, number: usize, text: &str) -> Result<CsrMatrix
 }
 
 // Returns the matrix by rows with the sums of the integers of each place, if all fit in 64 bits.
-fn narrow_sums(
+pub(crate) fn narrow_sums(
     alloc: Global,
     number: usize,
     list: &CooMatrix<i128>,

@@ -4,7 +4,7 @@ ghost use Rattle.std.specs.Prelude.{◌≡◌, ◌⊎◌, IfOk, IfErr, length};
 ghost use Rattle.sparse_compressed.specs.Compressed.{IsSound};
 ghost use Rattle.mtxkit_texts.specs.Loaded.{HasExactSums, HasFittingSums, IsWholeFailure};
 ghost use Rattle.mtxkit_texts.specs.Loaded.{MeansWhole};
-ghost use Rattle.mtxkit_texts.specs.declared.failure.Failure.TheVariants.{OutOfMemory, Wide};
+ghost use Rattle.mtxkit_texts.specs.declared.failure.Failure.TheVariants.{OutOfMemory, Overflow};
 
 use crate::exact::sums_fit;
 use crate::failure::Failure;
@@ -17,8 +17,8 @@ use std::alloc::Global;
 ///
 /// # Errors
 ///
-/// Returns the errors of [`load`](crate::load), and `Wide` if the sum of the integers of some place does not fit in 128
-/// bits.
+/// Returns the errors of [`load`](crate::load), and `Overflow` if the sum of the integers of some place does not fit in
+/// 128 bits.
 pub fn load_whole(alloc: Global, number: usize, text: &str) -> Result<Loaded, Failure>
     ensures meant { IfOk result (λ l. MeansWhole text.now l.entries l.matrix) }
     ensures sound { IfOk result (λ l. IsSound l.matrix) }
@@ -38,13 +38,13 @@ fn whole_sums(alloc: Global, number: usize, list: &CooMatrix<i128>) -> Result<Lo
     ensures sums { IfOk result (λ l. HasExactSums list.now l.matrix) }
     ensures sound { IfOk result (λ l. IsSound l.matrix) }
     ensures refused { IfErr result
-        (λ e. (e ≡ OutOfMemory) ⊎ ((e ≡ Wide number) × (HasFittingSums list.now → ⊥))) }
+        (λ e. (e ≡ OutOfMemory) ⊎ ((e ≡ Overflow number) × (HasFittingSums list.now → ⊥))) }
 {
     let matrix = wide_sums(alloc, list)?;
     if sums_fit(alloc, list, &matrix)? {
         let entries = list.nnz();
         Ok(Loaded { entries, matrix })
     } else {
-        Err(Failure::Wide(number))
+        Err(Failure::Overflow(number))
     }
 }

@@ -118,11 +118,15 @@ const TEXTS: &[(&str, u32, &str)] = &[
         0,
         "the text ends before its size line",
     ),
-    ("\n\n1 1 1\n", 0, "line 3: no Matrix Market header"),
+    (
+        "\n\n1 1 1\n",
+        0,
+        "line 3: no header; expected %%MatrixMarket matrix and a format, a field and a symmetry",
+    ),
     (
         "%%MatrixMarket matrix array real hermitian\n1 1\n1\n",
         0,
-        "line 1: no Matrix Market header",
+        "line 1: only complex matrices are hermitian",
     ),
     (
         "%%MatrixMarket matrix coordinate complex general\n1 1 1\n1 1 1 0\n",
@@ -137,12 +141,22 @@ const TEXTS: &[(&str, u32, &str)] = &[
     (
         "%%MatrixMarket matrix coordinate real general\n1 1\n",
         0,
-        "line 2: no size line that fits the header",
+        "line 2: expected rows, columns and entries; rows and columns in the format array",
+    ),
+    (
+        "%%MatrixMarket matrix coordinate real general\n1 1 1 1\n",
+        0,
+        "line 2: no size line; expected rows, columns and, in the format coordinate, entries",
+    ),
+    (
+        "%%MatrixMarket matrix array real general\n1 18446744073709551616\n",
+        0,
+        "line 2: a size does not fit in 64 bits",
     ),
     (
         "%%MatrixMarket matrix coordinate real symmetric\n%\n1 2 0\n",
         0,
-        "line 3: no size line that fits the header",
+        "line 3: a matrix with a symmetry is square",
     ),
     (
         "%%MatrixMarket matrix coordinate real general\r\n1 1 1\r\n\r\n1 1\r\n",

@@ -1,18 +1,21 @@
 //! Data lines with their values scaled.
 
-ghost use Rattle.std.specs.Prelude.{◌≡◌, ◌++◌, ◌∷◌, [], IsTrue, true};
+ghost use Rattle.std.specs.Prelude.{◌≡◌, ◌++◌, ◌∷◌, [], IsTrue, true, false};
 ghost use Rattle.std.specs.Prelude.{MatchOption, IfOk, IfErr, OnOk};
 ghost use Rattle.std.specs.Fmt.{signed_decimal};
 ghost use Rattle.std.specs.Int.{w128};
 ghost use Rattle.std.specs.Int.RustNames.{FitsSigned};
+ghost use Rattle.sparse_parser.specs.declared.header.Format.TheVariants.{Coordinate, Array};
 ghost use Rattle.sparse_parser.specs.Grammar.{is_index, is_number};
-ghost use Rattle.sparse_parser.specs.InnerReading.{is_content, words_of};
+ghost use Rattle.sparse_parser.specs.InnerReading.{words_of};
 ghost use Rattle.mtxkit_matrices.specs.declared.decimals.error.ScaleError.TheVariants.{OutOfMemory};
 ghost use Rattle.mtxkit_matrices.specs.declared.decimals.stage.Stage.TheVariants.{Entries};
 ghost use Rattle.mtxkit_matrices.specs.Decimals.{IsScaled};
 ghost use Rattle.mtxkit_matrices.specs.InnerRewriting.{IsLineWritten, IsCoordinateLine};
 ghost use Rattle.mtxkit_matrices.specs.InnerRewriting.{IsArrayLine, coordinate_text};
-ghost use Rattle.mtxkit_matrices.specs.InnerScaleFailures.{IsLineFailure, IsValueFailure};
+ghost use Rattle.mtxkit_matrices.specs.InnerScaleFailures.{IsEntryFailure, IsValueFailure};
+ghost use Rattle.mtxkit_matrices.specs.InnerScaleFailures.{AreContent, IsLineFailure};
+ghost use Rattle.mtxkit_matrices.specs.ScaleFailures.{is_decimal_entry};
 
 use crate::decimals::error::ScaleError;
 use crate::decimals::number::{Misfit, scaled};
@@ -38,11 +41,12 @@ pub(crate) fn push_entry(
     number: usize,
     line: &[u8],
 ) -> Result<Stage, ScaleError>
-    requires { is_content (words_of line.now) ≡ true }
+    requires { AreContent (words_of line.now) }
     ensures written { IfOk result
         (λ next. IsLineWritten scale (Entries header) line.now next written.old.items
         written.new.items) }
-    ensures refused { IfErr result (IsLineFailure scale number (words_of line.now)) }
+    ensures refused { IfErr result
+        (IsLineFailure scale (Entries header) number (words_of line.now)) }
 {
     let pushed = match header.format {
         Format::Coordinate => push_coordinate(written, scale, number, line),
@@ -63,7 +67,8 @@ fn push_coordinate(
 ) -> Result<(), ScaleError>
     ensures written { OnOk result
         (IsCoordinateLine scale (words_of line.now) written.old.items written.new.items) }
-    ensures refused { IfErr result (IsLineFailure scale number (words_of line.now)) }
+    ensures refused { IfErr result
+        (IsEntryFailure scale Coordinate number (words_of line.now)) }
 {
     let Some(words) = coordinate_words(line) else {
         return Err(ScaleError::Entry(number));
@@ -83,7 +88,8 @@ fn push_value(
 ) -> Result<(), ScaleError>
     ensures written { OnOk result
         (IsArrayLine scale (words_of line.now) written.old.items written.new.items) }
-    ensures refused { IfErr result (IsLineFailure scale number (words_of line.now)) }
+    ensures refused { IfErr result
+        (IsEntryFailure scale Array number (words_of line.now)) }
 {
     let Some(value) = value_word(line) else {
         return Err(ScaleError::Entry(number));
@@ -113,7 +119,7 @@ fn push_words(
 
 // Splits a line into two indices and a number.
 fn coordinate_words(line: &[u8]) -> Option<CoordinateWords<'_>>
-    ensures { MatchOption result (Unit {0})
+    ensures { MatchOption result (is_decimal_entry Coordinate (words_of line.now) ≡ false)
         (λ w. (words_of line.now ≡ w.row.now ∷ w.col.now ∷ w.value.now ∷ [])
         × (is_index w.row.now ≡ true) × (is_index w.col.now ≡ true)
         × (is_number w.value.now ≡ true)) }
@@ -130,7 +136,7 @@ fn coordinate_words(line: &[u8]) -> Option<CoordinateWords<'_>>
 
 // Returns the number that a line is.
 fn value_word(line: &[u8]) -> Option<&[u8]>
-    ensures { MatchOption result (Unit {0})
+    ensures { MatchOption result (is_decimal_entry Array (words_of line.now) ≡ false)
         (λ w. (words_of line.now ≡ w.now ∷ []) × (is_number w.now ≡ true)) }
 {
     let (value, rest) = next_word(line)?;

@@ -1,5 +1,6 @@
 //! Why a text is not scaled.
 
+use crate::line_faults::LineFault;
 use std::alloc::{AllocError, AllocFailed};
 use std::error::Error;
 use std::fmt::{self, Display, Formatter, Write};
@@ -7,12 +8,12 @@ use std::fmt::{self, Display, Formatter, Write};
 /// Why the numbers of a text are not scaled by `10^K`. Lines are counted from 1; what is displayed does not name them.
 #[derive(Clone, Copy, Debug)]
 pub enum ScaleError {
-    /// This line, the first that is not blank, is not a header.
-    Header(usize),
+    /// This line, the first that is not blank, is not a header, or names a symmetry that decimal numbers do not have.
+    Header(usize, LineFault),
     /// The header in this line names complex values or none.
     Field(usize),
     /// This line is not the size line that the header needs.
-    Sizes(usize),
+    Sizes(usize, LineFault),
     /// This line is not a data line that the header needs.
     Entry(usize),
     /// The value in this line, scaled, is not an integer.
@@ -29,9 +30,9 @@ impl ScaleError {
     /// Returns the number of the line at fault, if one is.
     pub fn line(self) -> Option<usize> {
         match self {
-            ScaleError::Header(number)
+            ScaleError::Header(number, _)
             | ScaleError::Field(number)
-            | ScaleError::Sizes(number)
+            | ScaleError::Sizes(number, _)
             | ScaleError::Entry(number)
             | ScaleError::Fraction(number)
             | ScaleError::Range(number) => Some(number),
@@ -41,10 +42,9 @@ impl ScaleError {
 
     fn reason(self) -> &'static str {
         match self {
-            ScaleError::Header(_) => "no Matrix Market header",
+            ScaleError::Header(_, fault) | ScaleError::Sizes(_, fault) => fault.words(),
             ScaleError::Field(_) =>
                 "the values are not decimal numbers but complex ones or a pattern",
-            ScaleError::Sizes(_) => "no size line that fits the header",
             ScaleError::Entry(_) => "no data line that fits the header",
             ScaleError::Fraction(_) => "the value times 10^K is not an integer; K may be too small",
             ScaleError::Range(_) => "the value times 10^K does not fit in 128 bits",

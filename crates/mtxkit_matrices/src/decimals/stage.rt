@@ -1,6 +1,6 @@
 //! How a line of a text is written, by the lines that were read before it.
 
-ghost use Rattle.std.specs.Prelude.{◌≡◌, ◌++◌, ℕ, true, nat_eq, slice_index};
+ghost use Rattle.std.specs.Prelude.{◌≡◌, ◌≢◌, ◌++◌, ℕ, [], true, nat_eq, slice_index};
 ghost use Rattle.std.specs.Prelude.{MatchOption, IfOk, IfErr};
 ghost use Rattle.sparse_parser.specs.declared.header.Symmetry.TheVariants.{Hermitian};
 ghost use Rattle.sparse_parser.specs.Grammar.{IsOneLine};
@@ -9,10 +9,12 @@ ghost use Rattle.mtxkit_matrices.specs.declared.decimals.error.ScaleError.TheVar
 ghost use Rattle.mtxkit_matrices.specs.declared.decimals.stage.Stage.TheVariants.{Head, Sizes};
 ghost use Rattle.mtxkit_matrices.specs.ScaledTexts.{is_decimal};
 ghost use Rattle.mtxkit_matrices.specs.InnerRewriting.{IsHead, IsLineWritten};
-ghost use Rattle.mtxkit_matrices.specs.InnerScaleFailures.{IsLineFailure};
+ghost use Rattle.mtxkit_matrices.specs.InnerScaleFailures.{IsLineFailure, AreContent};
+ghost use Rattle.mtxkit_matrices.specs.InnerScaleFailures.{IsHeadFailure};
 
 use crate::decimals::entry::push_entry;
 use crate::decimals::error::ScaleError;
+use crate::line_faults::LineFault;
 use sparse_parser::header::{Field, Format, Header, Symmetry};
 use sparse_parser::lines::next_word;
 use sparse_parser::size::Size;
@@ -39,7 +41,7 @@ pub(crate) fn push_line(
     requires { IsOneLine line.now }
     ensures written { IfOk result
         (λ next. IsLineWritten scale stage line.now next written.old.items written.new.items) }
-    ensures refused { IfErr result (IsLineFailure scale number (words_of line.now)) }
+    ensures refused { IfErr result (IsLineFailure scale stage number (words_of line.now)) }
 {
     let Some((word, _)) = next_word(line) else {
         return push_bytes(written, stage, line);
@@ -81,20 +83,20 @@ fn is_comment(word: &[u8]) -> bool
 
 // Appends the header with the field of integers.
 fn push_header(written: &mut Vec<u8>, number: usize, line: &[u8]) -> Result<Stage, ScaleError>
+    requires { words_of line.now ≢ [] }
     ensures written { IfOk result
         (λ next. (scale : ℕ) → IsLineWritten scale Head line.now next written.old.items
         written.new.items) }
-    ensures refused { (scale : ℕ) → IfErr result
-        (IsLineFailure scale number (words_of line.now)) }
+    ensures refused { IfErr result (IsHeadFailure number (words_of line.now)) }
 {
     let Some(header) = Header::from_line(line) else {
-        return Err(ScaleError::Header(number));
+        return Err(ScaleError::Header(number, LineFault::Header));
     };
     if !is_decimal(header.field) {
         return Err(ScaleError::Field(number));
     }
     let Some(head) = head(header.format, header.symmetry) else {
-        return Err(ScaleError::Header(number));
+        return Err(ScaleError::Header(number, LineFault::Hermitian));
     };
     push_bytes(written, Stage::Sizes(header), head.as_bytes())
 }
@@ -142,15 +144,16 @@ fn push_sizes(
     line: &[u8],
 ) -> Result<Stage, ScaleError>
     requires plain { IsOneLine line.now }
-    requires content { is_content (words_of line.now) ≡ true }
+    requires content { AreContent (words_of line.now) }
     ensures written { IfOk result
         (λ next. (scale : ℕ) → IsLineWritten scale (Sizes header) line.now next
         written.old.items written.new.items) }
-    ensures refused { (scale : ℕ) → IfErr result
-        (IsLineFailure scale number (words_of line.now)) }
+    ensures refused { IfErr result (λ e. (scale : ℕ)
+        → IsLineFailure scale (Sizes header) number (words_of line.now) e) }
 {
     match Size::from_line(header, line) {
         Some(Ok(_)) => push_bytes(written, Stage::Entries(header), line),
-        Some(Err(_)) | None => Err(ScaleError::Sizes(number)),
+        Some(Err(cause)) => Err(ScaleError::Sizes(number, LineFault::of_size(cause))),
+        None => Err(ScaleError::Sizes(number, LineFault::Size)),
     }
 }

@@ -1,14 +1,13 @@
 //! Texts of decimal numbers written again with integers.
 
-ghost use Rattle.std.specs.Prelude.{◌≡◌, IfOk, IfErr, true, nat_eq, slice_index};
-ghost use Rattle.sparse_parser.specs.InnerReading.{ends_line};
+ghost use Rattle.std.specs.Prelude.{IfOk, IfErr};
 ghost use Rattle.mtxkit_matrices.specs.ScaleFailures.{IsScaleFailure};
 ghost use Rattle.mtxkit_matrices.specs.ScaledTexts.{IsScaledText};
-ghost use Rattle.mtxkit_matrices.specs.InnerScaleFailures.{IsEnded};
 
 use crate::decimals::error::ScaleError;
 use crate::decimals::stage::{Stage, push_bytes, push_line};
-use sparse_parser::lines::{split_line, text_from};
+use crate::lines::after_end;
+use sparse_parser::lines::split_line;
 use std::alloc::Global;
 
 /// Returns a Matrix Market text of decimal numbers with each number multiplied by `10^scale`, as a text of integers.
@@ -48,35 +47,7 @@ pub fn scaled_text(alloc: Global, scale: u32, text: &[u8]) -> Result<Vec<u8>, Sc
     }
     match stage {
         Stage::Entries(_) => Ok(written),
-        Stage::Head | Stage::Sizes(_) => Err(ScaleError::Ended),
-    }
-}
-
-// Returns the text after a line end.
-fn after_end(text: &[u8]) -> &[u8]
-    requires { ends_line text.now ≡ true }
-    ensures { IsEnded text.now result.now }
-{
-    if text.is_empty() {
-        return text;
-    }
-    let rest = text_from(text, 1);
-    if text[0] != b'\r' {
-        return rest;
-    }
-    if begins_with_lf(rest) {
-        text_from(rest, 1)
-    } else {
-        rest
-    }
-}
-
-// Whether a text begins with LF.
-fn begins_with_lf(text: &[u8]) -> bool
-    ensures { result ≡ nat_eq (slice_index text.now 0) 10 }
-{
-    match text {
-        [first, ..] => *first == b'\n',
-        [] => false,
+        Stage::Head => Err(ScaleError::Ended),
+        Stage::Sizes(_) => Err(ScaleError::Ended),
     }
 }

@@ -25,6 +25,10 @@ const TEXTS: &[(Failure, &str)] = &[
         Failure::Wide(3),
         "a value or a sum of repeated entries does not fit in 64 bits",
     ),
+    (
+        Failure::Overflow(1),
+        "a sum of repeated entries does not fit in 128 bits",
+    ),
     (Failure::NotSymmetric, "not symmetric"),
     (Failure::Shapes, "shapes do not fit"),
     (Failure::NoFactors, "no factorisation L D L^T exists"),

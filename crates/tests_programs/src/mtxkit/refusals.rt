@@ -59,6 +59,9 @@ const COMPLEX: &[u8] = b"%%MatrixMarket matrix coordinate complex general\n1 1 1
 // An entry is missing, and none is real.
 const SHORT_REAL: &[u8] = b"%%MatrixMarket matrix coordinate real general\n1 1 1\n";
 
+const NO_HEADER: &str =
+    "mtxkit: -:1: no header; expected %%MatrixMarket matrix and a format, a field and a symmetry\n";
+
 /// What commands answer over an output that takes nothing.
 pub const REFUSALS: &[Refusal] = &[
     (&["info", "-"], ONE, 1, UNWRITTEN),
@@ -91,23 +94,31 @@ pub const REFUSALS: &[Refusal] = &[
         1,
         "mtxkit: -:1: the values are not decimal numbers but complex ones or a pattern\n",
     ),
-    (
-        &["integer", "-"],
-        b"1 1\n",
-        1,
-        "mtxkit: -:1: no Matrix Market header\n",
-    ),
+    (&["integer", "-"], b"1 1\n", 1, NO_HEADER),
     (
         &["integer", "-"],
         b"%%MatrixMarket matrix array real general\n1\n",
         1,
-        "mtxkit: -:2: no size line that fits the header\n",
+        "mtxkit: -:2: no size line; expected rows, columns and, in the format coordinate, entries\n",
     ),
     (
         &["integer", "-"],
         b"%%MatrixMarket matrix array real general\n1 1\n\n1 1\n",
         1,
         "mtxkit: -:4: no data line that fits the header\n",
+    ),
+    (&["info", "-"], b"1 1\n", 1, NO_HEADER),
+    (
+        &["info", "-"],
+        b"\n\n",
+        1,
+        "mtxkit: -:2: no header; expected %%MatrixMarket matrix and a format, a field and a symmetry\n",
+    ),
+    (
+        &["info", "-"],
+        b"%%MatrixMarket matrix array real general\n1\n",
+        1,
+        "mtxkit: -:2: no size line; expected rows, columns and, in the format coordinate, entries\n",
     ),
     (
         &["integer", "-"],
@@ -122,7 +133,12 @@ pub const REFUSALS: &[Refusal] = &[
     (&["field", "integer", "-"], LARGE_SUM, 1, TOO_WIDE),
     (&["symmetric", "-"], MIRRORED, 1, TOO_WIDE),
     (&["info", "-"], REPEATED, 1, UNWRITTEN),
-    (&["info", "-"], BEYOND, 1, TOO_WIDE),
+    (
+        &["info", "-"],
+        BEYOND,
+        1,
+        "mtxkit: -: a sum of repeated entries does not fit in 128 bits\n",
+    ),
     (&["info", "-"], LEAST, 1, UNWRITTEN),
     (&["spy", "-"], REPEATED, 1, UNWRITTEN),
     (&["info", "-"], LARGE, 1, UNWRITTEN),
@@ -134,13 +150,28 @@ pub const REFUSALS: &[Refusal] = &[
         1,
         "mtxkit: not symmetric\n",
     ),
-    // The whole of standard input is the first file, and the second is empty.
+    // Rows that no memory has room for.
     (
-        &["solve", "-", "-"],
-        ONE,
+        &["symmetric", "-"],
+        b"%%MatrixMarket matrix coordinate integer general\n1000000000000000000 1 1\n1 1 1\n",
         1,
-        "mtxkit: -:1: no header; expected %%MatrixMarket matrix and a format, a field and a symmetry\n",
+        "mtxkit: not symmetric\n",
     ),
+    (
+        &["symmetric", "-"],
+        b"%%MatrixMarket matrix coordinate pattern general\n1000000000000000000 1 1\n1 1\n",
+        1,
+        "mtxkit: not symmetric\n",
+    ),
+    // A skew-symmetric matrix is not symmetric, and is expanded.
+    (
+        &["symmetric", "-"],
+        b"%%MatrixMarket matrix coordinate integer skew-symmetric\n2 2 1\n2 1 1\n",
+        1,
+        UNWRITTEN,
+    ),
+    // The whole of standard input is the first file, and the second is empty.
+    (&["solve", "-", "-"], ONE, 1, NO_HEADER),
     (
         &["info", "-"],
         &[0xff, 0xfe],

@@ -1,10 +1,8 @@
+use Rattle.std.proofs.Common.{rules}
 use Rattle.std.proofs.lemmas.Result.{IfOk-weaker}
-use Rattle.mtxkit_matrices.proofs.CopiedLines.{is_commented, is_contained, comment_step, copied}
-use Rattle.mtxkit_matrices.proofs.ScaleRefusals.{memory_failed}
+use Rattle.mtxkit_matrices.proofs.CopiedLines.{is_commented, are_content, comment_step, copied}
+use Rattle.mtxkit_matrices.proofs.ScaleRefusals.{line_memory_failed, sizes_refused}
 use Rattle.mtxkit_matrices.proofs.decimals.stage.push_line.Goals as goal
-
-pub returns-in-Head-clause-refused : goal.returns-in-Head-clause-refused
-returns-in-Head-clause-refused c = c.push_header.ensures.refused c.args.scale
 
 pub returns-in_default-stage-clause-written : goal.returns-in_default-stage-clause-written
 returns-in_default-stage-clause-written c =
@@ -18,16 +16,19 @@ returns-in_default-stage-clause-written c =
 
 pub returns-in_default-stage-clause-refused : goal.returns-in_default-stage-clause-refused
 returns-in_default-stage-clause-refused c =
-    memory_failed c.args.scale c.args.number _ c.push_bytes-in_default-stage.result
+    line_memory_failed c.args.scale c.args.number c.args.stage _
+    c.push_bytes-in_default-stage.result
     c.push_bytes-in_default-stage.ensures.refused
 
 pub push_sizes-requires-clause-content : goal.push_sizes-requires-clause-content
 push_sizes-requires-clause-content c =
-    is_contained c.args.line.now c.in-Some.ensures c.is_comment.ensures c.if-is_comment.false
+    are_content c.args.line.now c.in-Some.ensures c.is_comment.ensures c.if-is_comment.false
 
 pub returns-in-Sizes-clause-refused : goal.returns-in-Sizes-clause-refused
-returns-in-Sizes-clause-refused c = c.push_sizes.ensures.refused c.args.scale
+returns-in-Sizes-clause-refused c =
+    sizes_refused c.args.scale c.args.number _ _ c.push_sizes.result c.args.stage
+    c.push_sizes.ensures.refused (search rules)
 
 pub push_entry-requires : goal.push_entry-requires
 push_entry-requires c =
-    is_contained c.args.line.now c.in-Some.ensures c.is_comment.ensures c.if-is_comment.false
+    are_content c.args.line.now c.in-Some.ensures c.is_comment.ensures c.if-is_comment.false

@@ -1,12 +1,38 @@
-use Rattle.std.proofs.Common.{refl, inr}
+use Rattle.std.proofs.Common.{Some, Result, refl, ap, ◌∙◌, inl, inr}
+use Rattle.std.proofs.lemmas.Result.{IfErr-weaker}
+use Rattle.sparse_parser.specs.declared.error.Cause.{Cause}
+use Rattle.sparse_parser.specs.declared.size.Size.{Size}
 use Rattle.mtxkit_matrices.specs.declared.decimals.stage.Stage.TheVariants.{Sizes, Entries}
-use Rattle.mtxkit_matrices.proofs.CopiedLines.{copied, sized_from}
+use Rattle.mtxkit_matrices.proofs.CopiedLines.{copied, sized, unsized, no_size}
 use Rattle.mtxkit_matrices.proofs.decimals.stage.push_sizes.Goals as goal
 
 pub returns-in-Some-Ok-clause-written : goal.returns-in-Some-Ok-clause-written
 returns-in-Some-Ok-clause-written c =
-    let sized = sized_from c.args.header _ c.from_line.result _ c.in-Some-Ok.is
-    c.from_line.ensures in
+    let sizes = sized c.args.header _ c.from_line.result c.from_line.ensures _
+    (c.in-Some-Ok.is ∙ ap (λ (x : Result Size Cause). Some x) c.in-Some-Ok.field-0-is) in
     copied c.args.line.now _ _ (Sizes c.args.header) (Entries c.args.header) c.requires.plain
-    (λ scale. inr (c.requires.content, refl, refl, sized)) c.push_bytes.result
+    (λ scale. inr (c.requires.content.content, refl, refl, sizes.0, sizes.1)) c.push_bytes.result
     c.push_bytes.ensures.next c.push_bytes.ensures.appended
+
+pub returns-in-Some-Ok-clause-refused : goal.returns-in-Some-Ok-clause-refused
+returns-in-Some-Ok-clause-refused c =
+    IfErr-weaker c.push_bytes.result _ _ (λ e k scale. inl k) c.push_bytes.ensures.refused
+
+pub returns-in-Some-Err-clause-refused : goal.returns-in-Some-Err-clause-refused
+returns-in-Some-Err-clause-refused c = λ scale.
+    inr (
+      c.requires.content,
+      (
+        refl,
+        unsized c.args.header _ c.from_line.result c.from_line.ensures c.in-Some-Err.cause _
+            (c.in-Some-Err.is ∙ ap (λ (x : Result Size Cause). Some x) c.in-Some-Err.field-0-is)
+            c.of_size.ensures,
+      ),
+    )
+
+pub returns-in-None-clause-refused : goal.returns-in-None-clause-refused
+returns-in-None-clause-refused c = λ scale.
+    inr (
+      c.requires.content,
+      (refl, no_size c.args.header _ c.from_line.result c.from_line.ensures c.in-None.is),
+    )

@@ -1,8 +1,8 @@
 use Rattle.std.proofs.Common.{◌≢◌, length, sym, ◌∙◌, arith}
 use Rattle.std.proofs.lemmas.Bool.{eqb-true, eqb-false}
-use Rattle.mtxkit_matrices.proofs.CountedLines.{counted_first, counted_more, counted_line}
-use Rattle.mtxkit_matrices.proofs.LineEnds.{IsCut, cut_plain, cut_ends, cut_shorter}
-use Rattle.mtxkit_matrices.proofs.ScaleRefusals.{text_failed}
+use Rattle.mtxkit_matrices.specs.InnerLines.{IsCut}
+use Rattle.mtxkit_matrices.proofs.LineEnds.{cut_plain, cut_ends, cut_shorter}
+use Rattle.mtxkit_matrices.proofs.ScaleRefusals.{text_failed, ends_blank, ends_unsized}
 use Rattle.mtxkit_matrices.proofs.Rewriting.{text_begins, text_more, text_ends}
 use Rattle.mtxkit_matrices.proofs.decimals.text.scaled_text.Goals as goal
 use Rattle.mtxkit_matrices.proofs.decimals.text.scaled_text.Goals.{After-split_line}
@@ -10,7 +10,6 @@ use Rattle.mtxkit_matrices.proofs.decimals.text.scaled_text.Goals.{After-split_l
 pub loop-rest-init : goal.loop-rest-init
 loop-rest-init c = record {
   written = rw c.new-written.ensures.items (text_begins c.args.scale c.args.text.now);
-  counted = counted_first c.args.text.now;
   number = omega arith;
 }
 
@@ -44,18 +43,26 @@ loop-rest-preserved c =
       written = rw (c.in-Ok-push_bytes.ensures.next, c.in-Ok-push_bytes.ensures.appended)
           (text_more c.args.scale c.args.text.now c.loop-rest.invariant.written line
           c.after_end-rest.ensures c.in-Ok.ensures.written);
-      counted = counted_more line c.loop-rest.invariant.counted _ c.after_end-rest.ensures;
       number = omega arith;
     }
 
 pub returns-in-Err-clause-refused : goal.returns-in-Err-clause-refused
 returns-in-Err-clause-refused c =
-    text_failed c.args.scale c.loop-rest.number c.args.text.now c.split_line.result.0.now
-    (counted_line (cut (goal.at.returns-in-Err-clause-refused c).After-split_line)
-    c.loop-rest.invariant.counted) _ c.in-Err.ensures.refused
+    text_failed (cut (goal.at.returns-in-Err-clause-refused c).After-split_line) c.loop-rest.stage
+    c.loop-rest.invariant.written _ c.in-Err.ensures.refused
 
 pub returns-in-Entries-clause-written : goal.returns-in-Entries-clause-written
 returns-in-Entries-clause-written c =
-    text_ends c.args.scale c.args.text.now c.loop-rest.rest.now _ c.in-Entries.field-0
+    text_ends c.args.scale c.args.text.now _ c.loop-rest.rest.now _ c.in-Entries.field-0
     (rw c.in-Entries.is at c.loop-rest.invariant.written)
     (eqb-true _ _ (sym c.is_empty.ensures ∙ c.loop-rest-test.false))
+
+pub returns-in-Head-clause-refused : goal.returns-in-Head-clause-refused
+returns-in-Head-clause-refused c =
+    ends_blank (eqb-true _ _ (sym c.is_empty.ensures ∙ c.loop-rest-test.false))
+    (rw c.in-Head.is at c.loop-rest.invariant.written)
+
+pub returns-in-Sizes-clause-refused : goal.returns-in-Sizes-clause-refused
+returns-in-Sizes-clause-refused c =
+    ends_unsized (eqb-true _ _ (sym c.is_empty.ensures ∙ c.loop-rest-test.false))
+    c.in-Sizes.field-0 (rw c.in-Sizes.is at c.loop-rest.invariant.written)

@@ -1,8 +1,8 @@
 use Rattle.std.proofs.Common.{◌≢◌, ◌<◌, get_or, length, sym, ◌∙◌, arith}
 use Rattle.std.proofs.lemmas.Bool.{eqb-true, eqb-false}
 use Rattle.mtxkit_matrices.proofs.LineEnds.{ended_one, ended_two}
-use Rattle.mtxkit_matrices.proofs.decimals.text.after_end.Goals as goal
-use Rattle.mtxkit_matrices.proofs.decimals.text.after_end.Goals.{After-text_from-rest}
+use Rattle.mtxkit_matrices.proofs.lines.after_end.Goals as goal
+use Rattle.mtxkit_matrices.proofs.lines.after_end.Goals.{After-text_from-rest}
 
 some : (c : After-text_from-rest) → 0 < length c.args.text.now
 some c =

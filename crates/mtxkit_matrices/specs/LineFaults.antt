@@ -1,0 +1,24 @@
+-- What is wrong with the header or the size line of a text.
+use Rattle.std.specs.Prelude.{◌≡◌, ◌⊎◌, ℕ, true, false, List, Err}
+use Rattle.sparse_parser.specs.declared.error.MatrixMarketErrorKind.{MatrixMarketErrorKind}
+use Rattle.sparse_parser.specs.declared.error.MatrixMarketErrorKind.TheVariants as kinds
+use Rattle.sparse_parser.specs.declared.header.Header.{Header}
+use Rattle.sparse_parser.specs.Grammar.{is_size}
+use Rattle.sparse_parser.specs.Meaning.{sizes_of}
+use Rattle.mtxkit_matrices.specs.declared.line_faults.LineFault.{LineFault}
+use Rattle.mtxkit_matrices.specs.declared.line_faults.LineFault.TheVariants as faults
+
+-- what a header or a size line with an error of this kind is said to have: a size line that is
+-- invalid has the wrong numbers, or is not of a square matrix
+abbrev pub IsFaultOfKind : MatrixMarketErrorKind → LineFault → Type 0
+IsFaultOfKind kinds.InvalidHeader fault = (fault ≡ faults.Hermitian) ⊎ (fault ≡ faults.Pattern)
+IsFaultOfKind kinds.ParsingError fault =
+    (fault ≡ faults.SizeCount) ⊎ (fault ≡ faults.SizeTooLarge)
+IsFaultOfKind kinds.NonSquare fault = fault ≡ faults.NotSquare
+IsFaultOfKind kind fault = Unit {0}
+
+-- the words are no size line, or one that is invalid below the header
+abbrev pub IsSizesFault : Header → List (List ℕ) → LineFault → Type 0
+IsSizesFault h words fault = ((is_size words ≡ false) × (fault ≡ faults.Size))
+    ⊎ ((kind : MatrixMarketErrorKind) × (is_size words ≡ true)
+    × (sizes_of h words ≡ Err kind) × IsFaultOfKind kind fault)
