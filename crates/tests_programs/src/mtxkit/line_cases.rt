@@ -5,6 +5,19 @@ pub type LineCase = (&'static str, &'static str);
 
 /// Texts that mean errors, and the first line of each that is at fault.
 pub const LINE_CASES: &[LineCase] = &[
+    // A text that ends too early is at fault in its last line.
+    (
+        "",
+        "1: no header; expected %%MatrixMarket matrix and a format, a field and a symmetry",
+    ),
+    (
+        "\n\n",
+        "2: no header; expected %%MatrixMarket matrix and a format, a field and a symmetry",
+    ),
+    (
+        "\r\n \t",
+        "2: no header; expected %%MatrixMarket matrix and a format, a field and a symmetry",
+    ),
     (
         "\n\n%%MatrixMarket matrix\n1 1 0\n",
         "3: no header; expected %%MatrixMarket matrix and a format, a field and a symmetry",
@@ -19,7 +32,7 @@ pub const LINE_CASES: &[LineCase] = &[
     ),
     (
         "%%MatrixMarket matrix coordinate integer general\n% none\n",
-        "3: no size line; expected rows, columns and, in the format coordinate, entries",
+        "2: no size line; expected rows, columns and, in the format coordinate, entries",
     ),
     (
         "%%MatrixMarket matrix coordinate integer general\n% below\n2 2\n",

@@ -110,12 +110,6 @@ pub const REFUSALS: &[Refusal] = &[
     (&["info", "-"], b"1 1\n", 1, NO_HEADER),
     (
         &["info", "-"],
-        b"\n\n",
-        1,
-        "mtxkit: -:2: no header; expected %%MatrixMarket matrix and a format, a field and a symmetry\n",
-    ),
-    (
-        &["info", "-"],
         b"%%MatrixMarket matrix array real general\n1\n",
         1,
         "mtxkit: -:2: no size line; expected rows, columns and, in the format coordinate, entries\n",
