@@ -3,17 +3,20 @@
 
 use mtxkit_commands::answer;
 use mtxkit_texts::Screen;
+use sparse_io::Out;
 use std::env;
 use std::process::ExitCode;
 
 fn main(rt: HostRuntime) -> ExitCode {
     let screen = Screen::of(rt.stderr());
+    let mut out = Out::new(rt.stdout());
+    let mut err = Out::new(rt.stderr());
     answer(
         &rt,
         env::args(&rt),
         rt.stdin(),
-        rt.stdout(),
-        rt.stderr(),
+        &mut out,
+        &mut err,
         screen,
     )
 }

@@ -2,3 +2,4 @@ mod Listed
 mod Remainders
 mod Solving
 mod Readings
+mod Reports

@@ -1,5 +1,5 @@
 -- Systems whose matrices are given by scalars and by integers that mean them.
-use Rattle.std.proofs.Common.{◌≡◌, ◌⊎◌, ◌↔◌, ℤ, inl, inr, Ok}
+use Rattle.std.proofs.Common.{◌≡◌, ◌⊎◌, ◌↔◌, ℕ, ℤ, Bool, Option, inl, inr, Ok}
 use Rattle.std.proofs.Common.{Err, Result, subst, refl, sym, ap, ◌∙◌}
 use Rattle.std.proofs.lemmas.Bool.{cases_eq}
 use Rattle.sparse_algebra.specs.Algebra.{CommRing}
@@ -11,8 +11,12 @@ use Rattle.mtxkit_matrices.specs.Values.{IsSymmetricMatrix}
 use Rattle.mtxkit_matrices.specs.Systems.{HasNoFactorisation, IsEquation, IsSystem}
 use Rattle.mtxkit_matrices.specs.declared.systems.SystemError.{SystemError}
 use Rattle.mtxkit_matrices.specs.declared.systems.SystemError.TheVariants as system
+use Rattle.mtxkit_texts.specs.declared.failure.Failure.{Failure}
+use Rattle.mtxkit_texts.specs.declared.failure.Failure.TheVariants.{Modulus}
+use Rattle.mtxkit_commands.specs.Rings.{ring_of, reduced_by, ring_value}
 use Rattle.mtxkit_commands.specs.SystemErrors.{system_fault}
 use Rattle.mtxkit_commands.specs.Systems.{plain_of_integers, IsSolved, IsTested}
+use Rattle.mtxkit_commands.specs.Systems.{IsSolvedBy, IsTestedBy}
 
 -- ---- shapes that fit, or do not
 
@@ -138,3 +142,17 @@ module _ (R : CommRing) where
       untested system.NoFactors says (inl e) = absurd (cc)
       untested system.NoFactors says (inr e) = absurd (cc)
       untested system.OutOfMemory says only = tt
+
+-- ---- what holds in the ring that a modulus names, by the modulus
+
+pub solved_by : (m : Option ℕ) (a b : Coo ℤ) (solved : Result (Coo ℤ) Failure)
+    → IsSolved (ring_of m) (ring_value m) (reduced_by m) a b solved → IsSolvedBy m a b solved
+solved_by m a b (Ok x) is = is
+solved_by m a b (Err Modulus) is = absurd is
+solved_by m a b (Err failure) is = is
+
+pub tested_by : (m : Option ℕ) (a x b : Coo ℤ) (tested : Result Bool Failure)
+    → IsTested (ring_of m) a x b tested → IsTestedBy m a x b tested
+tested_by m a x b (Ok same) is = is
+tested_by m a x b (Err Modulus) is = absurd is
+tested_by m a x b (Err failure) is = is

@@ -1,5 +1,5 @@
 -- What commands write.
-use Rattle.std.specs.Prelude.{◌≡◌, ◌⊎◌, ◌<◌, ℕ, List, ◌∷◌, Option, Ok}
+use Rattle.std.specs.Prelude.{◌≡◌, ◌⊎◌, ◌+◌, ◌<◌, ℕ, List, ◌∷◌, Option, Some, Ok}
 use Rattle.std.specs.Prelude.{Bool, true, false}
 use Rattle.std.specs.declared.io.Error.{Error}
 use Rattle.std.specs.declared.io.ErrorKind.{ErrorKind}
@@ -161,30 +161,6 @@ IsScaleError scale file old new (Failed failure) =
     FailsOne file (λ text f. f ≡ OutOfMemory) old new failure
 IsScaleError scale file old new (Unscaled error) = IsUnscaled scale file old new error
 
--- a write to the output failed
-abbrev pub IsUnwritten : Failure → Type 0
-IsUnwritten failure = (kind : ErrorKind) × (failure ≡ Write kind)
-
--- the file of the answer was not made or written
-abbrev pub IsUnsaved : Failure → Type 0
-IsUnsaved failure = (error : Error) × (failure ≡ Unsaved error)
-
--- why a command fails: it has no answer, or the answer is not written
-abbrev pub CanFail : Command → List Reading → List Reading → CommandError → Type 0
-CanFail command before after (Failed failure) =
-    IsFailure command before after failure ⊎ (IsUnsaved failure ⊎ IsUnwritten failure)
-CanFail command before after (Unscaled error) = IsUnscaledBy command before after error
-
--- the exit status of an error
-abbrev pub error_status : CommandError → ℕ
-error_status (Failed failure) = status_of failure
-error_status (Unscaled error) = 1
-
--- the picture has at least one cell
-abbrev pub IsSized : Command → Type 0
-IsSized (Spy file size target) = 0 < size
-IsSized command = Unit {0}
-
 -- the picture is written to a file
 abbrev pub is_file : Target → Bool
 is_file Bitmap = false
@@ -195,6 +171,41 @@ is_file (File path) = true
 abbrev pub is_saved : Command → Bool
 is_saved (Spy file size target) = is_file target
 is_saved command = false
+
+-- one more write to the output failed than before, the last one, and this is its kind
+abbrev pub IsUnwritten : ℕ → ℕ → Option ErrorKind → Failure → Type 0
+IsUnwritten before after last failure =
+    (kind : ErrorKind) × (failure ≡ Write kind) × (after ≡ before + 1) × (last ≡ Some kind)
+
+-- the file of the answer was not made or written
+abbrev pub IsUnsaved : Failure → Type 0
+IsUnsaved failure = (error : Error) × (failure ≡ Unsaved error)
+
+-- a command fails where no write to the output failed: it has no answer, or names a file for the
+-- answer, which was not made or written
+abbrev pub IsUnanswered : Command → List Reading → List Reading → Failure → Type 0
+IsUnanswered command old new failure =
+    IsFailure command old new failure ⊎ ((is_saved command ≡ true) × IsUnsaved failure)
+
+-- why a command fails, by the writes to the output that failed before it and after it, and the kind
+-- of the last one
+abbrev pub CanFail : Command → List Reading → List Reading → ℕ → ℕ → Option ErrorKind
+    → CommandError → Type 0
+CanFail command old new before after last (Failed failure) =
+    ((after ≡ before) × IsUnanswered command old new failure)
+    ⊎ IsUnwritten before after last failure
+CanFail command old new before after last (Unscaled error) =
+    (after ≡ before) × IsUnscaledBy command old new error
+
+-- the exit status of an error
+abbrev pub error_status : CommandError → ℕ
+error_status (Failed failure) = status_of failure
+error_status (Unscaled error) = 1
+
+-- the picture has at least one cell
+abbrev pub IsSized : Command → Type 0
+IsSized (Spy file size target) = 0 < size
+IsSized command = Unit {0}
 
 -- nothing was appended where the answer went to a file, and otherwise the answer
 abbrev pub IsDelivered : Bool → Command → List Reading → List Reading → Option (List ℕ)

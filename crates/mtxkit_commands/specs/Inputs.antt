@@ -5,7 +5,7 @@ use Rattle.std.specs.declared.io.Error.{Error}
 use Rattle.std.specs.declared.io.ErrorKind.{ErrorKind}
 use Rattle.std.specs.declared.io.ErrorKind.TheVariants as io
 use Rattle.mtxkit_texts.specs.declared.failure.Failure.{Failure}
-use Rattle.mtxkit_texts.specs.declared.failure.Failure.TheVariants.{Unread, OutOfMemory, Usage}
+use Rattle.mtxkit_texts.specs.declared.failure.Failure.TheVariants.{Unread, OutOfMemory}
 
 -- the path of a file, and its text, or the error of opening or reading it
 abbrev pub Reading : Type 0
@@ -24,11 +24,6 @@ unread_fault kind number error = Unread number error
 -- the failure of the file with this number, which cannot be opened or read
 abbrev pub input_fault : ℕ → Error → Failure
 input_fault number error = unread_fault (error_kind error) number error
-
--- the failure of arguments that cannot be read
-abbrev pub argument_fault : ErrorKind → Failure
-argument_fault io.OutOfMemory = OutOfMemory
-argument_fault kind = Usage
 
 -- the next file that was read has this path and this text
 abbrev pub IsRead : List ℕ → List Reading → List Reading → List ℕ → Type 0

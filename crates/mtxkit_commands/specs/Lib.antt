@@ -1,6 +1,8 @@
+pub mod Moduli
 pub mod Rings
 pub mod Systems
 pub mod Commands
 pub mod Inputs
+pub mod Arguments
 pub mod SystemErrors
 pub mod Names

@@ -1,9 +1,13 @@
 -- The files that the lines of errors name.
-use Rattle.std.specs.Prelude.{◌≡◌, ℕ, ◌==◌, if◌then◌else◌, List, [], ◌++◌, codes, Option}
+use Rattle.std.specs.Prelude.{◌≡◌, ◌⊎◌, ℕ, ◌+◌, ◌==◌, if◌then◌else◌, List, [], ◌++◌, codes, Option}
 use Rattle.std.specs.Prelude.{Some, None}
+use Rattle.std.specs.Io.KnownBytes.{Appends}
 use Rattle.mtxkit_texts.specs.declared.failure.Failure.{Failure}
 use Rattle.mtxkit_texts.specs.declared.failure.Failure.TheVariants.{Unread, Input, NotCarried}
 use Rattle.mtxkit_texts.specs.declared.failure.Failure.TheVariants.{Wide, Overflow, Unsaved}
+use Rattle.mtxkit_commands.specs.declared.command_error.CommandError.{CommandError}
+use Rattle.mtxkit_commands.specs.declared.command_error.CommandError.TheVariants.{Failed}
+use Rattle.mtxkit_commands.specs.declared.command_error.CommandError.TheVariants.{Unscaled}
 use Rattle.mtxkit_commands.specs.declared.commands.Command.{Command}
 use Rattle.mtxkit_commands.specs.declared.commands.Command.TheVariants.{Info, Spy, Field}
 use Rattle.mtxkit_commands.specs.declared.commands.Command.TheVariants.{Integer}
@@ -55,6 +59,11 @@ fault_file command (Overflow number) = file_of command number
 fault_file command (Unsaved error) = saved_file command
 fault_file command failure = None
 
+-- the path of the file that an error of the command is about
+abbrev pub error_file : Command → CommandError → Option (List ℕ)
+error_file command (Failed failure) = fault_file command failure
+error_file command (Unscaled error) = Some (first_file command)
+
 -- the name of a file before what is said of it
 abbrev pub name_text : Option (List ℕ) → List ℕ
 name_text (Some path) = path
@@ -64,3 +73,23 @@ name_text None = []
 abbrev pub IsErrorLine : Option (List ℕ) → List ℕ → Type 0
 IsErrorLine path line =
     (rest : List ℕ) × (line ≡ (codes "mtxkit: " ++ name_text path) ++ rest)
+
+-- the line says that an allocation failed
+abbrev pub IsMemoryLine : List ℕ → Type 0
+IsMemoryLine line = line ≡ codes "mtxkit: out of memory\n"
+
+-- a text was appended, or a write of it failed, by the failed writes before it and after it
+abbrev pub IsWritten : List ℕ → Option (List ℕ) → Option (List ℕ) → ℕ → ℕ → Type 0
+IsWritten text old new before after = Appends old new text ⊎ (after ≡ before + 1)
+
+-- a line was written that names this file, or says that an allocation failed
+pub record IsReported (path : Option (List ℕ)) (old new : Option (List ℕ)) (before after : ℕ)
+    : Type 0 where
+  pub line : List ℕ
+  pub names : IsErrorLine path line ⊎ IsMemoryLine line
+  pub written : IsWritten line old new before after
+
+-- the same, whatever file the line names
+abbrev pub HasReport : Option (List ℕ) → Option (List ℕ) → ℕ → ℕ → Type 0
+HasReport old new before after =
+    (path : Option (List ℕ)) × IsReported path old new before after

@@ -19,6 +19,7 @@ use Rattle.mtxkit_texts.specs.declared.failure.Failure.{Failure}
 use Rattle.mtxkit_texts.specs.declared.failure.Failure.TheVariants.{Shapes, NotSymmetric, NoFactors}
 use Rattle.mtxkit_texts.specs.declared.failure.Failure.TheVariants.{NotSolution, Modulus}
 use Rattle.mtxkit_texts.specs.declared.failure.Failure.TheVariants.{OutOfMemory}
+use Rattle.mtxkit_commands.specs.Moduli.{IsUnlisted}
 use Rattle.mtxkit_commands.specs.Rings.{ring_of, reduced_by, ring_value}
 
 -- ---- lists of integers, each of which means an element of a ring: that many times one
@@ -48,7 +49,6 @@ module _ (R : CommRing) where
   IsUnsolved g a b Shapes = IsSystem a b → ⊥
   IsUnsolved g a b NotSymmetric = IsSystem a b × (¬ IsSymmetricMatrix R (plain_of_integers a))
   IsUnsolved g a b NoFactors = IsSystem a b × HasNoFactorisation R g (plain_of_integers a)
-  IsUnsolved g a b Modulus = Unit {0}
   IsUnsolved g a b OutOfMemory = Unit {0}
   IsUnsolved g a b failure = ⊥
 
@@ -61,7 +61,6 @@ module _ (R : CommRing) where
   abbrev pub IsUntested : Coo ℤ → Coo ℤ → Coo ℤ → Failure → Type 0
   IsUntested a x b Shapes = IsEquation a x b → ⊥
   IsUntested a x b NotSolution = IsEquation a x b × (¬ IsProduct a x b)
-  IsUntested a x b Modulus = Unit {0}
   IsUntested a x b OutOfMemory = Unit {0}
   IsUntested a x b failure = ⊥
 
@@ -72,17 +71,40 @@ module _ (R : CommRing) where
 
 -- ---- by the modulus that a command gives, if any
 
+-- why there is no solution: the modulus is not listed; or it is, and there is none in its ring
+abbrev pub IsUnsolvedBy : Option ℕ → Coo ℤ → Coo ℤ → Failure → Type 0
+IsUnsolvedBy m a b Modulus = IsUnlisted m
+IsUnsolvedBy m a b failure = IsUnsolved (ring_of m) (ring_value m) a b failure
+
 abbrev pub IsSolvedBy : Option ℕ → Coo ℤ → Coo ℤ → Result (Coo ℤ) Failure → Type 0
-IsSolvedBy m a b solved = IsSolved (ring_of m) (ring_value m) (reduced_by m) a b solved
+IsSolvedBy m a b (Ok x) = Solves (ring_of m) (reduced_by m) a x b
+IsSolvedBy m a b (Err failure) = IsUnsolvedBy m a b failure
+
+-- why a solution is not confirmed: the same
+abbrev pub IsUntestedBy : Option ℕ → Coo ℤ → Coo ℤ → Coo ℤ → Failure → Type 0
+IsUntestedBy m a x b Modulus = IsUnlisted m
+IsUntestedBy m a x b failure = IsUntested (ring_of m) a x b failure
 
 abbrev pub IsTestedBy : Option ℕ → Coo ℤ → Coo ℤ → Coo ℤ → Result Bool Failure → Type 0
-IsTestedBy m a x b tested = IsTested (ring_of m) a x b tested
+IsTestedBy m a x b (Ok same) =
+    IsEquation a x b × (IsTrue same ↔ IsProduct (ring_of m) a x b)
+IsTestedBy m a x b (Err failure) = IsUntestedBy m a x b failure
 
 -- ---- texts
 
 -- the text with this number means an error, read as integers
 abbrev pub IsNoList : ℕ → List ℕ → Failure → Type 0
 IsNoList number text failure = IsRefused (signed_scalar w128) number text failure
+
+-- the second text means an error, and the first one a list
+abbrev pub IsSecondNoList : List ℕ → List ℕ → Failure → Type 0
+IsSecondNoList first second failure =
+    (list : Coo ℤ) × MeansIntegers first list × IsNoList 2 second failure
+
+-- the third text means an error, and the first two lists
+abbrev pub IsThirdNoList : List ℕ → List ℕ → List ℕ → Failure → Type 0
+IsThirdNoList first second third failure = (one two : Coo ℤ)
+    × MeansIntegers first one × MeansIntegers second two × IsNoList 3 third failure
 
 -- the text of a matrix X for which A X = B, of the matrices that two texts mean
 pub record WritesSolution (m : Option ℕ) (first second written : List ℕ) : Type 0 where
@@ -100,12 +122,12 @@ pub record HasNoSolution (m : Option ℕ) (first second : List ℕ) (failure : F
   pub b : Coo ℤ
   pub first_means : MeansIntegers first a
   pub second_means : MeansIntegers second b
-  pub why : IsUnsolved (ring_of m) (ring_value m) a b failure
+  pub why : IsUnsolvedBy m a b failure
 
--- an allocation failed, a text means no list, or there is no solution
+-- an allocation failed, a text means no list and those before it do, or there is no solution
 abbrev pub IsSolveFailure : Option ℕ → List ℕ → List ℕ → Failure → Type 0
 IsSolveFailure m first second failure =
-    (failure ≡ OutOfMemory) ⊎ (IsNoList 1 first failure ⊎ (IsNoList 2 second failure
+    (failure ≡ OutOfMemory) ⊎ (IsNoList 1 first failure ⊎ (IsSecondNoList first second failure
     ⊎ HasNoSolution m first second failure))
 
 -- of the matrices that three texts mean, A X = B
@@ -128,10 +150,10 @@ pub record IsNoEquation (m : Option ℕ) (first second third : List ℕ) (failur
   pub first_means : MeansIntegers first a
   pub second_means : MeansIntegers second x
   pub third_means : MeansIntegers third b
-  pub why : IsUntested (ring_of m) a x b failure
+  pub why : IsUntestedBy m a x b failure
 
--- an allocation failed, a text means no list, or A X = B is not so
+-- an allocation failed, a text means no list and those before it do, or A X = B is not so
 abbrev pub IsCheckFailure : Option ℕ → List ℕ → List ℕ → List ℕ → Failure → Type 0
 IsCheckFailure m first second third failure =
-    (failure ≡ OutOfMemory) ⊎ (IsNoList 1 first failure ⊎ (IsNoList 2 second failure
-    ⊎ (IsNoList 3 third failure ⊎ IsNoEquation m first second third failure)))
+    (failure ≡ OutOfMemory) ⊎ (IsNoList 1 first failure ⊎ (IsSecondNoList first second failure
+    ⊎ (IsThirdNoList first second third failure ⊎ IsNoEquation m first second third failure)))

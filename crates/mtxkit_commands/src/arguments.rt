@@ -2,13 +2,14 @@
 
 ghost use Rattle.clap.specs.Values.{kind_of};
 ghost use Rattle.clap.specs.declared.error.kind.ErrorKind.TheVariants as words;
-ghost use Rattle.std.specs.Prelude.{◌≡◌, ◌≤◌, IfOk, IfErr, IsTrue, Err};
+ghost use Rattle.std.specs.Prelude.{◌≡◌, ◌≢◌, ◌≤◌, IfOk, IfErr, IsTrue, Err, None};
 ghost use Rattle.std.specs.IoError.{error_kind};
 ghost use Rattle.std.specs.Process.{exit_status};
-ghost use Rattle.mtxkit_texts.specs.Statuses.{status_of};
-ghost use Rattle.mtxkit_texts.specs.declared.failure.Failure.TheVariants.{OutOfMemory};
-ghost use Rattle.mtxkit_commands.specs.Inputs.{argument_fault};
+ghost use Rattle.mtxkit_commands.specs.Arguments.{argument_fault, argument_status};
+ghost use Rattle.mtxkit_commands.specs.Names.{HasReport, IsReported};
+ghost use Rattle.mtxkit_commands.specs.declared.argument_error.ArgumentError.TheVariants.{OutOfMemory};
 
+use crate::argument_error::ArgumentError;
 use crate::cli::{finish, run};
 use crate::failure_lines::report;
 use crate::inputs::{Inputs, Texts};
@@ -24,31 +25,36 @@ use std::rt::Files;
 /// Runs the command that the arguments give over the streams, and returns the exit status.
 ///
 /// The first argument is the program's name. An argument that is not UTF-8 is wrong usage; an allocation failure while
-/// the arguments are read is reported as one of the command. Help is written to `stdout`. At status 0 the output was
-/// flushed, and a failed flush is reported as a failed write. The screen shows the progress of reading large files.
+/// the arguments are read is reported as one of the command. Help is written to `out`. At status 0 the output was
+/// flushed, and a failed flush is reported as a failed write. At another status a line was written to `err`, unless a
+/// write of it failed. The screen shows the progress of reading large files.
 pub fn answer<R, I, W, E, S>(
     rt: &R,
     arguments: io::Result<Args>,
     stdin: I,
-    stdout: W,
-    stderr: E,
+    out: &mut Out<W>,
+    err: &mut E,
     screen: Screen<S>,
 ) -> ExitCode
 where
     R: Files + AllocGlobal,
     I: io::Read + Drop,
-    W: io::Write + Drop,
-    E: io::Write + Drop,
+    W: io::Write,
+    E: Sink,
     S: io::Write + Drop,
     ensures status { exit_status result ≤ 2 }
+    ensures flushed { exit_status result ≡ 0 → IsTrue out.new.flushed }
+    ensures silent { exit_status result ≡ 0 → E.taken err.new ≡ E.taken err.old }
+    ensures reported { exit_status result ≡ 1 → HasReport (E.taken err.old) (E.taken err.new)
+        (E.failures err.old) (E.failures err.new) }
+    ensures unanswered { exit_status result ≡ 2 → out.new.failures ≡ out.old.failures
+        → W.contents out.new.inner ≡ W.contents out.old.inner }
     ensures unread { IfErr arguments
-        (λ e. exit_status result ≡ status_of (argument_fault (error_kind e))) }
+        (λ e. exit_status result ≡ argument_status (argument_fault (error_kind e))) }
 {
     let (mut stdin, mut screen) = (stdin, screen);
     let mut texts = Inputs::new(rt, &mut stdin, &mut screen);
-    let mut out = Out::new(stdout);
-    let mut err = Out::new(stderr);
-    exit_code(obey(rt, arguments, &mut texts, &mut out, &mut err))
+    exit_code(obey(rt, arguments, &mut texts, out, err))
 }
 
 // The exit status as the runtime takes it.
@@ -64,20 +70,26 @@ fn obey<R, T, W, E>(
     arguments: io::Result<Args>,
     texts: &mut T,
     out: &mut Out<W>,
-    err: &mut Out<E>,
+    err: &mut E,
 ) -> u8
 where
     R: Files + AllocGlobal,
     T: Texts,
     W: io::Write,
-    E: io::Write,
+    E: Sink,
     ensures status { result ≤ 2 }
     ensures flushed { result ≡ 0 → IsTrue out.new.flushed }
-    ensures unread { IfErr arguments (λ e. result ≡ status_of (argument_fault (error_kind e))) }
+    ensures silent { result ≡ 0 → E.taken err.new ≡ E.taken err.old }
+    ensures reported { result ≡ 1 → HasReport (E.taken err.old) (E.taken err.new)
+        (E.failures err.old) (E.failures err.new) }
+    ensures unanswered { result ≡ 2 → out.new.failures ≡ out.old.failures
+        → W.contents out.new.inner ≡ W.contents out.old.inner }
+    ensures unread { IfErr arguments
+        (λ e. result ≡ argument_status (argument_fault (error_kind e))) }
 {
     match given_words(rt.alloc(), arguments) {
         Ok(words) => obey_words(rt, &words, texts, out, err),
-        Err(failure) => report(rt.alloc(), None, failure, err),
+        Err(error) => error.report(err),
     }
 }
 
@@ -87,24 +99,52 @@ fn obey_words<R, T, W, E>(
     words: &[String],
     texts: &mut T,
     out: &mut Out<W>,
-    err: &mut Out<E>,
+    err: &mut E,
 ) -> u8
 where
     R: Files + AllocGlobal,
     T: Texts,
     W: io::Write,
-    E: io::Write,
+    E: Sink,
     ensures status { result ≤ 2 }
     ensures flushed { result ≡ 0 → IsTrue out.new.flushed }
+    ensures silent { result ≡ 0 → E.taken err.new ≡ E.taken err.old }
+    ensures reported { result ≡ 1 → HasReport (E.taken err.old) (E.taken err.new)
+        (E.failures err.old) (E.failures err.new) }
+    ensures unanswered { result ≡ 2 → out.new.failures ≡ out.old.failures
+        → W.contents out.new.inner ≡ W.contents out.old.inner }
 {
-    let status = match parse(rt.alloc(), words) {
+    match run_words(rt, words, texts, out, err) {
+        0 => finish(rt.alloc(), out, err),
+        status => status,
+    }
+}
+
+// Runs the command that these words give.
+fn run_words<R, T, W, E>(
+    rt: &R,
+    words: &[String],
+    texts: &mut T,
+    out: &mut W,
+    err: &mut E,
+) -> u8
+where
+    R: Files + AllocGlobal,
+    T: Texts,
+    W: Sink,
+    E: Sink,
+    ensures status { result ≤ 2 }
+    ensures silent { result ≡ 0 → E.taken err.new ≡ E.taken err.old }
+    ensures quiet { result ≡ 0 → E.failures err.new ≡ E.failures err.old }
+    ensures reported { result ≡ 1 → HasReport (E.taken err.old) (E.taken err.new)
+        (E.failures err.old) (E.failures err.new) }
+    ensures unanswered { result ≡ 2 → W.failures out.new ≡ W.failures out.old
+        → W.taken out.new ≡ W.taken out.old }
+{
+    match parse(rt.alloc(), words) {
         Ok(Some(command)) => run(rt, command, texts, out, err),
         Ok(None) => report(rt.alloc(), None, Failure::Usage, err),
         Err(error) => explain(rt.alloc(), &error, out, err),
-    };
-    match status {
-        0 => finish(rt.alloc(), out, err),
-        status => status,
     }
 }
 
@@ -112,6 +152,15 @@ where
 fn explain<W: Sink, E: Sink>(alloc: Global, error: &clap::Error, out: &mut W, err: &mut E) -> u8
     ensures status { result ≤ 2 }
     ensures memory { kind_of error.now ≡ words.OutOfMemory → result ≡ 1 }
+    ensures silent { result ≡ 0 → E.taken err.new ≡ E.taken err.old }
+    ensures quiet { result ≡ 0 → E.failures err.new ≡ E.failures err.old }
+    ensures reported { result ≡ 1 → IsReported None (E.taken err.old) (E.taken err.new)
+        (E.failures err.old) (E.failures err.new) }
+    ensures mistake { result ≡ 2 → (kind_of error.now ≢ words.DisplayHelp)
+        × (kind_of error.now ≢ words.DisplayVersion) }
+    ensures unanswered { result ≡ 2 → W.taken out.new ≡ W.taken out.old }
+    ensures help { kind_of error.now ≢ words.DisplayHelp
+        → kind_of error.now ≢ words.DisplayVersion → result ≢ 0 }
 {
     let Ok(text) = format!(in alloc; "{error}") else {
         return report(alloc, None, Failure::OutOfMemory, err);
@@ -131,7 +180,7 @@ fn explain<W: Sink, E: Sink>(alloc: Global, error: &clap::Error, out: &mut W, er
 }
 
 // Returns the arguments, if they were read.
-fn given_words(alloc: Global, arguments: io::Result<Args>) -> Result<Vec<String>, Failure>
+fn given_words(alloc: Global, arguments: io::Result<Args>) -> Result<Vec<String>, ArgumentError>
     ensures refused { IfOk arguments (λ _. IfErr result (λ e. e ≡ OutOfMemory)) }
     ensures unread { IfErr arguments (λ e. result ≡ Err (argument_fault (error_kind e))) }
 {
@@ -142,7 +191,7 @@ fn given_words(alloc: Global, arguments: io::Result<Args>) -> Result<Vec<String>
 }
 
 // Returns the arguments in order.
-fn listed(alloc: Global, arguments: Args) -> Result<Vec<String>, Failure>
+fn listed(alloc: Global, arguments: Args) -> Result<Vec<String>, ArgumentError>
     ensures { IfErr result (λ e. e ≡ OutOfMemory) }
 {
     let mut words = Vec::with_capacity(alloc, arguments.len())?;
@@ -152,12 +201,12 @@ fn listed(alloc: Global, arguments: Args) -> Result<Vec<String>, Failure>
     Ok(words)
 }
 
-// The failure of arguments that cannot be read.
-fn unread_arguments(kind: io::ErrorKind) -> Failure
+// The error of arguments that cannot be read.
+fn unread_arguments(kind: io::ErrorKind) -> ArgumentError
     ensures { result ≡ argument_fault kind }
 {
     match kind {
-        io::ErrorKind::OutOfMemory => Failure::OutOfMemory,
-        _ => Failure::Usage,
+        io::ErrorKind::OutOfMemory => ArgumentError::OutOfMemory,
+        _ => ArgumentError::NotText,
     }
 }

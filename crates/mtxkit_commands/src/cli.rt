@@ -1,10 +1,13 @@
 //! Runs commands.
 
-ghost use Rattle.std.specs.Prelude.{◌≡◌, ◌≢◌, ◌≤◌, OnOk, OnErr, IfErr, IsTrue};
+ghost use Rattle.std.specs.Prelude.{◌≡◌, ◌≢◌, ◌≤◌, ◌↔◌, None, Err};
+ghost use Rattle.std.specs.Prelude.{OnOk, OnErr, IfOk, IfErr, IsOk, IsTrue};
 ghost use Rattle.std.specs.Io.KnownBytes.{Appends};
 ghost use Rattle.mtxkit_commands.specs.Commands.{IsAnswered, IsSized, IsUnsaved};
 ghost use Rattle.mtxkit_commands.specs.Commands.{IsUnwritten, CanFail, error_status};
+ghost use Rattle.mtxkit_commands.specs.Names.{error_file, IsReported};
 ghost use Rattle.mtxkit_commands.specs.declared.command_error.CommandError.{CommandError};
+ghost use Rattle.mtxkit_texts.specs.declared.failure.Failure.TheVariants.{Unsaved};
 
 use crate::answers::answer_of;
 use crate::command_error::CommandError;
@@ -32,10 +35,15 @@ where
     ensures status { result ≤ 2 }
     ensures answered { result ≡ 0 → IsAnswered command.entry (T.readings texts.old)
         (T.readings texts.new) (W.taken out.old) (W.taken out.new) }
+    ensures unfailed { result ≡ 0 → W.failures out.new ≡ W.failures out.old }
     ensures silent { result ≡ 0 → E.taken err.new ≡ E.taken err.old }
+    ensures quiet { result ≡ 0 → E.failures err.new ≡ E.failures err.old }
     ensures failed { result ≢ 0 → (error : CommandError)
-        × (CanFail command.entry (T.readings texts.old) (T.readings texts.new) error
-        × (result ≡ error_status error)) }
+        × CanFail command.entry (T.readings texts.old) (T.readings texts.new)
+        (W.failures out.old) (W.failures out.new) (W.last out.new) error
+        × (result ≡ error_status error)
+        × IsReported (error_file command.entry error) (E.taken err.old) (E.taken err.new)
+        (E.failures err.old) (E.failures err.new) }
     ensures unanswered { result ≢ 0 → W.failures out.new ≡ W.failures out.old
         → W.taken out.new ≡ W.taken out.old }
 {
@@ -52,7 +60,9 @@ fn report_error<E: Sink>(
     error: CommandError,
     err: &mut E,
 ) -> u8
-    ensures { result ≡ error_status error }
+    ensures status { result ≡ error_status error }
+    ensures reported { IsReported (error_file command.entry error) (E.taken err.old)
+        (E.taken err.new) (E.failures err.old) (E.failures err.new) }
 {
     match error {
         CommandError::Failed(failure) => {
@@ -74,10 +84,11 @@ where
     T: Texts,
     W: Sink,
     requires { IsSized command }
-    ensures failed { IfErr result
-        (CanFail command.entry (T.readings texts.old) (T.readings texts.new)) }
+    ensures failed { IfErr result (CanFail command.entry (T.readings texts.old)
+        (T.readings texts.new) (W.failures out.old) (W.failures out.new) (W.last out.new)) }
     ensures answered { OnOk result (IsAnswered command.entry (T.readings texts.old)
         (T.readings texts.new) (W.taken out.old) (W.taken out.new)) }
+    ensures unfailed { OnOk result (W.failures out.new ≡ W.failures out.old) }
     ensures unanswered { OnErr result (W.failures out.new ≡ W.failures out.old
         → W.taken out.new ≡ W.taken out.old) }
 {
@@ -92,7 +103,15 @@ where
 fn save<R: Files>(rt: &R, path: &str, text: &[u8]) -> Result<(), Failure>
     ensures { IfErr result IsUnsaved }
 {
-    match fs::write(rt, path, text) {
+    saved(fs::write(rt, path, text))
+}
+
+// Returns the failure of a file that was not made or written, if it was not.
+fn saved(written: io::Result<()>) -> Result<(), Failure>
+    ensures saved { IfOk written (λ _. IsOk result) }
+    ensures unsaved { IfErr written (λ error. result ≡ Err (Unsaved error)) }
+{
+    match written {
         Ok(()) => Ok(()),
         Err(error) => Err(Failure::Unsaved(error)),
     }
@@ -101,8 +120,10 @@ fn save<R: Files>(rt: &R, path: &str, text: &[u8]) -> Result<(), Failure>
 // Writes the text.
 fn write_text<W: Sink>(out: &mut W, text: &[u8]) -> Result<(), Failure>
     ensures written { OnOk result (Appends (W.taken out.old) (W.taken out.new) text.now) }
+    ensures unfailed { OnOk result (W.failures out.new ≡ W.failures out.old) }
     ensures failed { OnErr result (W.failures out.new ≢ W.failures out.old) }
-    ensures kind { IfErr result IsUnwritten }
+    ensures unwritten { IfErr result
+        (IsUnwritten (W.failures out.old) (W.failures out.new) (W.last out.new)) }
 {
     match write_all_to(out, text) {
         Ok(()) => Ok(()),
@@ -116,8 +137,10 @@ where
     W: io::Write,
     E: Sink,
     ensures status { result ≤ 1 }
-    ensures flushed { result ≡ 0 → IsTrue out.new.flushed }
+    ensures flushed { (result ≡ 0) ↔ IsTrue out.new.flushed }
     ensures silent { result ≡ 0 → E.taken err.new ≡ E.taken err.old }
+    ensures reported { result ≢ 0 → IsReported None (E.taken err.old) (E.taken err.new)
+        (E.failures err.old) (E.failures err.new) }
 {
     match out.flush() {
         Ok(()) => 0,

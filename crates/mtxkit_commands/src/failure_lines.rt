@@ -1,30 +1,50 @@
 //! The lines of errors.
 
-ghost use Rattle.std.specs.Prelude.{◌≡◌, ◌++◌, IfOk, OnOk, codes, string_bytes};
+ghost use Rattle.std.specs.Prelude.{◌≡◌, ◌++◌, IfOk, IfErr, OnOk, codes, string_bytes};
 ghost use Rattle.std.specs.Option.{option_map};
 ghost use Rattle.mtxkit_texts.specs.Statuses.{status_of};
-ghost use Rattle.mtxkit_commands.specs.Names.{name_text, IsErrorLine};
+ghost use Rattle.mtxkit_commands.specs.Names.{name_text, IsErrorLine, IsReported, IsWritten};
 
 use mtxkit_texts::Failure;
 use sparse_io::{Sink, write_all_to};
 use std::alloc::{AllocError, Global};
+use std::fmt::{self, Display, Formatter, Write};
+use std::io::ErrorKind;
 
 const OUT_OF_MEMORY: &str = "mtxkit: out of memory\n";
 
 /// Writes the line of a failure, which names this file, and returns the failure's status.
 pub fn report<E: Sink>(alloc: Global, file: Option<&str>, failure: Failure, err: &mut E) -> u8
-    ensures { result ≡ status_of failure }
+    ensures status { result ≡ status_of failure }
+    ensures reported { IsReported (option_map (λ path. path.now) file.entry) (E.taken err.old)
+        (E.taken err.new) (E.failures err.old) (E.failures err.new) }
 {
     write_line(failure_line(alloc, file, failure), err);
     failure.status()
 }
 
 /// Writes this line, or, where no memory was left for it, the line that says so. An error in writing it is ignored.
-pub(crate) fn write_line<E: Sink>(line: Result<String, AllocError>, err: &mut E) {
-    let _ = match line {
-        Ok(line) => write_all_to(err, line.as_bytes()),
-        Err(_) => write_all_to(err, OUT_OF_MEMORY.as_bytes()),
-    };
+pub(crate) fn write_line<E: Sink>(line: Result<String, AllocError>, err: &mut E)
+    ensures line { IfOk line (λ text. IsWritten (string_bytes text) (E.taken err.old)
+        (E.taken err.new) (E.failures err.old) (E.failures err.new)) }
+    ensures memory { IfErr line (λ _. IsWritten (codes "mtxkit: out of memory\n")
+        (E.taken err.old) (E.taken err.new) (E.failures err.old) (E.failures err.new)) }
+{
+    match line {
+        Ok(line) => write_message(line.as_bytes(), err),
+        Err(_) => write_message(OUT_OF_MEMORY.as_bytes(), err),
+    }
+}
+
+/// Writes a text. An error in writing it is ignored.
+pub(crate) fn write_message<E: Sink>(text: &[u8], err: &mut E)
+    ensures { IsWritten text.now (E.taken err.old) (E.taken err.new) (E.failures err.old)
+        (E.failures err.new) }
+{
+    match write_all_to(err, text) {
+        Ok(()) => {}
+        Err(_) => {}
+    }
 }
 
 /// Returns the line of a failure: the program, the file and the number of its line, as far as they are known, and why.
@@ -41,6 +61,7 @@ pub fn failure_line(
     let mut line = String::new(alloc);
     push_name(&mut line, file)?;
     let why = match (file, failure) {
+        (None, Failure::Write(kind)) => format!(in alloc; "write failed: {}\n", Reason(kind))?,
         (None, _) => format!(in alloc; "{failure}\n")?,
         (Some(_), Failure::Input(_, _, spot)) => format!(in alloc; ":{}: {failure}\n", spot.line)?,
         (Some(_), _) => format!(in alloc; ": {failure}\n")?,
@@ -58,5 +79,20 @@ fn push_name(line: &mut String, file: Option<&str>) -> Result<(), AllocError>
     match file {
         Some(path) => line.push_str(path),
         None => Ok(()),
+    }
+}
+
+// Why a write to the output failed.
+#[derive(Clone, Copy)]
+struct Reason(ErrorKind);
+
+impl Display for Reason {
+    // The system has no kind for an output that is closed.
+    fn fmt<W: Write>(&self, f: &mut Formatter<W>) -> fmt::Result {
+        match self.0 {
+            ErrorKind::BrokenPipe => f.write_str("broken pipe; its reader has closed it"),
+            ErrorKind::Uncategorized => f.write_str("the output is closed or cannot be written to"),
+            kind => Display::fmt(&kind, f),
+        }
     }
 }

@@ -2,6 +2,7 @@
 #![tactic(auto)]
 
 mod answers;
+mod argument_error;
 mod arguments;
 mod cli;
 mod command_error;
@@ -17,6 +18,7 @@ mod systems;
 mod words;
 
 pub use answers::answer_of;
+pub use argument_error::ArgumentError;
 pub use arguments::answer;
 pub use cli::{finish, run};
 pub use command_error::CommandError;

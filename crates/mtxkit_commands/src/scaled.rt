@@ -2,7 +2,7 @@
 
 ghost use Rattle.std.specs.Prelude.{◌≡◌, IfOk, IfErr, Some, string_bytes};
 ghost use Rattle.mtxkit_commands.specs.Commands.{IsScaleAnswer, IsScaleError};
-ghost use Rattle.mtxkit_commands.specs.Names.{IsErrorLine};
+ghost use Rattle.mtxkit_commands.specs.Names.{IsErrorLine, IsReported};
 
 use crate::command_error::CommandError;
 use crate::failure_lines::write_line;
@@ -39,7 +39,9 @@ pub(crate) fn report_unscaled<E: Sink>(
     error: ScaleError,
     err: &mut E,
 ) -> u8
-    ensures { result ≡ 1 }
+    ensures status { result ≡ 1 }
+    ensures reported { IsReported (Some file.now) (E.taken err.old) (E.taken err.new)
+        (E.failures err.old) (E.failures err.new) }
 {
     write_line(unscaled_line(alloc, file, error), err);
     1

@@ -1,7 +1,6 @@
 use Rattle.std.proofs.Common.{inl, inr, sym, subst}
 use Rattle.std.proofs.lemmas.Result.{IfOk-weaker, MatchResult-weaker}
-use Rattle.mtxkit_commands.specs.Rings.{ring_of}
-use Rattle.mtxkit_commands.specs.Systems.{IsUntested}
+use Rattle.mtxkit_commands.specs.Systems.{IsUntestedBy}
 use Rattle.mtxkit_commands.proofs.systems.check_text.Goals as goal
 
 pub returns-in-Ok-clause-said : goal.returns-in-Ok-clause-said
@@ -37,7 +36,7 @@ returns-in-Ok-clause-refused c =
         first_means = c.in_ok-a.ensures.meant;
         second_means = c.in_ok-x.ensures.meant;
         third_means = c.in_ok-b.ensures.meant;
-        why = subst (IsUntested (ring_of c.args.modulus) a x b) (sym other.0)
+        why = subst (IsUntestedBy c.args.modulus a x b) (sym other.0)
             (c.in-Ok.ensures.0, λ product. other.1 (c.in-Ok.ensures.1.1 product));
       }))))
     ])

@@ -1,13 +1,16 @@
 use Rattle.std.proofs.Common.{◌≡◌, ℕ, ℤ, Option, Some, None, Result, rules, sym, subst}
 use Rattle.sparse_coo_dense.specs.Coo.{Coo}
 use Rattle.mtxkit_texts.specs.declared.failure.Failure.{Failure}
-use Rattle.mtxkit_commands.specs.Systems.{IsSolvedBy}
+use Rattle.mtxkit_commands.specs.Rings.{ring_of, reduced_by, ring_value}
+use Rattle.mtxkit_commands.specs.Systems.{IsSolved, IsSolvedBy}
+use Rattle.mtxkit_commands.proofs.Solving.{solved_by}
 use Rattle.mtxkit_commands.proofs.systems.solve_modulo.Goals as goal
 
 -- the same answer, by the modulus under another name
 by_modulus : (m n : Option ℕ) (a b : Coo ℤ) (solved : Result (Coo ℤ) Failure) → m ≡ n
-    → IsSolvedBy n a b solved → IsSolvedBy m a b solved
-by_modulus m n a b solved e is = subst (λ k. IsSolvedBy k a b solved) (sym e) is
+    → IsSolved (ring_of n) (ring_value n) (reduced_by n) a b solved → IsSolvedBy m a b solved
+by_modulus m n a b solved e is =
+    subst (λ k. IsSolvedBy k a b solved) (sym e) (solved_by n a b solved is)
 
 pub returns-in-None : goal.returns-in-None
 returns-in-None c =

@@ -1,0 +1,17 @@
+-- The errors of arguments that cannot be read.
+use Rattle.std.specs.Prelude.{ℕ}
+use Rattle.std.specs.declared.io.ErrorKind.{ErrorKind}
+use Rattle.std.specs.declared.io.ErrorKind.TheVariants as io
+use Rattle.mtxkit_commands.specs.declared.argument_error.ArgumentError.{ArgumentError}
+use Rattle.mtxkit_commands.specs.declared.argument_error.ArgumentError.TheVariants.{NotText}
+use Rattle.mtxkit_commands.specs.declared.argument_error.ArgumentError.TheVariants.{OutOfMemory}
+
+-- the error of arguments that cannot be read
+abbrev pub argument_fault : ErrorKind → ArgumentError
+argument_fault io.OutOfMemory = OutOfMemory
+argument_fault kind = NotText
+
+-- its exit status
+abbrev pub argument_status : ArgumentError → ℕ
+argument_status NotText = 2
+argument_status OutOfMemory = 1
