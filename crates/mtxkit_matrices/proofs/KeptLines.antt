@@ -1,5 +1,5 @@
 -- The lines that are written stay in their places, and those that are passed over as they are.
-use Rattle.std.proofs.Common.{◌≡◌, ℕ, List, [], ◌∷◌, ◌++◌, true, false, refl, sym, ap, subst, ◌∙◌}
+use Rattle.std.proofs.Common.{◌≡◌, ℕ, List, [], ◌∷◌, ◌++◌, refl, ap, subst, ◌∙◌}
 use Rattle.std.proofs.Common.{inl, inr, append_assoc}
 use Rattle.std.specs.List.{AllByRecursion}
 use Rattle.sparse_parser.specs.Grammar.{AreBlanks, AreWords}

@@ -4,7 +4,7 @@ use Rattle.std.proofs.Common.{◌++◌, length, get_or, drop, refl, ap, ◌∙�
 use Rattle.std.proofs.Common.{length-append}
 use Rattle.std.proofs.lemmas.Bool.{eqb-true, eqb-false, not-false}
 use Rattle.std.proofs.lemmas.Bool.Decides.{nat_tests}
-use Rattle.sparse_parser.specs.Bytes.{is_line_end, front, after}
+use Rattle.sparse_parser.specs.Bytes.{is_line_end}
 use Rattle.sparse_parser.specs.InnerBytes.{is_within_line}
 use Rattle.sparse_parser.specs.Grammar.{IsOneLine, IsLineEnd}
 use Rattle.sparse_parser.specs.InnerReading.{ends_line, written_of}

@@ -1,6 +1,6 @@
 -- The failures of lines are failures of their text.
-use Rattle.std.proofs.Common.{◌≡◌, ◌≢◌, ℕ, List, ◌++◌, [], ◌∷◌, length, get_or, eqb, not, Result, Ok, Err}
-use Rattle.std.proofs.Common.{true, false, Bool, refl, sym, subst, ◌∙◌, inl, inr}
+use Rattle.std.proofs.Common.{◌≡◌, ℕ, List, ◌++◌, [], ◌∷◌, length, get_or, eqb, Result}
+use Rattle.std.proofs.Common.{true, refl, subst, inl, inr}
 use Rattle.std.specs.Prelude.{IfErr, filter}
 use Rattle.std.proofs.lemmas.Bool.{eqb-false, not-true}
 use Rattle.std.proofs.lemmas.Result.{IfErr-weaker}

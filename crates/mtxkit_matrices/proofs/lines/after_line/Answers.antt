@@ -1,4 +1,3 @@
-use Rattle.std.proofs.Common.{refl}
 use Rattle.mtxkit_matrices.specs.InnerLines.{IsCut}
 use Rattle.mtxkit_matrices.proofs.LineEnds.{cut_ends}
 use Rattle.mtxkit_matrices.proofs.lines.after_line.Goals as goal

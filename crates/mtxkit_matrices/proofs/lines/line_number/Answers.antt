@@ -1,5 +1,4 @@
-use Rattle.std.proofs.Common.{◌≢◌, ◌<◌, length, sym, ◌∙◌, arith}
-use Rattle.std.proofs.lemmas.Bool.{eqb-false}
+use Rattle.std.proofs.Common.{arith}
 use Rattle.mtxkit_matrices.proofs.CountedLines.{first_line, next_line, numbered}
 use Rattle.mtxkit_matrices.proofs.LineEnds.{cut_shorter}
 use Rattle.mtxkit_matrices.proofs.lines.line_number.Goals as goal

@@ -1,4 +1,4 @@
-use Rattle.std.proofs.Common.{◌≤◌, ◌+◌, ◌<◌, length}
+use Rattle.std.proofs.Common.{◌≤◌, ◌+◌, length}
 use Rattle.mtxkit_matrices.specs.InnerLines.{IsBelowLine}
 use Rattle.mtxkit_matrices.proofs.lines.line_number.Given as goal
 
