@@ -16,6 +16,7 @@ use crate::mtxkit::refusals::{REFUSALS, Refusal};
 use crate::mtxkit::system_cases::{CHECK_CASES, SOLVE_CASES, SystemCase};
 use mtxkit_commands::answer;
 use mtxkit_texts::Screen;
+use sparse_io::Out;
 use std::alloc::{AllocError, Global};
 use std::fs;
 use std::io::{self, ErrorKind, Write};
@@ -33,19 +34,26 @@ struct Answer {
     err: Vec<u8>,
 }
 
-/// A writer that fails.
+/// A writer that fails with this error of the system.
 #[derive(Drop)]
-struct Closed;
+struct Closed(i32);
 
 impl Write for Closed {
     fn write(&mut self, _buf: &[u8]) -> io::Result<usize> {
-        Err(io::Error::from(ErrorKind::BrokenPipe))
+        Err(io::Error::from_raw_os_error(self.0))
     }
 
     fn flush(&mut self) -> io::Result<()> {
-        Err(io::Error::from(ErrorKind::BrokenPipe))
+        Err(io::Error::from_raw_os_error(self.0))
     }
 }
+
+// The errors of a descriptor that is closed, of a full disk, and of a pipe whose reader has closed it.
+const BAD_DESCRIPTOR: i32 = 9;
+
+const FULL_DISK: i32 = 28;
+
+const BROKEN_PIPE: i32 = 32;
 
 // The arguments of the program: its name, these words, and these paths.
 fn arguments(alloc: Global, words: &[&str], paths: &[String]) -> Result<Vec<String>, AllocError> {
@@ -68,10 +76,11 @@ fn answered(
     stdin: &[u8],
 ) -> Result<Answer, AllocError> {
     let given = arguments(rt.alloc(), words, paths)?;
-    let mut out = Vec::new(rt.alloc());
-    let mut err = Vec::new(rt.alloc());
+    let mut out = Out::new(Vec::new(rt.alloc()));
+    let mut err = Out::new(Vec::new(rt.alloc()));
     let given = Ok(given.into_iter());
     let status = answer(rt, given, stdin, &mut out, &mut err, Screen::none());
+    let (out, err) = (out.into_inner(), err.into_inner());
     Ok(Answer { status, out, err })
 }
 
@@ -199,22 +208,45 @@ fn is_line(err: &[u8], line: &str, status: u8) -> bool {
     err.starts_with(line.as_bytes()) && (status == 2 || err.len() == line.len())
 }
 
-// Whether the program answers an output that takes nothing as it is wanted.
+// Whether the program answers an output that fails with this error of the system as it is wanted.
 fn is_refused(
     rt: &HostRuntime,
+    code: i32,
     &(words, stdin, wanted, line): &Refusal,
 ) -> Result<bool, AllocError> {
     let given = arguments(rt.alloc(), words, &[])?;
-    let mut err = Vec::new(rt.alloc());
+    let mut out = Out::new(Closed(code));
+    let mut err = Out::new(Vec::new(rt.alloc()));
     let given = Ok(given.into_iter());
-    let status = answer(rt, given, stdin, Closed, &mut err, Screen::none());
-    Ok(status == ExitCode::from(wanted) && is_line(&err, line, wanted))
+    let status = answer(rt, given, stdin, &mut out, &mut err, Screen::none());
+    Ok(status == ExitCode::from(wanted) && is_line(&err.into_inner(), line, wanted))
 }
 
 #[test]
 fn each_refusal_has_its_line(rt: HostRuntime) -> Result<(), Fail> {
     for case in REFUSALS {
-        assert!(rt; is_refused(&rt, case)?, "{:?}: {}", case.0, case.3);
+        assert!(rt; is_refused(&rt, BROKEN_PIPE, case)?, "{:?}: {}", case.0, case.3);
+    }
+    Ok(())
+}
+
+// The error of a write, and the line of a command whose output fails so.
+const UNWRITTEN: [(i32, &str); 3] = [
+    (
+        BAD_DESCRIPTOR,
+        "mtxkit: write failed: the output is closed or cannot be written to\n",
+    ),
+    (FULL_DISK, "mtxkit: write failed: no storage space\n"),
+    (
+        BROKEN_PIPE,
+        "mtxkit: write failed: broken pipe; its reader has closed it\n",
+    ),
+];
+
+#[test]
+fn failed_writes_have_a_plain_reason(rt: HostRuntime) -> Result<(), Fail> {
+    for &(code, line) in &UNWRITTEN {
+        assert!(rt; is_refused(&rt, code, &(&["--help"], &[], 1, line))?, "{line}");
     }
     Ok(())
 }
@@ -239,19 +271,19 @@ const UNREAD: [(ErrorKind, u8, &str); 2] = [
     (
         ErrorKind::InvalidData,
         2,
-        "mtxkit: no command; see mtxkit --help\n",
+        "mtxkit: an argument is not UTF-8; see mtxkit --help\n",
     ),
     (ErrorKind::OutOfMemory, 1, "mtxkit: out of memory\n"),
 ];
 
 // Whether arguments that cannot be read for this reason are answered with this status and this line.
 fn is_answered(rt: &HostRuntime, &(kind, status, line): &(ErrorKind, u8, &str)) -> bool {
-    let mut err = Vec::new(rt.alloc());
+    let mut out = Out::new(Vec::new(rt.alloc()));
+    let mut err = Out::new(Vec::new(rt.alloc()));
     let stdin: &[u8] = &[];
     let given = Err(io::Error::from(kind));
-    let out = Vec::new(rt.alloc());
-    let code = answer(rt, given, stdin, out, &mut err, Screen::none());
-    code == ExitCode::from(status) && err.as_slice() == line.as_bytes()
+    let code = answer(rt, given, stdin, &mut out, &mut err, Screen::none());
+    code == ExitCode::from(status) && err.into_inner().as_slice() == line.as_bytes()
 }
 
 #[test]

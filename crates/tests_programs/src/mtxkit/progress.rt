@@ -1,9 +1,10 @@
 //! What a screen shows while a file is read.
 
 use crate::files::matrix;
-use crate::mtxkit::{Closed, arguments};
+use crate::mtxkit::{BROKEN_PIPE, Closed, arguments};
 use mtxkit_commands::answer;
 use mtxkit_texts::{Screen, progress_line, read_shown};
+use sparse_io::Out;
 use std::io::{self, ErrorKind, Read};
 use std::process::ExitCode;
 use std::test::Fail;
@@ -79,7 +80,7 @@ fn torn(rt: &HostRuntime) -> (Option<ErrorKind>, Vec<u8>) {
         least: 0,
         step: MEGABYTE,
     };
-    let file = io::repeat(b'1').take(MEGABYTE).chain(Closed);
+    let file = io::repeat(b'1').take(MEGABYTE).chain(Closed(BROKEN_PIPE));
     let kind = match read_shown(rt.alloc(), file, "a.mtx", 2 * MEGABYTE, &mut screen) {
         Ok(_) => None,
         Err(error) => Some(error.kind()),
@@ -99,7 +100,7 @@ fn a_failed_read_ends_the_line(rt: HostRuntime) {
 // Whether a text is read although the screen takes nothing.
 fn is_read_unseen(rt: &HostRuntime) -> bool {
     let mut screen = Screen {
-        out: Closed,
+        out: Closed(BROKEN_PIPE),
         is_terminal: true,
         least: 0,
         step: 1,
@@ -126,8 +127,9 @@ fn shown_of(rt: &HostRuntime, path: String) -> io::Result<(ExitCode, Vec<u8>)> {
         least: 1,
         step: 1000,
     };
-    let (stdin, out, err): (&[u8], _, _) = (&[], io::sink(), io::sink());
-    let status = answer(rt, Ok(given.into_iter()), stdin, out, err, screen);
+    let stdin: &[u8] = &[];
+    let (mut out, mut err) = (Out::new(io::sink()), Out::new(io::sink()));
+    let status = answer(rt, Ok(given.into_iter()), stdin, &mut out, &mut err, screen);
     Ok((status, shown))
 }
 

@@ -10,7 +10,7 @@ const REAL: &[u8] = b"%%MatrixMarket matrix coordinate real general\n1 1 1\n1 1 
 const NOT_CARRIED: &str =
     "mtxkit: -: real and complex values are not carried, nor is their pattern\n";
 
-const UNWRITTEN: &str = "mtxkit: write failed: broken pipe\n";
+const UNWRITTEN: &str = "mtxkit: write failed: broken pipe; its reader has closed it\n";
 
 const NO_FILE: &str = "mtxkit: /no/such/file: No such file or directory (os error 2)\n";
 
