@@ -28,7 +28,7 @@ pub use loaded::{Loaded, header_of, load, read_integers};
 pub use mtxkit_matrices::LineFault;
 pub use pattern_texts::write_pattern;
 pub use places::ones_of;
-pub use progress::{Screen, progress_line, read_shown};
+pub use progress::{Screen, Terminal, progress_line, read_shown};
 pub use shapes::{Shape, shape_of};
 pub use spots::Spot;
 pub use spy::{spy_bitmap, spy_blocks};

@@ -6,36 +6,70 @@ ghost use Rattle.std.specs.Io.KnownBytes.{ReadConsumes};
 ghost use Rattle.mtxkit_texts.specs.Progress.{progress_text};
 
 use std::alloc::{AllocError, Global};
-use std::io::{self, IsTerminal, Read, Write};
+use std::io::{self, IsTerminal, Read, Stderr, Write};
 
 // The bytes of a megabyte.
 const MEGABYTE: u64 = 1_000_000;
+
+/// A stream that knows whether it is a terminal.
+pub trait Terminal {
+    ghost use Rattle.std.specs.Prelude.{Bool};
+
+    // What the stream may answer.
+    ghost may_answer: { Self → Bool → Type 0 };
+
+    /// Returns whether the stream is a terminal.
+    fn answer(&self) -> bool
+        ensures { may_answer self.now result };
+}
+
+impl Terminal for Stderr {
+    ghost use Rattle.std.specs.Prelude.{⊤};
+
+    // No contract of the standard library says what the system answers.
+    ghost may_answer = { λ _ _. ⊤ };
+
+    fn answer(&self) -> bool {
+        self.is_terminal()
+    }
+}
 
 /// A screen that shows how much of a file was read. Nothing is written to it where it is no terminal.
 #[derive(Drop)]
 pub struct Screen<W> {
     /// What is written to.
     pub out: W,
-    /// Whether this is a terminal.
-    pub is_terminal: bool,
+    // What the stream answered, or no.
+    is_terminal: bool,
     /// The size of the smallest file whose progress is shown, in bytes.
     pub least: u64,
     /// The number of bytes after which the next line is shown.
     pub step: u64,
 }
 
-impl<W: IsTerminal> Screen<W> {
+impl<W: Terminal> Screen<W> {
     /// Returns the screen of a stream, for files of 64 MB and more. A line is shown after each 16 MB.
     pub fn of(out: W) -> Screen<W>
         ensures out { result.out ≡ out }
+        ensures asked { W.may_answer out result.is_terminal }
         ensures least { result.least ≡ 64000000 }
         ensures step { result.step ≡ 16000000 }
     {
+        Screen::new(out, 64 * MEGABYTE, 16 * MEGABYTE)
+    }
+
+    /// Returns the screen of a stream, for files of at least this size. A line is shown after each `step` bytes.
+    pub fn new(out: W, least: u64, step: u64) -> Screen<W>
+        ensures out { result.out ≡ out }
+        ensures asked { W.may_answer out result.is_terminal }
+        ensures least { result.least ≡ least }
+        ensures step { result.step ≡ step }
+    {
         Screen {
-            is_terminal: out.is_terminal(),
+            is_terminal: out.answer(),
             out,
-            least: 64 * MEGABYTE,
-            step: 16 * MEGABYTE,
+            least,
+            step,
         }
     }
 }

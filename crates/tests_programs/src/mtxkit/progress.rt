@@ -3,13 +3,46 @@
 use crate::files::matrix;
 use crate::mtxkit::{BROKEN_PIPE, Closed, arguments};
 use mtxkit_commands::answer;
-use mtxkit_texts::{Screen, progress_line, read_shown};
+use mtxkit_texts::{Screen, Terminal, progress_line, read_shown};
 use sparse_io::Out;
-use std::io::{self, ErrorKind, Read};
+use std::io::{self, ErrorKind, Read, Write};
 use std::process::ExitCode;
 use std::test::Fail;
 
 const MEGABYTE: u64 = 1_000_000;
+
+/// A stream that is a terminal, or not.
+#[derive(Drop)]
+struct Stream<W> {
+    to: W,
+    is_terminal: bool,
+}
+
+impl<W> Terminal for Stream<W> {
+    ghost use Rattle.std.specs.Prelude.{◌≡◌};
+
+    ghost may_answer = { λ stream yes. yes ≡ stream.is_terminal };
+
+    fn answer(&self) -> bool {
+        self.is_terminal
+    }
+}
+
+impl<W: Write> Write for Stream<W> {
+    fn write(&mut self, buf: &[u8]) -> io::Result<usize> {
+        self.to.write(buf)
+    }
+
+    fn flush(&mut self) -> io::Result<()> {
+        self.to.flush()
+    }
+}
+
+// The screen of a terminal, for files of at least this size, with a line after each `step` bytes.
+fn terminal<W>(to: W, least: u64, step: u64) -> Screen<Stream<W>> {
+    let is_terminal = true;
+    Screen::new(Stream { to, is_terminal }, least, step)
+}
 
 impl Read for Closed {
     fn read(&mut self, _buf: &mut [u8]) -> io::Result<usize> {
@@ -50,12 +83,8 @@ const SCREENS: [(bool, u64, &str); 3] = [
 // Whether a file of three megabytes is read whole, and this is shown.
 fn is_shown(rt: &HostRuntime, &(is_terminal, least, wanted): &(bool, u64, &str)) -> bool {
     let mut shown = Vec::new(rt.alloc());
-    let mut screen = Screen {
-        out: &mut shown,
-        is_terminal,
-        least,
-        step: MEGABYTE,
-    };
+    let to = &mut shown;
+    let mut screen = Screen::new(Stream { to, is_terminal }, least, MEGABYTE);
     let file = io::repeat(b'1').take(3 * MEGABYTE);
     let count = match read_shown(rt.alloc(), file, "a.mtx", 3 * MEGABYTE, &mut screen) {
         Ok(text) => text.len(),
@@ -74,12 +103,7 @@ fn large_files_are_shown_on_terminals_alone(rt: HostRuntime) {
 // The error of a file whose second megabyte cannot be read, and what was shown.
 fn torn(rt: &HostRuntime) -> (Option<ErrorKind>, Vec<u8>) {
     let mut shown = Vec::new(rt.alloc());
-    let mut screen = Screen {
-        out: &mut shown,
-        is_terminal: true,
-        least: 0,
-        step: MEGABYTE,
-    };
+    let mut screen = terminal(&mut shown, 0, MEGABYTE);
     let file = io::repeat(b'1').take(MEGABYTE).chain(Closed(BROKEN_PIPE));
     let kind = match read_shown(rt.alloc(), file, "a.mtx", 2 * MEGABYTE, &mut screen) {
         Ok(_) => None,
@@ -99,12 +123,7 @@ fn a_failed_read_ends_the_line(rt: HostRuntime) {
 
 // Whether a text is read although the screen takes nothing.
 fn is_read_unseen(rt: &HostRuntime) -> bool {
-    let mut screen = Screen {
-        out: Closed(BROKEN_PIPE),
-        is_terminal: true,
-        least: 0,
-        step: 1,
-    };
+    let mut screen = terminal(Closed(BROKEN_PIPE), 0, 1);
     let file: &[u8] = b"text";
     match read_shown(rt.alloc(), file, "a.mtx", 4, &mut screen) {
         Ok(text) => text.as_str() == "text",
@@ -121,12 +140,7 @@ fn a_screen_that_fails_is_no_error(rt: HostRuntime) {
 fn shown_of(rt: &HostRuntime, path: String) -> io::Result<(ExitCode, Vec<u8>)> {
     let given = arguments(rt.alloc(), &["info"], &[path])?;
     let mut shown = Vec::new(rt.alloc());
-    let screen = Screen {
-        out: &mut shown,
-        is_terminal: true,
-        least: 1,
-        step: 1000,
-    };
+    let screen = terminal(&mut shown, 1, 1000);
     let stdin: &[u8] = &[];
     let (mut out, mut err) = (Out::new(io::sink()), Out::new(io::sink()));
     let status = answer(rt, Ok(given.into_iter()), stdin, &mut out, &mut err, screen);
