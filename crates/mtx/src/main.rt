@@ -2,9 +2,12 @@
 #![tactic(auto)]
 
 use mtx_commands::answer;
+use nalgebra_sparse::io::Out;
 use std::env;
 use std::process::ExitCode;
 
 fn main(rt: HostRuntime) -> ExitCode {
-    answer(&rt, env::args(&rt), rt.stdout(), rt.stderr())
+    let mut out = Out::new(rt.stdout());
+    let mut err = Out::new(rt.stderr());
+    answer(&rt, env::args(&rt), &mut out, &mut err)
 }

@@ -3,3 +3,4 @@ pub mod Places
 pub mod Inputs
 pub mod Writes
 pub mod Fills
+pub mod Reports

@@ -1,15 +1,16 @@
 //! From the program's arguments to its exit status.
 
-ghost use Rattle.std.specs.Prelude.{◌≡◌, ◌≤◌, IfOk, IfErr, IsTrue, Err};
+ghost use Rattle.std.specs.Prelude.{◌≡◌, ◌≢◌, ◌≤◌, IfOk, IfErr, IsTrue, Err};
 ghost use Rattle.std.specs.IoError.{error_kind};
 ghost use Rattle.std.specs.Process.{exit_status};
 ghost use Rattle.sparse_expr.specs.declared.error.ExprError.TheVariants.{OutOfMemory};
 ghost use Rattle.mtx_commands.specs.Commands.{status_of, argument_fault};
+ghost use Rattle.mtx_commands.specs.Reports.{IsReported};
 ghost use Rattle.mtx_commands.specs.declared.cli.Failure.TheVariants.{Refused};
 
 use crate::cli::{Failure, command, finish, report, views_of};
 use nalgebra_sparse::expr::ExprError;
-use nalgebra_sparse::io::Out;
+use nalgebra_sparse::io::{Out, Sink};
 use std::alloc::Global;
 use std::env::Args;
 use std::io;
@@ -20,19 +21,28 @@ use std::rt::Files;
 ///
 /// The first argument is the program's name. An argument that is not UTF-8 is wrong usage; an allocation failure while
 /// the arguments are read is reported as one of the command. At status 0 the output was flushed, and a failed flush is
-/// reported as a failed write.
-pub fn answer<R, W, E>(rt: &R, arguments: io::Result<Args>, stdout: W, stderr: E) -> ExitCode
+/// reported as a failed write. At another status a line was written to `err`, unless a write of it failed.
+pub fn answer<R, W, E>(
+    rt: &R,
+    arguments: io::Result<Args>,
+    out: &mut Out<W>,
+    err: &mut E,
+) -> ExitCode
 where
     R: Files + AllocGlobal,
-    W: io::Write + Drop,
-    E: io::Write + Drop,
+    W: io::Write,
+    E: Sink,
     ensures status { exit_status result ≤ 2 }
+    ensures flushed { exit_status result ≡ 0 → IsTrue out.new.flushed }
+    ensures silent { exit_status result ≡ 0 → E.taken err.new ≡ E.taken err.old }
+    ensures reported { exit_status result ≢ 0 → IsReported (E.taken err.old) (E.taken err.new)
+        (E.failures err.old) (E.failures err.new) }
+    ensures unanswered { exit_status result ≡ 2
+        → W.contents out.new.inner ≡ W.contents out.old.inner }
     ensures unread { IfErr arguments
         (λ e. exit_status result ≡ status_of (argument_fault (error_kind e))) }
 {
-    let mut out = Out::new(stdout);
-    let mut err = Out::new(stderr);
-    exit_code(obey(rt, arguments, &mut out, &mut err))
+    exit_code(obey(rt, arguments, out, err))
 }
 
 // The exit status as the runtime takes it.
@@ -44,13 +54,17 @@ fn exit_code(status: u8) -> ExitCode
 
 // Runs the command that the arguments give, reports a failure, and returns the status. At status 0 the output was
 // flushed.
-fn obey<R, W, E>(rt: &R, arguments: io::Result<Args>, out: &mut Out<W>, err: &mut Out<E>) -> u8
+fn obey<R, W, E>(rt: &R, arguments: io::Result<Args>, out: &mut Out<W>, err: &mut E) -> u8
 where
     R: Files + AllocGlobal,
     W: io::Write,
-    E: io::Write,
+    E: Sink,
     ensures status { result ≤ 2 }
     ensures flushed { result ≡ 0 → IsTrue out.new.flushed }
+    ensures silent { result ≡ 0 → E.taken err.new ≡ E.taken err.old }
+    ensures reported { result ≢ 0 → IsReported (E.taken err.old) (E.taken err.new)
+        (E.failures err.old) (E.failures err.new) }
+    ensures unanswered { result ≡ 2 → W.contents out.new.inner ≡ W.contents out.old.inner }
     ensures unread { IfErr arguments (λ e. result ≡ status_of (argument_fault (error_kind e))) }
 {
     match given_words(rt.alloc(), arguments) {
@@ -60,13 +74,17 @@ where
 }
 
 // Runs the command that these words give, and flushes its output at status 0.
-fn obey_words<R, W, E>(rt: &R, words: &[String], out: &mut Out<W>, err: &mut Out<E>) -> u8
+fn obey_words<R, W, E>(rt: &R, words: &[String], out: &mut Out<W>, err: &mut E) -> u8
 where
     R: Files + AllocGlobal,
     W: io::Write,
-    E: io::Write,
+    E: Sink,
     ensures status { result ≤ 2 }
     ensures flushed { result ≡ 0 → IsTrue out.new.flushed }
+    ensures silent { result ≡ 0 → E.taken err.new ≡ E.taken err.old }
+    ensures reported { result ≢ 0 → IsReported (E.taken err.old) (E.taken err.new)
+        (E.failures err.old) (E.failures err.new) }
+    ensures unanswered { result ≡ 2 → W.contents out.new.inner ≡ W.contents out.old.inner }
 {
     let Ok(views) = views_of(rt.alloc(), words) else {
         return report(rt.alloc(), Failure::Refused(ExprError::OutOfMemory), err);

@@ -1,7 +1,7 @@
 //! The commands of `mtx`.
 
-ghost use Rattle.std.specs.Prelude.{◌≡◌, ◌≢◌, ◌≤◌, ℕ, List, length, None, OnOk, IfOk, IfErr};
-ghost use Rattle.std.specs.Prelude.{IfSome, IsTrue, map, string_bytes};
+ghost use Rattle.std.specs.Prelude.{◌≡◌, ◌≢◌, ◌≤◌, ◌↔◌, ℕ, List, length, None, OnOk, IfOk};
+ghost use Rattle.std.specs.Prelude.{IfErr, IfSome, IsTrue, map, string_bytes};
 ghost use Rattle.nalgebra_sparse.specs.PostfixWords.{texts};
 ghost use Rattle.nalgebra_sparse.specs.Run.{Writes};
 ghost use Rattle.sparse_expr.specs.declared.calculator.Form.{Form};
@@ -9,6 +9,7 @@ ghost use Rattle.sparse_expr.specs.declared.error.ExprError.TheVariants.{OutOfMe
 ghost use Rattle.sparse_factor.specs.declared.factorization.Triangle.{Triangle};
 ghost use Rattle.mtx_commands.specs.Commands.{IsAnswered, IsEvaluated, name_of, triangle_name};
 ghost use Rattle.mtx_commands.specs.Commands.{status_of};
+ghost use Rattle.mtx_commands.specs.Reports.{IsErrorLine, IsReported};
 ghost use Rattle.mtx_commands.specs.declared.cli.Failure.TheVariants.{Usage, Refused};
 
 use crate::fill::fill;
@@ -71,9 +72,9 @@ impl<T: Drop> From<AllocFailed<T>> for Failure {
 const USAGE: &str =
     "usage: mtx rows EXPR FILE.. | mtx cols EXPR FILE.. | mtx fill [upper|lower|both] FILE\n";
 
-const OUT_OF_MEMORY: &str = "mtx: out of memory\n";
-
 const NOT_SQUARE: &str = "mtx: not square\n";
+
+const OUT_OF_MEMORY: &str = "mtx: out of memory\n";
 
 /// Runs a command and returns its exit status.
 ///
@@ -88,6 +89,9 @@ where
     ensures answered { result ≡ 0
         → IsAnswered (texts words.now) (W.taken out.old) (W.taken out.new) }
     ensures silent { result ≡ 0 → E.taken err.new ≡ E.taken err.old }
+    ensures quiet { result ≡ 0 → E.failures err.new ≡ E.failures err.old }
+    ensures reported { result ≢ 0 → IsReported (E.taken err.old) (E.taken err.new)
+        (E.failures err.old) (E.failures err.new) }
     ensures unanswered { result ≡ 2 → W.taken out.new ≡ W.taken out.old }
 {
     match execute(rt, words, out) {
@@ -193,8 +197,10 @@ where
     W: Write,
     E: Sink,
     ensures status { result ≤ 1 }
-    ensures flushed { result ≡ 0 → IsTrue out.new.flushed }
+    ensures flushed { (result ≡ 0) ↔ IsTrue out.new.flushed }
     ensures silent { result ≡ 0 → E.taken err.new ≡ E.taken err.old }
+    ensures reported { result ≢ 0 → IsReported (E.taken err.old) (E.taken err.new)
+        (E.failures err.old) (E.failures err.new) }
 {
     match out.flush() {
         Ok(()) => 0,
@@ -204,16 +210,55 @@ where
 
 /// Writes the line of a failure, and returns its status.
 pub fn report<E: Sink>(alloc: Global, failure: Failure, err: &mut E) -> u8
-    ensures { result ≡ status_of failure }
+    ensures status { result ≡ status_of failure }
+    ensures reported { IsReported (E.taken err.old) (E.taken err.new) (E.failures err.old)
+        (E.failures err.new) }
 {
-    // An error in writing the line is ignored.
-    let _ = match failure {
-        Failure::Usage => write_all_to(err, USAGE.as_bytes()),
-        Failure::NotSquare => write_all_to(err, NOT_SQUARE.as_bytes()),
-        Failure::Refused(error) => match format!(in alloc; "mtx: {error}\n") {
-            Ok(line) => write_all_to(err, line.as_bytes()),
-            Err(_) => write_all_to(err, OUT_OF_MEMORY.as_bytes()),
-        },
-    };
+    write_line(alloc, failure, err);
     failure.status()
+}
+
+// Writes the line of a failure.
+fn write_line<E: Sink>(alloc: Global, failure: Failure, err: &mut E)
+    ensures { IsReported (E.taken err.old) (E.taken err.new) (E.failures err.old)
+        (E.failures err.new) }
+{
+    match failure {
+        Failure::Usage => write_message(USAGE, err),
+        Failure::NotSquare => write_message(NOT_SQUARE, err),
+        Failure::Refused(error) => write_error(alloc, error, err),
+    }
+}
+
+// Writes the line of an error.
+fn write_error<E: Sink>(alloc: Global, error: ExprError, err: &mut E)
+    ensures { IsReported (E.taken err.old) (E.taken err.new) (E.failures err.old)
+        (E.failures err.new) }
+{
+    match error_line(alloc, error) {
+        Ok(line) => write_message(line.as_str(), err),
+        Err(_) => write_message(OUT_OF_MEMORY, err),
+    }
+}
+
+// Writes the text of a line. An error in writing it is ignored.
+fn write_message<E: Sink>(text: &str, err: &mut E)
+    requires { IsErrorLine text.now }
+    ensures { IsReported (E.taken err.old) (E.taken err.new) (E.failures err.old)
+        (E.failures err.new) }
+{
+    match write_all_to(err, text.as_bytes()) {
+        Ok(()) => {}
+        Err(_) => {}
+    }
+}
+
+// Returns the line of an error.
+fn error_line(alloc: Global, error: ExprError) -> Result<String, AllocError>
+    ensures { IfOk result (λ line. IsErrorLine (string_bytes line)) }
+{
+    let mut line = String::from_str(alloc, "mtx: ")?;
+    let why = format!(in alloc; "{error}\n")?;
+    line.push_str(why.as_str())?;
+    Ok(line)
 }

@@ -207,10 +207,11 @@ const UNREAD: [(ErrorKind, u8, &str); 2] = [
 
 // Whether arguments that can't be read for this reason are answered with this status and this line.
 fn is_answered(rt: &HostRuntime, &(kind, status, line): &(ErrorKind, u8, &str)) -> bool {
-    let mut err = Vec::new(rt.alloc());
+    let mut out = Out::new(Vec::new(rt.alloc()));
+    let mut err = Out::new(Vec::new(rt.alloc()));
     let given = Err(io::Error::from(kind));
-    let code = answer(rt, given, Vec::new(rt.alloc()), &mut err);
-    code == ExitCode::from(status) && err.as_slice() == line.as_bytes()
+    let code = answer(rt, given, &mut out, &mut err);
+    code == ExitCode::from(status) && err.into_inner().as_slice() == line.as_bytes()
 }
 
 #[test]
@@ -232,14 +233,10 @@ fn arguments(alloc: Global, path: &str) -> Result<Vec<String>, AllocError> {
 // Whether `mtx rows 1` of this file fails on a stream that takes this many bytes and can't be flushed.
 fn fails_on_short(rt: &HostRuntime, path: &str, room: usize) -> Result<bool, AllocError> {
     let given = arguments(rt.alloc(), path)?;
-    let mut err = Vec::new(rt.alloc());
-    let status = answer(
-        rt,
-        Ok(given.into_iter()),
-        with_room(rt.alloc(), room),
-        &mut err,
-    );
-    Ok(status == ExitCode::FAILURE && err.as_slice() == FAILED)
+    let mut out = Out::new(with_room(rt.alloc(), room));
+    let mut err = Out::new(Vec::new(rt.alloc()));
+    let status = answer(rt, Ok(given.into_iter()), &mut out, &mut err);
+    Ok(status == ExitCode::FAILURE && err.into_inner().as_slice() == FAILED)
 }
 
 #[test]
