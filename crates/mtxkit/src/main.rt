@@ -11,12 +11,5 @@ fn main(rt: HostRuntime) -> ExitCode {
     let screen = Screen::of(rt.stderr());
     let mut out = Out::new(rt.stdout());
     let mut err = Out::new(rt.stderr());
-    answer(
-        &rt,
-        env::args(&rt),
-        rt.stdin(),
-        &mut out,
-        &mut err,
-        screen,
-    )
+    answer(&rt, env::args(&rt), rt.stdin(), &mut out, &mut err, screen)
 }

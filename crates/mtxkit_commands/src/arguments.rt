@@ -121,13 +121,7 @@ where
 }
 
 // Runs the command that these words give.
-fn run_words<R, T, W, E>(
-    rt: &R,
-    words: &[String],
-    texts: &mut T,
-    out: &mut W,
-    err: &mut E,
-) -> u8
+fn run_words<R, T, W, E>(rt: &R, words: &[String], texts: &mut T, out: &mut W, err: &mut E) -> u8
 where
     R: Files + AllocGlobal,
     T: Texts,

@@ -225,7 +225,12 @@ fn is_refused(
 #[test]
 fn each_refusal_has_its_line(rt: HostRuntime) -> Result<(), Fail> {
     for case in REFUSALS {
-        assert!(rt; is_refused(&rt, BROKEN_PIPE, case)?, "{:?}: {}", case.0, case.3);
+        assert!(rt;
+            is_refused(&rt, BROKEN_PIPE, case)?,
+            "{:?}: {}",
+            case.0,
+            case.3
+        );
     }
     Ok(())
 }
@@ -246,7 +251,10 @@ const UNWRITTEN: [(i32, &str); 3] = [
 #[test]
 fn failed_writes_have_a_plain_reason(rt: HostRuntime) -> Result<(), Fail> {
     for &(code, line) in &UNWRITTEN {
-        assert!(rt; is_refused(&rt, code, &(&["--help"], &[], 1, line))?, "{line}");
+        assert!(rt;
+            is_refused(&rt, code, &(&["--help"], &[], 1, line))?,
+            "{line}"
+        );
     }
     Ok(())
 }

@@ -5,5 +5,8 @@ pub returns-in-0-clause-reported : goal.returns-in-0-clause-reported
 returns-in-0-clause-reported g c =
     let taken = c.run_words.ensures.silent c.in-0.is in
     let failures = c.run_words.ensures.quiet c.in-0.is in
-    λ one. (None, rw (← taken, ← failures)
-    (c.finish.ensures.reported (λ zero. omega (arith, one, zero))))
+    λ one. (
+      None,
+      rw (← taken, ← failures)
+          (c.finish.ensures.reported (λ zero. omega (arith, one, zero))),
+    )
