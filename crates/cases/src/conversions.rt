@@ -194,11 +194,7 @@ fn are_equal<T: Scalar, F: Compressed<T> + Conversions<T>>(
 }
 
 // Whether the lists have the same triplets in the same order.
-fn are_equal_lists<T: Scalar>(
-    alloc: Global,
-    a: Op<&str>,
-    b: Op<&str>,
-) -> Result<String, Failure> {
+fn are_equal_lists<T: Scalar>(alloc: Global, a: Op<&str>, b: Op<&str>) -> Result<String, Failure> {
     let left: CooMatrix<T> = plain_list_of(alloc, a)?;
     let right: CooMatrix<T> = plain_list_of(alloc, b)?;
     truth(alloc, left == right)

@@ -131,11 +131,7 @@ fn values<T: Scalar>(alloc: Global, matrix: &DMatrix<T>) -> Result<String, Failu
 }
 
 // The values of a column.
-fn column<T: Scalar>(
-    alloc: Global,
-    matrix: &DMatrix<T>,
-    index: i128,
-) -> Result<String, Failure> {
+fn column<T: Scalar>(alloc: Global, matrix: &DMatrix<T>, index: i128) -> Result<String, Failure> {
     let index = index_from(index)?;
     if matrix.ncols() <= index {
         return Err(Failure::Misfit);

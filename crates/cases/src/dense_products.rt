@@ -3,9 +3,7 @@
 ghost use Rattle.std.specs.Prelude.{◌≡◌};
 ghost use Rattle.nalgebra_sparse.specs.DenseOperands.{op_dense};
 
-use crate::compressed::{
-    Compressed, dense_of, inner_of, matrix_of, operand, plain_dense_of,
-};
+use crate::compressed::{Compressed, dense_of, inner_of, matrix_of, operand, plain_dense_of};
 use crate::sums::{size_by_columns, size_by_rows};
 use crate::templates::Operands;
 use case_words::drawing::picture;
@@ -115,7 +113,13 @@ pub fn dense_product_into<T: Scalar, F: Compressed<T> + DenseProducts<T>>(
     let a: F = inner_of(alloc, given.a)?;
     let b: DMatrix<T> = dense_of(alloc, given.b)?;
     let c: DMatrix<T> = plain_dense_of(alloc, given.c)?;
-    added(alloc, scalars, c, operand(given.a, &a), operand(given.b, &b))
+    added(
+        alloc,
+        scalars,
+        c,
+        operand(given.a, &a),
+        operand(given.b, &b),
+    )
 }
 
 fn added<T: Scalar, F: DenseProducts<T>>(

@@ -126,19 +126,22 @@ fn read<T: Scalar>(entry: Option<SparseEntry<'_, T>>) -> Entry<T> {
 }
 
 fn read_mut<T: Scalar>(entry: Option<SparseEntryMut<'_, T>>) -> Entry<T> {
-    let entry = entry?;
-    let stored = matches!(&entry, SparseEntryMut::NonZero(_));
-    Some((entry.into_value(), stored))
+    match entry {
+        Some(SparseEntryMut::NonZero(value)) => Some((*value, true)),
+        Some(SparseEntryMut::Zero) => Some((T::zero(), false)),
+        None => None,
+    }
 }
 
 fn replaced<T: Scalar>(entry: Option<SparseEntryMut<'_, T>>, value: T) -> Entry<T> {
-    match entry? {
-        SparseEntryMut::NonZero(borrowed) => {
+    match entry {
+        Some(SparseEntryMut::NonZero(borrowed)) => {
             let old = *borrowed;
             *borrowed = value;
             Some((old, true))
         }
-        SparseEntryMut::Zero => Some((T::zero(), false)),
+        Some(SparseEntryMut::Zero) => Some((T::zero(), false)),
+        None => None,
     }
 }
 

@@ -68,11 +68,7 @@ pub fn answer_over(
 }
 
 // The answer of a call over the scalar and in the form of these names.
-fn answer_in(
-    turn: &mut Turn,
-    (scalar, form): (&str, &str),
-    call: &str,
-) -> Result<String, Failure> {
+fn answer_in(turn: &mut Turn, (scalar, form): (&str, &str), call: &str) -> Result<String, Failure> {
     let (name, _) = name_of(call);
     if is_on_texts(name) {
         return answer_on_texts(turn, (scalar, form), call);

@@ -59,11 +59,7 @@ pub fn pattern_call(
     }
 }
 
-fn of_pattern(
-    turn: &mut Turn,
-    call: PatternCall,
-    given: Operands<'_>,
-) -> Result<String, Failure> {
+fn of_pattern(turn: &mut Turn, call: PatternCall, given: Operands<'_>) -> Result<String, Failure> {
     let pattern = pattern_of(turn.alloc(), given.a)?;
     match call {
         PatternCall::Lane => lane(turn.alloc(), &pattern, given.k),
@@ -113,10 +109,7 @@ fn zeros(turn: &mut Turn, (lanes, length): (usize, usize)) -> Result<String, Fai
 }
 
 // The text of the pattern that a call made.
-fn made_text(
-    alloc: Global,
-    made: Result<SparsityPattern, AllocError>,
-) -> Result<String, Failure> {
+fn made_text(alloc: Global, made: Result<SparsityPattern, AllocError>) -> Result<String, Failure> {
     Ok(text_of(alloc, made?)?)
 }
 

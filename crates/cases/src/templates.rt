@@ -6,7 +6,7 @@
 use case_words::words::Word;
 use nalgebra_sparse::ops::Op;
 
-/// The operands of a call. What its template does not name is empty or zero.
+/// The operands of a call. What its template does not name is empty or zero; without `..` the rest is all words.
 #[derive(Clone, Copy)]
 pub struct Operands<'a> {
     pub a: Op<&'a str>,
@@ -34,31 +34,43 @@ pub fn call_of<'a, C: Copy>(
 
 // The operands that words give a template, or `None` if they do not fit it.
 fn operands_by<'a>(template: &str, words: &'a [Word<'a>]) -> Option<Operands<'a>> {
-    let (mut given, mut left) = (NONE, words);
+    let mut given = without_operands(words);
+    let mut count: usize = 0;
     for part in template.split_whitespace() {
         if part == ".." {
-            return Some(Operands {
-                rest: left,
-                ..given
-            });
+            return with_rest(given, count);
         }
-        let (first, rest) = left.split_first()?;
-        given = with(given, part, *first)?;
-        left = rest;
+        given = with(given, part, *words.get(count)?)?;
+        count = count.saturating_add(1);
     }
-    if left.is_empty() { Some(given) } else { None }
+    if count == words.len() {
+        Some(given)
+    } else {
+        None
+    }
 }
 
-const NONE: Operands<'static> = Operands {
-    a: Op::NoOp(""),
-    b: Op::NoOp(""),
-    c: Op::NoOp(""),
-    k: 0,
-    l: 0,
-    v: "",
-    w: "",
-    rest: &[],
-};
+fn without_operands<'a>(words: &'a [Word<'a>]) -> Operands<'a> {
+    Operands {
+        a: Op::NoOp(""),
+        b: Op::NoOp(""),
+        c: Op::NoOp(""),
+        k: 0,
+        l: 0,
+        v: "",
+        w: "",
+        rest: words,
+    }
+}
+
+// The operands with the words behind so many of them as the rest.
+fn with_rest<'a>(given: Operands<'a>, count: usize) -> Option<Operands<'a>> {
+    if given.rest.len() < count {
+        return None;
+    }
+    let rest = &given.rest[count..];
+    Some(Operands { rest, ..given })
+}
 
 // The operands with a word as a part of the template, or `None` if it does not fit.
 fn with<'a>(given: Operands<'a>, part: &str, word: Word<'a>) -> Option<Operands<'a>> {

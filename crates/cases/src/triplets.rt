@@ -184,7 +184,10 @@ fn in_order<T: Scalar, F: Triplets<T>>(alloc: Global, matrix: &mut F) -> Result<
 }
 
 // The matrix with each value doubled. All ways must leave the same matrix.
-fn doubled<T: Scalar, F: Compressed<T> + Triplets<T>>(alloc: Global, matrix: &F) -> Result<String, Failure> {
+fn doubled<T: Scalar, F: Compressed<T> + Triplets<T>>(
+    alloc: Global,
+    matrix: &F,
+) -> Result<String, Failure> {
     let after = doubled_in(alloc, matrix, ValuesWay::Values)?;
     for way in WAYS {
         let other = doubled_in(alloc, matrix, *way)?;

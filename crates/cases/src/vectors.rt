@@ -139,11 +139,7 @@ fn dot_of_list<T: Scalar>(x: &CooMatrix<T>, y: &[T]) -> Result<T, Failure> {
     Ok(usdot(x.values(), x.col_indices(), y))
 }
 
-fn sparse_axpy<T: Scalar>(
-    alloc: Global,
-    given: Operands<'_>,
-    y: &mut [T],
-) -> Result<(), Failure> {
+fn sparse_axpy<T: Scalar>(alloc: Global, given: Operands<'_>, y: &mut [T]) -> Result<(), Failure> {
     let alpha: T = scalar_from(given.l)?;
     let x = list_of::<T>(alloc, given.a.into_inner())?;
     add_list(alpha, &x, y)

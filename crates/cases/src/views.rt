@@ -35,7 +35,10 @@ impl<T: Scalar> Views<T> for CscMatrix<T> {
 
 /// Returns the answer of `view A`, `view list A`, `view csr 2x3 offsets .. indices .. values ..`, `view csc ..` or
 /// `view coo 2x3 rows .. cols .. values ..`: what the view shows, which its copy must show too.
-pub fn view<T: Scalar, F: Compressed<T> + Views<T>>(turn: &mut Turn, text: &str) -> Result<String, Failure> {
+pub fn view<T: Scalar, F: Compressed<T> + Views<T>>(
+    turn: &mut Turn,
+    text: &str,
+) -> Result<String, Failure> {
     match text.split_once(' ') {
         Some(("csr", arrays)) => csr_view::<T>(turn, arrays),
         Some(("csc", arrays)) => csc_view::<T>(turn, arrays),
@@ -62,7 +65,10 @@ fn coo_view<T: Scalar>(turn: &mut Turn, text: &str) -> Result<String, Failure> {
     list_seen(turn, &view)
 }
 
-fn view_of_words<T: Scalar, F: Compressed<T> + Views<T>>(turn: &mut Turn, text: &str) -> Result<String, Failure> {
+fn view_of_words<T: Scalar, F: Compressed<T> + Views<T>>(
+    turn: &mut Turn,
+    text: &str,
+) -> Result<String, Failure> {
     let alloc = turn.alloc();
     match *words_of(alloc, text)?.as_slice() {
         [Word::Matrix(a)] => matrix_of::<T, F>(alloc, a)?.viewed(turn),
@@ -114,7 +120,9 @@ impl<'b, 'a, T: Scalar> Drawn for ByColumns<'b, 'a, T> {
 
 // What a view by rows shows, and its copy.
 fn rows_seen<T: Scalar>(turn: &mut Turn, view: &CsrView<'_, T>) -> Result<String, Failure> {
-    let seen = entries_seen(turn.alloc(), view, &ByRows { view })?;
+    let seen = entries_seen(turn.alloc(), view)?;
+    let lanes = picture(turn.alloc(), &ByRows { view })?;
+    let seen = as_copied(seen, Ok(lanes))?;
     turn.begin();
     let copy = turn.end(view.to_csr(turn.alloc()))?;
     as_copied(seen, shown(turn.alloc(), &copy))
@@ -122,7 +130,9 @@ fn rows_seen<T: Scalar>(turn: &mut Turn, view: &CsrView<'_, T>) -> Result<String
 
 // What a view by columns shows, and its copy.
 fn columns_seen<T: Scalar>(turn: &mut Turn, view: &CscView<'_, T>) -> Result<String, Failure> {
-    let seen = entries_seen(turn.alloc(), view, &ByColumns { view })?;
+    let seen = entries_seen(turn.alloc(), view)?;
+    let lanes = picture(turn.alloc(), &ByColumns { view })?;
+    let seen = as_copied(seen, Ok(lanes))?;
     turn.begin();
     let copy = turn.end(view.to_csc(turn.alloc()))?;
     as_copied(seen, shown(turn.alloc(), &copy))
@@ -136,21 +146,11 @@ fn list_seen<T: Scalar>(turn: &mut Turn, view: &CooView<'_, T>) -> Result<String
     as_copied(seen, made_list(turn.alloc(), copy))
 }
 
-// What a view shows, and its lanes.
-fn entries_seen<V: Drawn, L: Drawn>(
-    alloc: Global,
-    view: &V,
-    lanes: &L,
-) -> Result<String, Failure> {
+fn entries_seen<V: Drawn>(alloc: Global, view: &V) -> Result<String, Failure> {
     if is_large(view.size()) {
         return Err(Failure::Unreadable("the view has too many cells"));
     }
-    let seen = picture(alloc, view)?;
-    as_copied(seen, drawn(alloc, lanes))
-}
-
-fn drawn<D: Drawn>(alloc: Global, matrix: &D) -> Result<String, Failure> {
-    Ok(picture(alloc, matrix)?)
+    Ok(picture(alloc, view)?)
 }
 
 fn triplets_seen<T: Scalar>(alloc: Global, view: &CooView<'_, T>) -> Result<String, AllocError> {
