@@ -61,23 +61,23 @@ impl<T: Scalar> Entries<T> for CsrMatrix<T> {
     fn entry_mut(&mut self, way: Way, (row, col): (usize, usize)) -> Entry<T> {
         match way {
             Way::Index if row < self.nrows() && col < self.ncols() => {
-                read_mut(Some(self.index_entry_mut(row, col)))
+                read_mut(self.index_entry_mut(row, col))
             }
             Way::Lane if row < self.nrows() => read(self.row_mut(row).get_entry(col)),
-            _ => read_mut(self.get_entry_mut(row, col)),
+            _ => read_mut(self.get_entry_mut(row, col)?),
         }
     }
 
     fn replace(&mut self, way: Way, (row, col): (usize, usize), value: T) -> Entry<T> {
         match way {
             Way::Index if row < self.nrows() && col < self.ncols() => {
-                replaced(Some(self.index_entry_mut(row, col)), value)
+                replaced(self.index_entry_mut(row, col), value)
             }
             Way::Lane | Way::Slices if row < self.nrows() => {
                 replaced_in_row(self.row_mut(row), way, col, value)
             }
             Way::GetLane => replaced_in_row(self.get_row_mut(row)?, way, col, value),
-            _ => replaced(self.get_entry_mut(row, col), value),
+            _ => replaced(self.get_entry_mut(row, col)?, value),
         }
     }
 }
@@ -98,23 +98,23 @@ impl<T: Scalar> Entries<T> for CscMatrix<T> {
     fn entry_mut(&mut self, way: Way, (row, col): (usize, usize)) -> Entry<T> {
         match way {
             Way::Index if row < self.nrows() && col < self.ncols() => {
-                read_mut(Some(self.index_entry_mut(row, col)))
+                read_mut(self.index_entry_mut(row, col))
             }
             Way::Lane if col < self.ncols() => read(self.col_mut(col).get_entry(row)),
-            _ => read_mut(self.get_entry_mut(row, col)),
+            _ => read_mut(self.get_entry_mut(row, col)?),
         }
     }
 
     fn replace(&mut self, way: Way, (row, col): (usize, usize), value: T) -> Entry<T> {
         match way {
             Way::Index if row < self.nrows() && col < self.ncols() => {
-                replaced(Some(self.index_entry_mut(row, col)), value)
+                replaced(self.index_entry_mut(row, col), value)
             }
             Way::Lane | Way::Slices if col < self.ncols() => {
                 replaced_in_col(self.col_mut(col), way, row, value)
             }
             Way::GetLane => replaced_in_col(self.get_col_mut(col)?, way, row, value),
-            _ => replaced(self.get_entry_mut(row, col), value),
+            _ => replaced(self.get_entry_mut(row, col)?, value),
         }
     }
 }
@@ -125,23 +125,19 @@ fn read<T: Scalar>(entry: Option<SparseEntry<'_, T>>) -> Entry<T> {
     Some((entry.into_value(), stored))
 }
 
-fn read_mut<T: Scalar>(entry: Option<SparseEntryMut<'_, T>>) -> Entry<T> {
-    match entry {
-        Some(SparseEntryMut::NonZero(value)) => Some((*value, true)),
-        Some(SparseEntryMut::Zero) => Some((T::zero(), false)),
-        None => None,
-    }
+fn read_mut<T: Scalar>(entry: SparseEntryMut<'_, T>) -> Entry<T> {
+    let stored = matches!(&entry, SparseEntryMut::NonZero(_));
+    Some((entry.into_value(), stored))
 }
 
-fn replaced<T: Scalar>(entry: Option<SparseEntryMut<'_, T>>, value: T) -> Entry<T> {
+fn replaced<T: Scalar>(entry: SparseEntryMut<'_, T>, value: T) -> Entry<T> {
     match entry {
-        Some(SparseEntryMut::NonZero(borrowed)) => {
+        SparseEntryMut::NonZero(borrowed) => {
             let old = *borrowed;
             *borrowed = value;
             Some((old, true))
         }
-        Some(SparseEntryMut::Zero) => Some((T::zero(), false)),
-        None => None,
+        SparseEntryMut::Zero => Some((T::zero(), false)),
     }
 }
 
@@ -156,7 +152,7 @@ fn replaced_in_row<T: Scalar>(
             let (indices, values) = row.cols_and_values_mut();
             replaced_at(indices, values, col, value)
         }
-        _ => replaced(row.get_entry_mut(col), value),
+        _ => replaced(row.get_entry_mut(col)?, value),
     }
 }
 
@@ -171,7 +167,7 @@ fn replaced_in_col<T: Scalar>(
             let (indices, values) = col.rows_and_values_mut();
             replaced_at(indices, values, row, value)
         }
-        _ => replaced(col.get_entry_mut(row), value),
+        _ => replaced(col.get_entry_mut(row)?, value),
     }
 }
 
