@@ -28,7 +28,7 @@ pub enum DenseCall {
 }
 
 pub const DENSE: &[(&str, DenseCall)] = &[
-    ("dense zeros w", DenseCall::Zeros),
+    ("dense zeros w ..", DenseCall::Zeros),
     ("dense repeat w ..", DenseCall::Repeat),
     ("dense rows w ..", DenseCall::Rows),
     ("dense columns w ..", DenseCall::Columns),
@@ -90,7 +90,7 @@ fn made_of<T: Scalar>(
     values: &[T],
 ) -> Result<DMatrix<T>, Failure> {
     match (call, values) {
-        (DenseCall::Zeros, _) => Ok(DMatrix::zeros(alloc, nrows, ncols)?),
+        (DenseCall::Zeros, []) => Ok(DMatrix::zeros(alloc, nrows, ncols)?),
         (DenseCall::Repeat, [value]) => Ok(DMatrix::repeat(alloc, nrows, ncols, *value)?),
         _ => of_values(alloc, call, (nrows, ncols), values),
     }
