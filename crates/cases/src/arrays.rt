@@ -1,7 +1,7 @@
 //! Matrices and lists of arrays.
 
 use crate::compressed::shown;
-use crate::conversions::arrays_text;
+use crate::conversions::{Conversions, arrays_text};
 use crate::made::Made;
 use case_words::drawing::triplets;
 use case_words::failure::Failure;
@@ -74,12 +74,15 @@ pub fn csc<T: Scalar>(turn: &mut Turn, text: &str) -> Result<String, Failure> {
 }
 
 /// Returns the answer of `unsorted 2x3 offsets .. indices .. values ..`: the arrays of the matrix of 2 lanes.
-pub fn unsorted<T: Scalar, F: Made<T>>(turn: &mut Turn, text: &str) -> Result<String, Failure> {
+pub fn unsorted<T: Scalar, F: Drop + Conversions<T> + Made<T>>(
+    turn: &mut Turn,
+    text: &str,
+) -> Result<String, Failure> {
     let alloc = turn.alloc();
     let (size, arrays) = matrix_arrays::<T>(alloc, text)?;
     turn.begin();
     let made: F = turn.end(F::of_unsorted(alloc, size, arrays))?;
-    Ok(arrays_text(alloc, made.arrays())?)
+    arrays_text(alloc, made.arrays())
 }
 
 /// Returns the answer of `coo 2x3 rows .. cols .. values ..`: the triplets of the list.

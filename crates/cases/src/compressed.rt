@@ -10,47 +10,58 @@ use nalgebra_sparse::convert::serial::{
 use nalgebra_sparse::dense::DMatrix;
 use nalgebra_sparse::ops::Op;
 use nalgebra_sparse::{CooMatrix, CscMatrix, CsrMatrix};
-use std::alloc::Global;
+use std::alloc::{AllocError, Global};
 
 /// A compressed matrix.
 pub trait Compressed<T: Scalar>: Drawn + Drop {
     /// Returns the matrix of a list.
-    fn from_list(alloc: Global, list: &CooMatrix<T>) -> Result<Self, Failure>;
+    fn from_list(alloc: Global, list: &CooMatrix<T>) -> Result<Self, AllocError>;
 
     /// Returns the list of the matrix.
-    fn to_list(&self, alloc: Global) -> Result<CooMatrix<T>, Failure>;
+    fn to_list(&self, alloc: Global) -> Result<CooMatrix<T>, AllocError>;
 
     /// Returns the transpose.
-    fn transposed(&self, alloc: Global) -> Result<Self, Failure>;
+    fn transposed(&self, alloc: Global) -> Result<Self, AllocError>;
+
+    /// Returns a copy.
+    fn copied(&self, alloc: Global) -> Result<Self, AllocError>;
 }
 
 /// By rows.
 impl<T: Scalar> Compressed<T> for CsrMatrix<T> {
-    fn from_list(alloc: Global, list: &CooMatrix<T>) -> Result<Self, Failure> {
-        Ok(convert_coo_csr(alloc, list)?)
+    fn from_list(alloc: Global, list: &CooMatrix<T>) -> Result<Self, AllocError> {
+        convert_coo_csr(alloc, list)
     }
 
-    fn to_list(&self, alloc: Global) -> Result<CooMatrix<T>, Failure> {
-        Ok(convert_csr_coo(alloc, self)?)
+    fn to_list(&self, alloc: Global) -> Result<CooMatrix<T>, AllocError> {
+        convert_csr_coo(alloc, self)
     }
 
-    fn transposed(&self, alloc: Global) -> Result<Self, Failure> {
-        Ok(self.transpose(alloc)?)
+    fn transposed(&self, alloc: Global) -> Result<Self, AllocError> {
+        self.transpose(alloc)
+    }
+
+    fn copied(&self, alloc: Global) -> Result<Self, AllocError> {
+        self.clone(alloc)
     }
 }
 
 /// By columns.
 impl<T: Scalar> Compressed<T> for CscMatrix<T> {
-    fn from_list(alloc: Global, list: &CooMatrix<T>) -> Result<Self, Failure> {
-        Ok(convert_coo_csc(alloc, list)?)
+    fn from_list(alloc: Global, list: &CooMatrix<T>) -> Result<Self, AllocError> {
+        convert_coo_csc(alloc, list)
     }
 
-    fn to_list(&self, alloc: Global) -> Result<CooMatrix<T>, Failure> {
-        Ok(convert_csc_coo(alloc, self)?)
+    fn to_list(&self, alloc: Global) -> Result<CooMatrix<T>, AllocError> {
+        convert_csc_coo(alloc, self)
     }
 
-    fn transposed(&self, alloc: Global) -> Result<Self, Failure> {
-        Ok(self.transpose(alloc)?)
+    fn transposed(&self, alloc: Global) -> Result<Self, AllocError> {
+        self.transpose(alloc)
+    }
+
+    fn copied(&self, alloc: Global) -> Result<Self, AllocError> {
+        self.clone(alloc)
     }
 }
 
@@ -59,9 +70,10 @@ pub fn matrix_of<T: Scalar, F: Compressed<T>>(
     alloc: Global,
     picture: Op<&str>,
 ) -> Result<F, Failure> {
+    let matrix: F = inner_of(alloc, picture)?;
     match picture {
-        Op::NoOp(picture) => F::from_list(alloc, &list_of(alloc, picture)?),
-        Op::Transpose(picture) => F::from_list(alloc, &list_of(alloc, picture)?)?.transposed(alloc),
+        Op::NoOp(_) => Ok(matrix),
+        Op::Transpose(_) => Ok(matrix.transposed(alloc)?),
     }
 }
 
@@ -70,20 +82,32 @@ pub fn inner_of<T: Scalar, F: Compressed<T>>(
     alloc: Global,
     picture: Op<&str>,
 ) -> Result<F, Failure> {
-    F::from_list(alloc, &list_of(alloc, picture.into_inner())?)
+    let list = list_of(alloc, picture.into_inner())?;
+    Ok(F::from_list(alloc, &list)?)
 }
 
 /// Returns the picture of an operand that a call takes as it is alone.
-pub fn plain<'a>(picture: Op<&'a str>) -> Result<Op<&'a str>, Failure> {
+pub fn plain<'a>(picture: Op<&'a str>) -> Result<&'a str, Failure> {
     match picture {
-        Op::NoOp(_) => Ok(picture),
+        Op::NoOp(picture) => Ok(picture),
         Op::Transpose(_) => Err(Failure::Unreadable("the call takes no transpose")),
     }
 }
 
+/// Returns the list of a picture that no transpose may follow.
+pub fn plain_list_of<T: Scalar>(alloc: Global, picture: Op<&str>) -> Result<CooMatrix<T>, Failure> {
+    list_of(alloc, plain(picture)?)
+}
+
+/// Returns the dense matrix of a picture that no transpose may follow.
+pub fn plain_dense_of<T: Scalar>(alloc: Global, picture: Op<&str>) -> Result<DMatrix<T>, Failure> {
+    dense_of(alloc, Op::NoOp(plain(picture)?))
+}
+
 /// Returns the dense matrix of a picture that an operation takes as it is or transposed.
 pub fn dense_of<T: Scalar>(alloc: Global, picture: Op<&str>) -> Result<DMatrix<T>, Failure> {
-    Ok(convert_coo_dense(alloc, &list_of(alloc, picture.into_inner())?)?)
+    let list = list_of(alloc, picture.into_inner())?;
+    Ok(convert_coo_dense(alloc, &list)?)
 }
 
 /// Returns a matrix as the operand that its picture is.
@@ -102,15 +126,45 @@ pub fn shown<T: Scalar, F: Compressed<T>>(alloc: Global, matrix: &F) -> Result<S
     Ok(picture(alloc, matrix)?)
 }
 
+/// Returns what is shown of the matrix that a call made.
+pub fn made<T: Scalar, F: Compressed<T>>(
+    alloc: Global,
+    made: Result<F, Failure>,
+) -> Result<String, Failure> {
+    shown(alloc, &made?)
+}
+
+/// Returns the triplets of the list that a call made.
+pub fn made_list<T: Scalar>(
+    alloc: Global,
+    made: Result<CooMatrix<T>, AllocError>,
+) -> Result<String, Failure> {
+    Ok(triplets(alloc, &made?)?)
+}
+
+/// Returns the picture of what a call made.
+pub fn made_picture<D: Drawn + Drop>(
+    alloc: Global,
+    made: Result<D, AllocError>,
+) -> Result<String, Failure> {
+    Ok(picture(alloc, &made?)?)
+}
+
 /// Returns the answer of an update, given how its target was shown before and after: an error must leave it as it was.
 pub fn updated(
     answer: Result<(), Failure>,
     before: String,
-    after: String,
+    after: Result<String, Failure>,
 ) -> Result<String, Failure> {
     match answer {
-        Ok(()) => Ok(after),
-        Err(failure) if before.as_str() == after.as_str() => Err(failure),
-        Err(_) => Err(Failure::Unreadable("an error changed the target")),
+        Ok(()) => after,
+        Err(failure) => unchanged(failure, before, after?),
     }
+}
+
+fn unchanged(failure: Failure, before: String, after: String) -> Result<String, Failure> {
+    if before.as_str() == after.as_str() {
+        return Err(failure);
+    }
+    Err(Failure::Unreadable("an error changed the target"))
 }

@@ -1,14 +1,17 @@
 //! Calls that make matrices of arrays and of parts, view them, filter them, and read and write JSON.
 
 use crate::arrays::{coo, csc, csr, unsorted};
+use crate::compressed::Compressed;
+use crate::conversions::Conversions;
 use crate::filters::{Filters, keep};
 use crate::json::{from_json, to_json};
-use crate::made::{Made, identity, joined_parts, taken_apart, zeros};
+use crate::made::{MADE, Made, made_call};
+use crate::templates::{Operands, call_of};
 use crate::views::{Views, view};
 use case_words::failure::Failure;
 use case_words::scalar::Scalar;
 use case_words::turn::Turn;
-use case_words::words::{Word, words_of};
+use case_words::words::Word;
 use nalgebra_sparse::{CscMatrix, CsrMatrix};
 
 /// A form with these calls.
@@ -18,18 +21,16 @@ impl<T: Scalar> Constructors<T> for CsrMatrix<T> {}
 
 impl<T: Scalar> Constructors<T> for CscMatrix<T> {}
 
-/// Returns whether one of these calls begins with a word.
+/// Returns whether a word begins a call of a text.
 pub fn is_constructor(keyword: &str) -> bool {
     match keyword {
         "csr" | "csc" | "unsorted" | "coo" | "view" | "from-json" => true,
-        "zeros" | "identity" | "keep" | "to-json" => true,
-        "join" | "parts" | "disassemble" | "rejoin" | "transpose-as" => true,
         _ => false,
     }
 }
 
-/// Returns the answer of one of these calls, given its first word and what follows.
-pub fn constructed<T: Scalar, F: Constructors<T>>(
+/// Returns the answer of a call of a text, given its first word and the text behind it.
+pub fn constructed<T: Scalar, F: Compressed<T> + Conversions<T> + Constructors<T>>(
     turn: &mut Turn,
     keyword: &str,
     text: &str,
@@ -40,25 +41,38 @@ pub fn constructed<T: Scalar, F: Constructors<T>>(
         "unsorted" => unsorted::<T, F>(turn, text),
         "coo" => coo::<T>(turn, text),
         "view" => view::<T, F>(turn, text),
-        "from-json" => from_json(turn, text),
-        _ => of_words::<T, F>(turn, keyword, &words_of(turn.alloc(), text)?),
+        _ => from_json(turn, text),
     }
 }
 
-fn of_words<T: Scalar, F: Constructors<T>>(
+#[derive(Clone, Copy)]
+enum Other {
+    Keep,
+    ToJson,
+}
+
+const OTHERS: &[(&str, Other)] = &[("keep w A", Other::Keep), ("to-json w A", Other::ToJson)];
+
+/// Returns the answer of a call that makes a matrix of parts, takes one apart, filters it or writes JSON, or `None` of
+/// other words.
+pub fn of_parts<T: Scalar, F: Compressed<T> + Conversions<T> + Constructors<T>>(
     turn: &mut Turn,
-    keyword: &str,
     words: &[Word<'_>],
+) -> Option<Result<String, Failure>> {
+    if let Some((call, given)) = call_of(MADE, words) {
+        return Some(made_call::<T, F>(turn, call, given));
+    }
+    let (call, given) = call_of(OTHERS, words)?;
+    Some(of_other::<T, F>(turn, call, given))
+}
+
+fn of_other<T: Scalar, F: Compressed<T> + Filters<T>>(
+    turn: &mut Turn,
+    call: Other,
+    given: Operands<'_>,
 ) -> Result<String, Failure> {
-    match *words {
-        [Word::Name(size)] if keyword == "zeros" => zeros::<T, F>(turn, size),
-        [Word::Number(order)] if keyword == "identity" => identity::<T, F>(turn, order),
-        [Word::Name(which), Word::Matrix(a)] if keyword == "keep" => keep::<T, F>(turn, which, a),
-        [Word::Name(kind), Word::Matrix(a)] if keyword == "to-json" => to_json(turn, kind, a),
-        [Word::Matrix(a), Word::Name("values"), ref values @ ..] if keyword == "join" => {
-            joined_parts::<T, F>(turn, a, values)
-        }
-        [Word::Matrix(a)] => taken_apart::<T, F>(turn, keyword, a),
-        _ => Err(Failure::Unreadable("no constructor has these words")),
+    match call {
+        Other::Keep => keep::<T, F>(turn, given),
+        Other::ToJson => to_json(turn, given.w, given.a),
     }
 }

@@ -1,86 +1,138 @@
 //! Dense matrices: how they are made, copied, compared, read and written.
 
-use crate::compressed::dense_of;
+use crate::compressed::{dense_of, made_picture};
+use crate::conversions::truth;
+use crate::templates::Operands;
 use case_words::drawing::{draw_number, draw_values, or_none, picture};
 use case_words::failure::Failure;
 use case_words::scalar::{Scalar, scalar_from, scalars_from};
 use case_words::turn::Turn;
-use case_words::words::{Word, index_from, place_of, size_of};
+use case_words::words::{index_from, place_of, size_of};
 use nalgebra_sparse::dense::DMatrix;
+use nalgebra_sparse::ops::Op;
 use std::alloc::{AllocError, Global};
 
-/// Returns the answer of `dense ..`: a call of a dense matrix.
+/// A call of a dense matrix.
+#[derive(Clone, Copy)]
+pub enum DenseCall {
+    Zeros,
+    Repeat,
+    Rows,
+    Columns,
+    Get,
+    Set,
+    Column,
+    Values,
+    Copy,
+    Equal,
+}
+
+pub const DENSE: &[(&str, DenseCall)] = &[
+    ("dense zeros w ..", DenseCall::Zeros),
+    ("dense repeat w ..", DenseCall::Repeat),
+    ("dense rows w ..", DenseCall::Rows),
+    ("dense columns w ..", DenseCall::Columns),
+    ("dense get w A", DenseCall::Get),
+    ("dense set w k A", DenseCall::Set),
+    ("dense column k A", DenseCall::Column),
+    ("dense values A", DenseCall::Values),
+    ("dense copy A", DenseCall::Copy),
+    ("dense equal A B", DenseCall::Equal),
+];
+
+/// Returns the answer of one of these calls.
 pub fn dense_call<T: Scalar>(
     turn: &mut Turn,
-    name: &str,
-    words: &[Word<'_>],
+    call: DenseCall,
+    given: Operands<'_>,
 ) -> Result<String, Failure> {
-    let alloc = turn.alloc();
-    match *words {
-        [Word::Name(size), ref values @ ..] => match name {
-            "get" | "set" => of_place::<T>(alloc, name, place_of(size)?, values),
-            _ => made::<T>(turn, name, size_of(size)?, values),
-        },
-        [Word::Number(index), Word::Matrix(a)] if name == "column" => {
-            column::<T>(alloc, index_from(index)?, dense_of(alloc, a)?)
+    match call {
+        DenseCall::Zeros | DenseCall::Repeat | DenseCall::Rows | DenseCall::Columns => {
+            made::<T>(turn, call, given)
         }
-        [Word::Matrix(a), Word::Matrix(b)] if name == "equal" => {
-            let (left, right) = (dense_of::<T>(alloc, a)?, dense_of::<T>(alloc, b)?);
-            let equal = left == right;
-            Ok(format!(in alloc; "{equal}")?)
-        }
-        [Word::Matrix(a)] if name == "copy" => copy::<T>(turn, dense_of(alloc, a)?),
-        [Word::Matrix(a)] if name == "values" => values::<T>(alloc, dense_of(alloc, a)?),
-        _ => Err(Failure::Unreadable("no call of a dense matrix has these words")),
+        _ => of_matrix::<T>(turn, call, given),
     }
 }
 
-// The matrix of this size that a constructor makes of values.
-fn made<T: Scalar>(
+fn of_matrix<T: Scalar>(
     turn: &mut Turn,
-    name: &str,
-    size: (usize, usize),
-    words: &[Word<'_>],
+    call: DenseCall,
+    given: Operands<'_>,
 ) -> Result<String, Failure> {
-    let alloc = turn.alloc();
-    let values: Vec<T> = scalars_from(alloc, words)?;
-    turn.begin();
-    let made = turn.end(made_by(alloc, name, size, &values))?;
-    Ok(picture(alloc, &made)?)
+    let matrix: DMatrix<T> = dense_of(turn.alloc(), given.a)?;
+    match call {
+        DenseCall::Get => get(turn.alloc(), &matrix, given.w),
+        DenseCall::Set => set(turn.alloc(), &matrix, given),
+        DenseCall::Column => column(turn.alloc(), &matrix, given.k),
+        DenseCall::Values => values(turn.alloc(), &matrix),
+        DenseCall::Equal => equal(turn.alloc(), &matrix, given.b),
+        _ => copy(turn, &matrix),
+    }
 }
 
-fn made_by<T: Scalar>(
+// The matrix that a constructor makes of a size and values.
+fn made<T: Scalar>(
+    turn: &mut Turn,
+    call: DenseCall,
+    given: Operands<'_>,
+) -> Result<String, Failure> {
+    let size = size_of(given.w)?;
+    let values: Vec<T> = scalars_from(turn.alloc(), given.rest)?;
+    turn.begin();
+    let made = turn.end(made_of(turn.alloc(), call, size, &values))?;
+    made_picture(turn.alloc(), Ok(made))
+}
+
+fn made_of<T: Scalar>(
     alloc: Global,
-    name: &str,
+    call: DenseCall,
     (nrows, ncols): (usize, usize),
     values: &[T],
 ) -> Result<DMatrix<T>, Failure> {
-    match *values {
-        [] if name == "zeros" => Ok(DMatrix::zeros(alloc, nrows, ncols)?),
-        [value] if name == "repeat" => Ok(DMatrix::repeat(alloc, nrows, ncols, value)?),
-        _ if nrows.checked_mul(ncols) != Some(values.len()) => Err(Failure::Misfit),
-        _ if name == "rows" => Ok(DMatrix::from_row_slice(alloc, nrows, ncols, values)?),
-        _ if name == "columns" => Ok(DMatrix::from_column_slice(alloc, nrows, ncols, values)?),
+    match (call, values) {
+        (DenseCall::Zeros, []) => Ok(DMatrix::zeros(alloc, nrows, ncols)?),
+        (DenseCall::Repeat, [value]) => Ok(DMatrix::repeat(alloc, nrows, ncols, *value)?),
+        _ => of_values(alloc, call, (nrows, ncols), values),
+    }
+}
+
+fn of_values<T: Scalar>(
+    alloc: Global,
+    call: DenseCall,
+    (nrows, ncols): (usize, usize),
+    values: &[T],
+) -> Result<DMatrix<T>, Failure> {
+    if nrows.checked_mul(ncols) != Some(values.len()) {
+        return Err(Failure::Misfit);
+    }
+    match call {
+        DenseCall::Rows => Ok(DMatrix::from_row_slice(alloc, nrows, ncols, values)?),
+        DenseCall::Columns => Ok(DMatrix::from_column_slice(alloc, nrows, ncols, values)?),
         _ => Err(Failure::Unreadable("no dense matrix is made so")),
     }
 }
 
-fn copy<T: Scalar>(turn: &mut Turn, matrix: DMatrix<T>) -> Result<String, Failure> {
-    let alloc = turn.alloc();
+fn copy<T: Scalar>(turn: &mut Turn, matrix: &DMatrix<T>) -> Result<String, Failure> {
     turn.begin();
-    let copy = turn.end(matrix.clone(alloc))?;
-    Ok(picture(alloc, &copy)?)
+    let copy = turn.end(matrix.clone(turn.alloc()));
+    made_picture(turn.alloc(), copy)
+}
+
+fn equal<T: Scalar>(alloc: Global, left: &DMatrix<T>, b: Op<&str>) -> Result<String, Failure> {
+    let right = dense_of(alloc, b)?;
+    truth(alloc, *left == right)
 }
 
 // All values, column by column.
-fn values<T: Scalar>(alloc: Global, matrix: DMatrix<T>) -> Result<String, Failure> {
+fn values<T: Scalar>(alloc: Global, matrix: &DMatrix<T>) -> Result<String, Failure> {
     let mut out = String::new(alloc);
     draw_values(matrix.as_slice(), &mut out)?;
     Ok(or_none(alloc, out.as_str())?)
 }
 
 // The values of a column.
-fn column<T: Scalar>(alloc: Global, index: usize, matrix: DMatrix<T>) -> Result<String, Failure> {
+fn column<T: Scalar>(alloc: Global, matrix: &DMatrix<T>, index: i128) -> Result<String, Failure> {
+    let index = index_from(index)?;
     if matrix.ncols() <= index {
         return Err(Failure::Misfit);
     }
@@ -89,27 +141,8 @@ fn column<T: Scalar>(alloc: Global, index: usize, matrix: DMatrix<T>) -> Result<
     Ok(or_none(alloc, out.as_str())?)
 }
 
-// The answer of `dense get PLACE A` or `dense set PLACE k A`.
-fn of_place<T: Scalar>(
-    alloc: Global,
-    name: &str,
-    place: (usize, usize),
-    words: &[Word<'_>],
-) -> Result<String, Failure> {
-    match *words {
-        [Word::Matrix(a)] if name == "get" => get::<T>(alloc, dense_of(alloc, a)?, place),
-        [Word::Number(k), Word::Matrix(a)] if name == "set" => {
-            set::<T>(alloc, dense_of(alloc, a)?, place, scalar_from(k)?)
-        }
-        _ => Err(Failure::Unreadable("no call of a dense value has these words")),
-    }
-}
-
-fn get<T: Scalar>(
-    alloc: Global,
-    matrix: DMatrix<T>,
-    (row, col): (usize, usize),
-) -> Result<String, Failure> {
+fn get<T: Scalar>(alloc: Global, matrix: &DMatrix<T>, place: &str) -> Result<String, Failure> {
+    let (row, col) = place_of(place)?;
     if matrix.nrows() <= row || matrix.ncols() <= col {
         return Err(Failure::Misfit);
     }
@@ -130,16 +163,16 @@ enum Way {
 // The matrix after a value was written in all ways, each on a copy, which must leave the same matrix.
 fn set<T: Scalar>(
     alloc: Global,
-    matrix: DMatrix<T>,
-    place: (usize, usize),
-    value: T,
+    matrix: &DMatrix<T>,
+    given: Operands<'_>,
 ) -> Result<String, Failure> {
+    let (place, value) = (place_of(given.w)?, scalar_from(given.k)?);
     if matrix.nrows() <= place.0 || matrix.ncols() <= place.1 {
         return Err(Failure::Misfit);
     }
-    let after = set_in(alloc, &matrix, Way::Set, place, value)?;
+    let after = set_in(alloc, matrix, Way::Set, place, value)?;
     for way in &[Way::Column, Way::Columns, Way::Slice] {
-        let other = set_in(alloc, &matrix, *way, place, value)?;
+        let other = set_in(alloc, matrix, *way, place, value)?;
         if other.as_str() != after.as_str() {
             return Err(Failure::Unreadable("two ways to write a value differ"));
         }

@@ -3,8 +3,9 @@
 ghost use Rattle.std.specs.Prelude.{◌≡◌};
 ghost use Rattle.nalgebra_sparse.specs.DenseOperands.{op_dense};
 
-use crate::compressed::{Compressed, dense_of, inner_of, matrix_of, operand};
+use crate::compressed::{Compressed, dense_of, inner_of, matrix_of, operand, plain_dense_of};
 use crate::sums::{size_by_columns, size_by_rows};
+use crate::templates::Operands;
 use case_words::drawing::picture;
 use case_words::failure::Failure;
 use case_words::scalar::Scalar;
@@ -16,7 +17,7 @@ use nalgebra_sparse::{CscMatrix, CsrMatrix};
 use std::alloc::Global;
 
 /// The products of a form with dense matrices.
-pub trait DenseProducts<T: Scalar>: Compressed<T> {
+pub trait DenseProducts<T: Scalar> {
     fn dense_product(&self, alloc: Global, b: &DMatrix<T>) -> Result<DMatrix<T>, Failure>;
 
     /// Updates a dense matrix to `beta C + alpha A B`.
@@ -87,39 +88,47 @@ fn size_of_dense<T: Scalar>(b: Op<&DMatrix<T>>) -> (usize, usize)
     }
 }
 
-/// Returns the dense matrix of a picture that no transpose may follow.
-pub fn plain_dense_of<T: Scalar>(alloc: Global, picture: Op<&str>) -> Result<DMatrix<T>, Failure> {
-    match picture {
-        Op::NoOp(_) => dense_of(alloc, picture),
-        Op::Transpose(_) => Err(Failure::Unreadable("this dense matrix is not transposed")),
-    }
+/// Returns the answer of `A * B`, where B is dense.
+pub fn dense_product<T: Scalar, F: Compressed<T> + DenseProducts<T>>(
+    turn: &mut Turn,
+    given: Operands<'_>,
+) -> Result<String, Failure> {
+    let a: F = matrix_of(turn.alloc(), given.a)?;
+    let b: DMatrix<T> = plain_dense_of(turn.alloc(), given.b)?;
+    turn.begin();
+    let made = turn.end(a.dense_product(turn.alloc(), &b));
+    drawn(turn.alloc(), made)
 }
 
-/// Returns the answer of `A * B`, where B is dense.
-pub fn dense_product<T: Scalar, F: DenseProducts<T>>(
-    turn: &mut Turn,
-    a: Op<&str>,
-    b: Op<&str>,
-) -> Result<String, Failure> {
-    let alloc = turn.alloc();
-    let left: F = matrix_of(alloc, a)?;
-    let right = plain_dense_of::<T>(alloc, b)?;
-    turn.begin();
-    let made = turn.end(left.dense_product(alloc, &right))?;
-    Ok(picture(alloc, &made)?)
+fn drawn<T: Scalar>(alloc: Global, made: Result<DMatrix<T>, Failure>) -> Result<String, Failure> {
+    Ok(picture(alloc, &made?)?)
 }
 
 /// Returns the dense target after `beta C += alpha A * B`, where B is dense.
-pub fn dense_product_into<T: Scalar, F: DenseProducts<T>>(
-    turn: &mut Turn,
+pub fn dense_product_into<T: Scalar, F: Compressed<T> + DenseProducts<T>>(
+    alloc: Global,
     scalars: (T, T),
-    target: Op<&str>,
-    (a, b): (Op<&str>, Op<&str>),
+    given: Operands<'_>,
 ) -> Result<String, Failure> {
-    let alloc = turn.alloc();
-    let mut c = plain_dense_of::<T>(alloc, target)?;
-    let left: F = inner_of(alloc, a)?;
-    let right = dense_of::<T>(alloc, b)?;
-    F::add_dense_product(scalars, &mut c, operand(a, &left), operand(b, &right))?;
+    let a: F = inner_of(alloc, given.a)?;
+    let b: DMatrix<T> = dense_of(alloc, given.b)?;
+    let c: DMatrix<T> = plain_dense_of(alloc, given.c)?;
+    added(
+        alloc,
+        scalars,
+        c,
+        operand(given.a, &a),
+        operand(given.b, &b),
+    )
+}
+
+fn added<T: Scalar, F: DenseProducts<T>>(
+    alloc: Global,
+    scalars: (T, T),
+    mut c: DMatrix<T>,
+    a: Op<&F>,
+    b: Op<&DMatrix<T>>,
+) -> Result<String, Failure> {
+    F::add_dense_product(scalars, &mut c, a, b)?;
     Ok(picture(alloc, &c)?)
 }

@@ -1,12 +1,14 @@
 //! The entries of compressed matrices, read and written.
 
-use crate::compressed::{matrix_of, shown};
-use crate::conversions::Conversions;
+use crate::compressed::{Compressed, matrix_of, shown};
+use crate::templates::Operands;
 use case_words::drawing::draw_number;
 use case_words::failure::Failure;
 use case_words::scalar::{Scalar, scalar_from};
 use case_words::turn::Turn;
-use case_words::words::{Word, place_of};
+use case_words::words::place_of;
+use nalgebra_sparse::csc::CscColMut;
+use nalgebra_sparse::csr::CsrRowMut;
 use nalgebra_sparse::ops::Op;
 use nalgebra_sparse::{CscMatrix, CsrMatrix, SparseEntry, SparseEntryMut};
 use std::alloc::{AllocError, Global};
@@ -32,7 +34,7 @@ pub enum Way {
 const WAYS: &[Way] = &[Way::Get, Way::Index, Way::Lane, Way::GetLane, Way::Slices];
 
 /// The entries of a form.
-pub trait Entries<T: Scalar>: Conversions<T> {
+pub trait Entries<T: Scalar> {
     /// Returns an entry.
     fn entry(&self, way: Way, place: (usize, usize)) -> Entry<T>;
 
@@ -71,15 +73,10 @@ impl<T: Scalar> Entries<T> for CsrMatrix<T> {
             Way::Index if row < self.nrows() && col < self.ncols() => {
                 replaced(self.index_entry_mut(row, col), value)
             }
-            Way::Lane if row < self.nrows() => {
-                replaced(self.row_mut(row).get_entry_mut(col)?, value)
+            Way::Lane | Way::Slices if row < self.nrows() => {
+                replaced_in_row(self.row_mut(row), way, col, value)
             }
-            Way::GetLane => replaced(self.get_row_mut(row)?.get_entry_mut(col)?, value),
-            Way::Slices if row < self.nrows() && col < self.ncols() => {
-                let mut lane = self.row_mut(row);
-                let (indices, values) = lane.cols_and_values_mut();
-                replaced_at(indices, values, col, value)
-            }
+            Way::GetLane => replaced_in_row(self.get_row_mut(row)?, way, col, value),
             _ => replaced(self.get_entry_mut(row, col)?, value),
         }
     }
@@ -113,15 +110,10 @@ impl<T: Scalar> Entries<T> for CscMatrix<T> {
             Way::Index if row < self.nrows() && col < self.ncols() => {
                 replaced(self.index_entry_mut(row, col), value)
             }
-            Way::Lane if col < self.ncols() => {
-                replaced(self.col_mut(col).get_entry_mut(row)?, value)
+            Way::Lane | Way::Slices if col < self.ncols() => {
+                replaced_in_col(self.col_mut(col), way, row, value)
             }
-            Way::GetLane => replaced(self.get_col_mut(col)?.get_entry_mut(row)?, value),
-            Way::Slices if row < self.nrows() && col < self.ncols() => {
-                let mut lane = self.col_mut(col);
-                let (indices, values) = lane.rows_and_values_mut();
-                replaced_at(indices, values, row, value)
-            }
+            Way::GetLane => replaced_in_col(self.get_col_mut(col)?, way, row, value),
             _ => replaced(self.get_entry_mut(row, col)?, value),
         }
     }
@@ -149,6 +141,36 @@ fn replaced<T: Scalar>(entry: SparseEntryMut<'_, T>, value: T) -> Entry<T> {
     }
 }
 
+fn replaced_in_row<T: Scalar>(
+    mut row: CsrRowMut<'_, T>,
+    way: Way,
+    col: usize,
+    value: T,
+) -> Entry<T> {
+    match way {
+        Way::Slices if col < row.ncols() => {
+            let (indices, values) = row.cols_and_values_mut();
+            replaced_at(indices, values, col, value)
+        }
+        _ => replaced(row.get_entry_mut(col)?, value),
+    }
+}
+
+fn replaced_in_col<T: Scalar>(
+    mut col: CscColMut<'_, T>,
+    way: Way,
+    row: usize,
+    value: T,
+) -> Entry<T> {
+    match way {
+        Way::Slices if row < col.nrows() => {
+            let (indices, values) = col.rows_and_values_mut();
+            replaced_at(indices, values, row, value)
+        }
+        _ => replaced(col.get_entry_mut(row)?, value),
+    }
+}
+
 // The entry of a lane at an index in bounds, replaced in the slice of its values.
 fn replaced_at<T: Scalar>(indices: &[usize], values: &mut [T], index: usize, value: T) -> Entry<T> {
     match indices.binary_search(&index) {
@@ -161,26 +183,33 @@ fn replaced_at<T: Scalar>(indices: &[usize], values: &mut [T], index: usize, val
     }
 }
 
-/// Returns the answer of `entry PLACE A` or `set PLACE k A`, each in all ways that the library has.
-pub fn entry_call<T: Scalar, F: Entries<T>>(
-    turn: &Turn,
-    name: &str,
-    words: &[Word<'_>],
+/// A call on an entry.
+#[derive(Clone, Copy)]
+pub enum EntryCall {
+    Read,
+    Set,
+}
+
+pub const ENTRIES: &[(&str, EntryCall)] = &[
+    ("entry w A", EntryCall::Read),
+    ("set w k A", EntryCall::Set),
+];
+
+/// Returns the answer of one of these calls, each in all ways that the library has.
+pub fn entry_call<T: Scalar, F: Compressed<T> + Entries<T>>(
+    turn: &mut Turn,
+    call: EntryCall,
+    given: Operands<'_>,
 ) -> Result<String, Failure> {
-    let alloc = turn.alloc();
-    match *words {
-        [Word::Name(place), Word::Matrix(a)] if name == "entry" => {
-            entry_text::<T, F>(alloc, place_of(place)?, a)
-        }
-        [Word::Name(place), Word::Number(k), Word::Matrix(a)] if name == "set" => {
-            set::<T, F>(alloc, place_of(place)?, scalar_from(k)?, a)
-        }
-        _ => Err(Failure::Unreadable("no call of an entry has these words")),
+    let place = place_of(given.w)?;
+    match call {
+        EntryCall::Read => entry_text::<T, F>(turn.alloc(), place, given.a),
+        EntryCall::Set => set::<T, F>(turn.alloc(), place, scalar_from(given.k)?, given.a),
     }
 }
 
 // The entry at a place. All ways must find the same.
-fn entry_text<T: Scalar, F: Entries<T>>(
+fn entry_text<T: Scalar, F: Compressed<T> + Entries<T>>(
     alloc: Global,
     place: (usize, usize),
     a: Op<&str>,
@@ -209,7 +238,7 @@ fn text_of<T: Scalar>(alloc: Global, entry: Entry<T>) -> Result<String, AllocErr
 }
 
 // The matrix after another value was written at a place. All ways must find the old entry, and leave the same matrix.
-fn set<T: Scalar, F: Entries<T>>(
+fn set<T: Scalar, F: Compressed<T> + Entries<T>>(
     alloc: Global,
     place: (usize, usize),
     value: T,
@@ -228,7 +257,7 @@ fn set<T: Scalar, F: Entries<T>>(
 }
 
 // The old entry, and the matrix after a write in one way.
-fn set_in<T: Scalar, F: Entries<T>>(
+fn set_in<T: Scalar, F: Compressed<T> + Entries<T>>(
     alloc: Global,
     matrix: &F,
     way: Way,

@@ -2,9 +2,9 @@
 
 ghost use Rattle.std.specs.Prelude.{◌≡◌, IfOk};
 
-use crate::compressed::matrix_of;
-use crate::dense_products::plain_dense_of;
-use crate::numbers::truth;
+use crate::compressed::{matrix_of, plain_dense_of};
+use crate::conversions::truth;
+use crate::templates::Operands;
 use case_words::drawing::{PatternByColumns, draw_values, picture};
 use case_words::failure::Failure;
 use case_words::scalar::Scalar;
@@ -15,17 +15,62 @@ use nalgebra_sparse::ldl::Ldl;
 use nalgebra_sparse::ops::{Op, Steps};
 use std::alloc::Global;
 
-/// Returns the answer of `fill A`, of one of its forms, or of `ldl A`.
-pub fn factored<T: Scalar>(turn: &mut Turn, name: &str, a: Op<&str>) -> Result<String, Failure> {
-    match name {
-        "ldl" => {
-            let ldl = ldl_of::<T>(turn, a)?;
-            ldl_text(turn.alloc(), &ldl)
-        }
-        _ => {
-            let factor = fill_of::<T>(turn, name, a)?;
-            fill_text(turn.alloc(), factor)
-        }
+/// A call that factors a matrix.
+#[derive(Clone, Copy)]
+pub enum Factoring {
+    Ldl,
+    LdlText,
+    LdlCopy,
+    LdlEqual,
+    Solution,
+    Fill,
+    FillCopy,
+    FillEqual,
+}
+
+pub const FACTORINGS: &[(&str, Factoring)] = &[
+    ("ldl A", Factoring::Ldl),
+    ("debug ldl A", Factoring::LdlText),
+    ("copy ldl A", Factoring::LdlCopy),
+    ("ldl A == ldl B", Factoring::LdlEqual),
+    ("ldl A \\ B", Factoring::Solution),
+    ("w A", Factoring::Fill),
+    ("copy w A", Factoring::FillCopy),
+    ("w A == v B", Factoring::FillEqual),
+];
+
+/// Returns the answer of one of these calls.
+pub fn factored<T: Scalar>(
+    turn: &mut Turn,
+    call: Factoring,
+    given: Operands<'_>,
+) -> Result<String, Failure> {
+    match call {
+        Factoring::Fill => fill::<T>(turn, given.w, given.a),
+        Factoring::FillCopy => fill_copied::<T>(turn, given.w, given.a),
+        Factoring::FillEqual => fills_equal::<T>(turn, (given.w, given.a), (given.v, given.b)),
+        Factoring::LdlEqual => ldls_equal::<T>(turn, given.a, given.b),
+        Factoring::LdlCopy => ldl_copied::<T>(turn, given.a),
+        _ => of_ldl::<T>(turn, call, given),
+    }
+}
+
+fn fill<T: Scalar>(turn: &mut Turn, name: &str, a: Op<&str>) -> Result<String, Failure> {
+    let factor = fill_of::<T>(turn, name, a)?;
+    fill_text(turn.alloc(), factor)
+}
+
+// The answer of a call on the factors L and D.
+fn of_ldl<T: Scalar>(
+    turn: &mut Turn,
+    call: Factoring,
+    given: Operands<'_>,
+) -> Result<String, Failure> {
+    let ldl = ldl_of::<T>(turn, given.a)?;
+    match call {
+        Factoring::Solution => solution(turn.alloc(), &ldl, given.b),
+        Factoring::LdlText => Ok(format!(in turn.alloc(); "{ldl:?}")?),
+        _ => ldl_text(turn.alloc(), &ldl),
     }
 }
 
@@ -79,14 +124,8 @@ fn ldl_text<T: Scalar>(alloc: Global, ldl: &Ldl<T>) -> Result<String, Failure> {
     Ok(out)
 }
 
-/// Returns the answer of `ldl A \ B`: the solution of a symmetric system.
-pub fn ldl_solution<T: Scalar>(
-    turn: &mut Turn,
-    a: Op<&str>,
-    b: Op<&str>,
-) -> Result<String, Failure> {
-    let alloc = turn.alloc();
-    let ldl = ldl_of::<T>(turn, a)?;
+// The solution of a symmetric system.
+fn solution<T: Scalar>(alloc: Global, ldl: &Ldl<T>, b: Op<&str>) -> Result<String, Failure> {
     let mut x = plain_dense_of::<T>(alloc, b)?;
     if x.nrows() != ldl.l().nrows() {
         return Err(Failure::Misfit);
@@ -95,62 +134,45 @@ pub fn ldl_solution<T: Scalar>(
     Ok(picture(alloc, &x)?)
 }
 
-/// Returns the answer of `fill A == fill B` or `ldl A == ldl B`: whether two factorisations are equal.
-pub fn compared<T: Scalar>(
+fn ldls_equal<T: Scalar>(turn: &mut Turn, a: Op<&str>, b: Op<&str>) -> Result<String, Failure> {
+    let left = ldl_of::<T>(turn, a)?;
+    let right = ldl_of::<T>(turn, b)?;
+    truth(turn.alloc(), left == right)
+}
+
+fn fills_equal<T: Scalar>(
     turn: &mut Turn,
     (first, a): (&str, Op<&str>),
     (second, b): (&str, Op<&str>),
 ) -> Result<String, Failure> {
-    if first == "ldl" && second == "ldl" {
-        let (left, right) = (ldl_of::<T>(turn, a)?, ldl_of::<T>(turn, b)?);
-        return truth(turn.alloc(), left == right);
-    }
-    let (left, right) = (
-        fill_of::<T>(turn, first, a)?,
-        fill_of::<T>(turn, second, b)?,
-    );
+    let left = fill_of::<T>(turn, first, a)?;
+    let right = fill_of::<T>(turn, second, b)?;
     truth(turn.alloc(), left == right)
-}
-
-/// Returns the answer of `copy fill A` or `copy ldl A`: what is shown of a copy, which is equal to its original.
-pub fn factors_copied<T: Scalar>(
-    turn: &mut Turn,
-    name: &str,
-    a: Op<&str>,
-) -> Result<String, Failure> {
-    match name {
-        "ldl" => ldl_copied::<T>(turn, a),
-        _ => fill_copied::<T>(turn, name, a),
-    }
 }
 
 const DIFFERS: Failure = Failure::Unreadable("the copy differs");
 
+// What is shown of a copy, which is equal to its original.
 fn ldl_copied<T: Scalar>(turn: &mut Turn, a: Op<&str>) -> Result<String, Failure> {
-    let alloc = turn.alloc();
-    let matrix = square::<T>(alloc, a)?;
-    let ldl = Ldl::factor(alloc, &matrix)?;
+    let ldl = ldl_of::<T>(&mut Turn::new(turn.alloc(), 0, 0), a)?;
+    copied(turn, &ldl)
+}
+
+fn copied<T: Scalar>(turn: &mut Turn, ldl: &Ldl<T>) -> Result<String, Failure> {
     turn.begin();
-    let copy = turn.end(ldl.clone(alloc))?;
-    if copy != ldl {
+    let copy = turn.end(ldl.clone(turn.alloc()))?;
+    if copy != *ldl {
         return Err(DIFFERS);
     }
-    ldl_text(alloc, &copy)
+    ldl_text(turn.alloc(), &copy)
 }
 
 fn fill_copied<T: Scalar>(turn: &mut Turn, name: &str, a: Op<&str>) -> Result<String, Failure> {
-    let alloc = turn.alloc();
-    let factor = fill_of::<T>(&mut Turn::new(alloc, 0, 0), name, a)?;
+    let factor = fill_of::<T>(&mut Turn::new(turn.alloc(), 0, 0), name, a)?;
     turn.begin();
-    let copy = turn.end(factor.clone(alloc))?;
+    let copy = turn.end(factor.clone(turn.alloc()))?;
     if copy != factor {
         return Err(DIFFERS);
     }
-    fill_text(alloc, copy)
-}
-
-/// Returns the answer of `debug ldl A`: the `Debug` text of exact factors.
-pub fn factors_text<T: Scalar>(turn: &mut Turn, a: Op<&str>) -> Result<String, Failure> {
-    let ldl = ldl_of::<T>(turn, a)?;
-    Ok(format!(in turn.alloc(); "{ldl:?}")?)
+    fill_text(turn.alloc(), copy)
 }

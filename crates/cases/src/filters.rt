@@ -1,11 +1,11 @@
 //! Filters.
 
-use crate::compressed::{Compressed, matrix_of, shown};
+use crate::compressed::{Compressed, made, matrix_of};
+use crate::templates::Operands;
 use case_words::failure::Failure;
 use case_words::scalar::Scalar;
 use case_words::turn::Turn;
 use case_words::words::place_of;
-use nalgebra_sparse::ops::Op;
 use nalgebra_sparse::{CscMatrix, CsrMatrix};
 use std::alloc::Global;
 
@@ -47,7 +47,7 @@ impl Kept {
 }
 
 /// The filter of a form.
-pub trait Filters<T: Scalar>: Compressed<T> {
+pub trait Filters<T: Scalar> {
     fn filtered(&self, alloc: Global, kept: Kept) -> Result<Self, Failure>;
 }
 
@@ -66,15 +66,13 @@ impl<T: Scalar> Filters<T> for CscMatrix<T> {
 }
 
 /// Returns the answer of `keep WHICH A`.
-pub fn keep<T: Scalar, F: Filters<T>>(
+pub fn keep<T: Scalar, F: Compressed<T> + Filters<T>>(
     turn: &mut Turn,
-    which: &str,
-    a: Op<&str>,
+    given: Operands<'_>,
 ) -> Result<String, Failure> {
-    let alloc = turn.alloc();
-    let matrix: F = matrix_of(alloc, a)?;
-    let kept = Kept::of(which)?;
+    let kept = Kept::of(given.w)?;
+    let matrix: F = matrix_of(turn.alloc(), given.a)?;
     turn.begin();
-    let made = turn.end(matrix.filtered(alloc, kept))?;
-    shown(alloc, &made)
+    let filtered = turn.end(matrix.filtered(turn.alloc(), kept));
+    made(turn.alloc(), filtered)
 }

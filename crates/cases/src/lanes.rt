@@ -1,16 +1,41 @@
 //! Rows and columns of compressed matrices.
 
 use crate::compressed::{Compressed, matrix_of};
+use crate::conversions::truth;
+use crate::templates::Operands;
 use case_words::drawing::{draw_number, or_none};
 use case_words::failure::Failure;
 use case_words::scalar::Scalar;
 use case_words::turn::Turn;
-use case_words::words::{Word, index_from};
+use case_words::words::index_from;
 use nalgebra_sparse::csc::{CscCol, CscColMut};
 use nalgebra_sparse::csr::{CsrRow, CsrRowMut};
-use nalgebra_sparse::ops::Op;
 use nalgebra_sparse::{CscMatrix, CsrMatrix};
 use std::alloc::{AllocError, Global};
+
+/// Rows, or columns.
+#[derive(Clone, Copy)]
+pub enum LaneKind {
+    Row,
+    Column,
+}
+
+/// A call on lanes.
+#[derive(Clone, Copy)]
+pub enum LaneCall {
+    All,
+    One,
+    Equal,
+}
+
+pub const LANES: &[(&str, (LaneKind, LaneCall))] = &[
+    ("rows A", (LaneKind::Row, LaneCall::All)),
+    ("columns A", (LaneKind::Column, LaneCall::All)),
+    ("row k A", (LaneKind::Row, LaneCall::One)),
+    ("column k A", (LaneKind::Column, LaneCall::One)),
+    ("row k == l A", (LaneKind::Row, LaneCall::Equal)),
+    ("column k == l A", (LaneKind::Column, LaneCall::Equal)),
+];
 
 /// A way to a row or a column.
 #[derive(Clone, Copy)]
@@ -28,9 +53,9 @@ pub enum LaneWay {
 const WAYS: &[LaneWay] = &[LaneWay::Index, LaneWay::GetMut, LaneWay::IndexMut];
 
 /// The lanes of a form: rows, or columns.
-pub trait Lanes<T: Scalar>: Compressed<T> {
-    /// Returns the names of one lane and of all.
-    fn names() -> (&'static str, &'static str);
+pub trait Lanes<T: Scalar> {
+    /// Returns whether these are the lanes of the form.
+    fn has(kind: LaneKind) -> bool;
 
     /// Appends the picture of a lane, or `none` out of bounds.
     fn draw_lane(&mut self, way: LaneWay, index: usize, out: &mut String) -> Result<(), AllocError>;
@@ -47,8 +72,8 @@ pub trait Lanes<T: Scalar>: Compressed<T> {
 
 /// Rows.
 impl<T: Scalar> Lanes<T> for CsrMatrix<T> {
-    fn names() -> (&'static str, &'static str) {
-        ("row", "rows")
+    fn has(kind: LaneKind) -> bool {
+        matches!(kind, LaneKind::Row)
     }
 
     fn draw_lane(
@@ -91,8 +116,8 @@ impl<T: Scalar> Lanes<T> for CsrMatrix<T> {
 
 /// Columns.
 impl<T: Scalar> Lanes<T> for CscMatrix<T> {
-    fn names() -> (&'static str, &'static str) {
-        ("column", "columns")
+    fn has(kind: LaneKind) -> bool {
+        matches!(kind, LaneKind::Column)
     }
 
     fn draw_lane(
@@ -215,25 +240,21 @@ fn draw_cell<T: Scalar>(
     }
 }
 
-/// Returns the answer of `row i A` or `row i == j A`, or of the same with a column.
-pub fn lane_call<T: Scalar, F: Lanes<T>>(
-    turn: &Turn,
-    name: &str,
-    words: &[Word<'_>],
+/// Returns the answer of one of these calls.
+pub fn lane_call<T: Scalar, F: Compressed<T> + Lanes<T>>(
+    turn: &mut Turn,
+    (kind, call): (LaneKind, LaneCall),
+    given: Operands<'_>,
 ) -> Result<String, Failure> {
-    let alloc = turn.alloc();
-    if name != F::names().0 {
+    if !F::has(kind) {
         return Err(Failure::Unreadable("the form has other lanes"));
     }
-    match *words {
-        [Word::Number(i), Word::Matrix(a)] => lane_text::<T, F>(alloc, index_from(i)?, a),
-        [
-            Word::Number(i),
-            Word::Name("=="),
-            Word::Number(j),
-            Word::Matrix(a),
-        ] => { equality::<T, F>(alloc, index_from(i)?, index_from(j)?, a) }
-        _ => Err(Failure::Unreadable("no call of a lane has these words")),
+    let (k, l) = (index_from(given.k)?, index_from(given.l)?);
+    let mut matrix: F = matrix_of(turn.alloc(), given.a)?;
+    match call {
+        LaneCall::All => all_lanes::<T, F>(turn.alloc(), &mut matrix),
+        LaneCall::One => lane_text::<T, F>(turn.alloc(), k, &mut matrix),
+        LaneCall::Equal => equality::<T, F>(turn.alloc(), (k, l), &matrix),
     }
 }
 
@@ -241,12 +262,11 @@ pub fn lane_call<T: Scalar, F: Lanes<T>>(
 fn lane_text<T: Scalar, F: Lanes<T>>(
     alloc: Global,
     index: usize,
-    a: Op<&str>,
+    matrix: &mut F,
 ) -> Result<String, Failure> {
-    let mut matrix: F = matrix_of(alloc, a)?;
-    let lane = lane_in(alloc, &mut matrix, LaneWay::Get, index)?;
+    let lane = lane_in::<T, F>(alloc, matrix, LaneWay::Get, index)?;
     for way in WAYS {
-        let other = lane_in(alloc, &mut matrix, *way, index)?;
+        let other = lane_in::<T, F>(alloc, matrix, *way, index)?;
         if other.as_str() != lane.as_str() {
             return Err(Failure::Unreadable("two ways find different lanes"));
         }
@@ -268,30 +288,20 @@ fn lane_in<T: Scalar, F: Lanes<T>>(
 // Whether two lanes are equal: `true`, `false`, or `none` if one is out of bounds.
 fn equality<T: Scalar, F: Lanes<T>>(
     alloc: Global,
-    left: usize,
-    right: usize,
-    a: Op<&str>,
+    (left, right): (usize, usize),
+    matrix: &F,
 ) -> Result<String, Failure> {
-    let matrix: F = matrix_of(alloc, a)?;
     match matrix.are_equal(left, right)? {
-        Some(equal) => Ok(format!(in alloc; "{equal}")?),
+        Some(equal) => truth(alloc, equal),
         None => Ok(String::from_str(alloc, "none")?),
     }
 }
 
-/// Returns the answer of `rows A` or `columns A`: the pictures in order. Those for writing must be the same.
-pub fn lanes_call<T: Scalar, F: Lanes<T>>(
-    turn: &Turn,
-    name: &str,
-    a: Op<&str>,
-) -> Result<String, Failure> {
-    if name != F::names().1 {
-        return Err(Failure::Unreadable("the form has other lanes"));
-    }
-    let alloc = turn.alloc();
-    let mut matrix: F = matrix_of(alloc, a)?;
-    let (mut read, mut written) = (String::new(alloc), String::new(alloc));
+// The pictures in order. Those for writing must be the same.
+fn all_lanes<T: Scalar, F: Lanes<T>>(alloc: Global, matrix: &mut F) -> Result<String, Failure> {
+    let mut read = String::new(alloc);
     matrix.draw_lanes(&mut read)?;
+    let mut written = String::new(alloc);
     matrix.draw_lanes_mut(&mut written)?;
     if read.as_str() != written.as_str() {
         return Err(Failure::Unreadable("the lanes for writing are others"));

@@ -1,6 +1,7 @@
 //! Lists of triplets: how they grow, are cleared, written, copied, and taken from an iterator.
 
-use crate::compressed::{dense_of, updated};
+use crate::compressed::{dense_of, made_list, updated};
+use crate::templates::Operands;
 use case_words::drawing::{draw_indices, draw_values, triplets};
 use case_words::failure::Failure;
 use case_words::picture::list_of;
@@ -9,41 +10,83 @@ use case_words::turn::Turn;
 use case_words::words::{Word, index_from, place_of, size_of};
 use nalgebra_sparse::CooMatrix;
 use nalgebra_sparse::dense::DMatrix;
-use nalgebra_sparse::ops::Op;
 use std::alloc::Global;
 
-/// Returns the answer of `triplets ..`: a call of a list.
+/// A call of a list.
+#[derive(Clone, Copy)]
+pub enum ListCall {
+    Push,
+    PushBlock,
+    Reserve,
+    Collect,
+    Zeros,
+    Copy,
+    Data,
+    Lists,
+    Clear,
+    Double,
+}
+
+pub const LISTS: &[(&str, ListCall)] = &[
+    ("triplets push w A", ListCall::Push),
+    ("triplets push w B A", ListCall::PushBlock),
+    ("triplets reserve k A", ListCall::Reserve),
+    ("triplets collect w ..", ListCall::Collect),
+    ("triplets zeros w", ListCall::Zeros),
+    ("triplets copy A", ListCall::Copy),
+    ("triplets data A", ListCall::Data),
+    ("triplets lists A", ListCall::Lists),
+    ("triplets clear A", ListCall::Clear),
+    ("triplets double A", ListCall::Double),
+];
+
+/// Returns the answer of one of these calls.
 pub fn list_call<T: Scalar>(
     turn: &mut Turn,
-    name: &str,
-    words: &[Word<'_>],
+    call: ListCall,
+    given: Operands<'_>,
 ) -> Result<String, Failure> {
-    match *words {
-        [Word::Name(triplet), Word::Matrix(a)] if name == "push" => push::<T>(turn, triplet, a),
-        [Word::Name(place), Word::Matrix(block), Word::Matrix(a)] if name == "push" => {
-            push_block::<T>(turn, place_of(place)?, block, a)
-        }
-        [Word::Number(count), Word::Matrix(a)] if name == "reserve" => {
-            reserve::<T>(turn, index_from(count)?, a)
-        }
-        [Word::Name(size), ref triplets @ ..] if name == "collect" => {
-            collect::<T>(turn, size_of(size)?, triplets)
-        }
-        [Word::Name(size)] if name == "zeros" => zeros::<T>(turn.alloc(), size_of(size)?),
-        [Word::Matrix(a)] => of_one::<T>(turn, name, list_of(turn.alloc(), a.into_inner())?),
-        _ => Err(Failure::Unreadable("no call of a list has these words")),
+    match call {
+        ListCall::Collect => collect::<T>(turn, size_of(given.w)?, given.rest),
+        ListCall::Zeros => zeros::<T>(turn.alloc(), size_of(given.w)?),
+        _ => of_list::<T>(turn, call, given),
     }
 }
 
+fn of_list<T: Scalar>(
+    turn: &mut Turn,
+    call: ListCall,
+    given: Operands<'_>,
+) -> Result<String, Failure> {
+    let mut list: CooMatrix<T> = list_of(turn.alloc(), given.a.into_inner())?;
+    match call {
+        ListCall::Push => push(turn, &mut list, given.w),
+        ListCall::PushBlock => push_block(turn, &mut list, given),
+        ListCall::Reserve => reserve(turn, &mut list, given.k),
+        ListCall::Copy => copy(turn, &list),
+        ListCall::Data => data(turn, &list),
+        ListCall::Lists => lists(turn.alloc(), list),
+        ListCall::Clear => cleared(turn.alloc(), list),
+        _ => doubled(turn.alloc(), list),
+    }
+}
+
+// The triplets of a list.
+fn drawn<T: Scalar>(alloc: Global, list: &CooMatrix<T>) -> Result<String, Failure> {
+    Ok(triplets(alloc, list)?)
+}
+
 // The list with one more triplet.
-fn push<T: Scalar>(turn: &mut Turn, triplet: &str, a: Op<&str>) -> Result<String, Failure> {
-    let alloc = turn.alloc();
-    let mut list = list_of(alloc, a.into_inner())?;
+fn push<T: Scalar>(
+    turn: &mut Turn,
+    list: &mut CooMatrix<T>,
+    triplet: &str,
+) -> Result<String, Failure> {
     let triplet = triplet_of(triplet)?;
-    let before = triplets(alloc, &list)?;
+    let before = drawn(turn.alloc(), list)?;
     turn.begin();
-    let answer = turn.end(add_triplet::<T>(&mut list, triplet));
-    updated(answer, before, triplets(alloc, &list)?)
+    let answer = turn.end(add_triplet(list, triplet));
+    updated(answer, before, drawn(turn.alloc(), list))
 }
 
 fn add_triplet<T: Scalar>(
@@ -68,16 +111,15 @@ fn triplet_of<T: Scalar>(word: &str) -> Result<(usize, usize, T), Failure> {
 // The list with the triplets of a dense block behind its own.
 fn push_block<T: Scalar>(
     turn: &mut Turn,
-    place: (usize, usize),
-    block: Op<&str>,
-    a: Op<&str>,
+    list: &mut CooMatrix<T>,
+    given: Operands<'_>,
 ) -> Result<String, Failure> {
-    let alloc = turn.alloc();
-    let (mut list, block) = (list_of(alloc, a.into_inner())?, dense_of(alloc, block)?);
-    let before = triplets(alloc, &list)?;
+    let place = place_of(given.w)?;
+    let block = dense_of(turn.alloc(), given.b)?;
+    let before = drawn(turn.alloc(), list)?;
     turn.begin();
-    let answer = turn.end(add_block::<T>(&mut list, place, &block));
-    updated(answer, before, triplets(alloc, &list)?)
+    let answer = turn.end(add_block(list, place, &block));
+    updated(answer, before, drawn(turn.alloc(), list))
 }
 
 fn add_block<T: Scalar>(
@@ -96,13 +138,16 @@ fn add_block<T: Scalar>(
 }
 
 // The list with room for more triplets.
-fn reserve<T: Scalar>(turn: &mut Turn, count: usize, a: Op<&str>) -> Result<String, Failure> {
-    let alloc = turn.alloc();
-    let mut list = list_of(alloc, a.into_inner())?;
-    let before = triplets(alloc, &list)?;
+fn reserve<T: Scalar>(
+    turn: &mut Turn,
+    list: &mut CooMatrix<T>,
+    count: i128,
+) -> Result<String, Failure> {
+    let count = index_from(count)?;
+    let before = drawn(turn.alloc(), list)?;
     turn.begin();
-    let answer = turn.end(add_room::<T>(&mut list, count));
-    updated(answer, before, triplets(alloc, &list)?)
+    let answer = turn.end(add_room(list, count));
+    updated(answer, before, drawn(turn.alloc(), list))
 }
 
 fn add_room<T: Scalar>(list: &mut CooMatrix<T>, count: usize) -> Result<(), Failure> {
@@ -145,40 +190,19 @@ fn zeros<T: Scalar>(alloc: Global, (nrows, ncols): (usize, usize)) -> Result<Str
     Ok(triplets(alloc, &list)?)
 }
 
-// The answer of a call of one list.
-fn of_one<T: Scalar>(
-    turn: &mut Turn,
-    name: &str,
-    mut list: CooMatrix<T>,
-) -> Result<String, Failure> {
-    let alloc = turn.alloc();
-    match name {
-        "copy" => {
-            turn.begin();
-            let copy = turn.end(list.clone(alloc))?;
-            Ok(triplets(alloc, &copy)?)
-        }
-        "data" => data(turn, &list),
-        "lists" => lists(alloc, list),
-        "clear" => {
-            list.clear_triplets();
-            cleared(alloc, &list)
-        }
-        "double" => {
-            double(&mut list);
-            Ok(triplets(alloc, &list)?)
-        }
-        _ => Err(Failure::Unreadable("no call of a list has this name")),
-    }
+fn copy<T: Scalar>(turn: &mut Turn, list: &CooMatrix<T>) -> Result<String, Failure> {
+    turn.begin();
+    let copy = turn.end(list.clone(turn.alloc()));
+    made_list(turn.alloc(), copy)
 }
 
 // A cleared list, all of whose parts must be empty.
-fn cleared<T: Scalar>(alloc: Global, list: &CooMatrix<T>) -> Result<String, Failure> {
+fn cleared<T: Scalar>(alloc: Global, mut list: CooMatrix<T>) -> Result<String, Failure> {
+    list.clear_triplets();
     if list.row_indices().is_empty() && list.col_indices().is_empty() {
-        Ok(triplets(alloc, list)?)
-    } else {
-        Err(Failure::Unreadable("a cleared list has indices"))
+        return drawn(alloc, &list);
     }
+    Err(Failure::Unreadable("a cleared list has indices"))
 }
 
 // The list of its data struct.
@@ -202,8 +226,9 @@ fn lists<T: Scalar>(alloc: Global, list: CooMatrix<T>) -> Result<String, Failure
     Ok(out)
 }
 
-fn double<T: Scalar>(list: &mut CooMatrix<T>) {
+fn doubled<T: Scalar>(alloc: Global, mut list: CooMatrix<T>) -> Result<String, Failure> {
     for (_, _, value) in list.triplet_iter_mut() {
         *value = value.add(*value);
     }
+    drawn(alloc, &list)
 }

@@ -1,20 +1,21 @@
 //! Matrices of unsorted arrays and of patterns, zeros and identities, and the parts of a matrix.
 
 use crate::arrays::{Arrays, Size};
-use crate::compressed::{matrix_of, shown};
-use crate::conversions::{Conversions, arrays_text};
+use crate::compressed::{Compressed, made, matrix_of, shown};
+use crate::conversions::arrays_text;
+use crate::templates::Operands;
 use case_words::drawing::{PatternByColumns, PatternByRows, draw_values, picture};
 use case_words::failure::Failure;
-use case_words::scalar::{Scalar, scalar_from};
+use case_words::scalar::{Scalar, scalars_from};
 use case_words::turn::Turn;
-use case_words::words::{Word, size_of};
+use case_words::words::{index_from, size_of};
 use nalgebra_sparse::ops::Op;
 use nalgebra_sparse::pattern::SparsityPattern;
 use nalgebra_sparse::{CscMatrix, CsrMatrix};
 use std::alloc::{AllocError, Global};
 
 /// How matrices of a form are made, and what they are taken apart into.
-pub trait Made<T: Scalar>: Conversions<T> {
+pub trait Made<T: Scalar> {
     /// Returns the matrix of arrays whose lanes need not be sorted, given the number of lanes and their length.
     fn of_unsorted(alloc: Global, size: Size, arrays: Arrays<T>) -> Result<Self, Failure>;
 
@@ -131,68 +132,90 @@ impl<T: Scalar> Made<T> for CscMatrix<T> {
     }
 }
 
-/// Returns the answer of `zeros 2x3`.
-pub fn zeros<T: Scalar, F: Made<T>>(turn: &mut Turn, size: &str) -> Result<String, Failure> {
-    let (alloc, size) = (turn.alloc(), size_of(size)?);
-    turn.begin();
-    let made: F = turn.end(F::of_size(alloc, size))?;
-    shown(alloc, &made)
+/// A call that makes a matrix of parts, or takes one apart.
+#[derive(Clone, Copy)]
+pub enum MadeCall {
+    Zeros,
+    Identity,
+    Join,
+    Parts,
+    Disassemble,
+    Rejoin,
+    TransposeAs,
 }
 
-/// Returns the answer of `identity 3`.
-pub fn identity<T: Scalar, F: Made<T>>(turn: &mut Turn, order: i128) -> Result<String, Failure> {
-    let alloc = turn.alloc();
-    let Ok(order) = usize::try_from(order) else {
-        return Err(Failure::Unreadable("no matrix has this order"));
-    };
-    turn.begin();
-    let made: F = turn.end(F::of_order(alloc, order))?;
-    shown(alloc, &made)
-}
+pub const MADE: &[(&str, MadeCall)] = &[
+    ("zeros w", MadeCall::Zeros),
+    ("identity k", MadeCall::Identity),
+    ("join A values ..", MadeCall::Join),
+    ("parts A", MadeCall::Parts),
+    ("disassemble A", MadeCall::Disassemble),
+    ("rejoin A", MadeCall::Rejoin),
+    ("transpose-as A", MadeCall::TransposeAs),
+];
 
-/// Returns the answer of `join A values ..`: the matrix of the pattern of A and values.
-pub fn joined_parts<T: Scalar, F: Made<T>>(
+/// Returns the answer of one of these calls.
+pub fn made_call<T: Scalar, F: Compressed<T> + Made<T>>(
     turn: &mut Turn,
-    pattern: Op<&str>,
-    words: &[Word<'_>],
+    call: MadeCall,
+    given: Operands<'_>,
 ) -> Result<String, Failure> {
-    let alloc = turn.alloc();
-    let (pattern, _) = matrix_of::<T, F>(alloc, pattern)?.into_parts();
-    let values = values_of(alloc, words)?;
-    turn.begin();
-    let made: F = turn.end(F::of_parts(pattern, values))?;
-    shown(alloc, &made)
-}
-
-fn values_of<T: Scalar>(alloc: Global, words: &[Word<'_>]) -> Result<Vec<T>, Failure> {
-    let mut values = Vec::new(alloc);
-    for word in words {
-        match *word {
-            Word::Number(number) => values.push(scalar_from(number)?)?,
-            _ => return Err(Failure::Unreadable("a word is not a value")),
-        }
+    match call {
+        MadeCall::Zeros => zeros::<T, F>(turn, size_of(given.w)?),
+        MadeCall::Identity => identity::<T, F>(turn, index_from(given.k)?),
+        MadeCall::Join => joined_parts::<T, F>(turn, given),
+        _ => taken_apart::<T, F>(turn.alloc(), call, given.a),
     }
-    Ok(values)
 }
 
-/// Returns the answer of `parts A`, `disassemble A`, `rejoin A` or `transpose-as A`.
-pub fn taken_apart<T: Scalar, F: Made<T>>(
+fn zeros<T: Scalar, F: Compressed<T> + Made<T>>(
     turn: &mut Turn,
-    name: &str,
+    size: Size,
+) -> Result<String, Failure> {
+    turn.begin();
+    let zeros: Result<F, Failure> = turn.end(F::of_size(turn.alloc(), size));
+    made(turn.alloc(), zeros)
+}
+
+fn identity<T: Scalar, F: Compressed<T> + Made<T>>(
+    turn: &mut Turn,
+    order: usize,
+) -> Result<String, Failure> {
+    turn.begin();
+    let identity: Result<F, Failure> = turn.end(F::of_order(turn.alloc(), order));
+    made(turn.alloc(), identity)
+}
+
+// The matrix of the pattern of another one and values.
+fn joined_parts<T: Scalar, F: Compressed<T> + Made<T>>(
+    turn: &mut Turn,
+    given: Operands<'_>,
+) -> Result<String, Failure> {
+    let values = scalars_from(turn.alloc(), given.rest)?;
+    let matrix: F = matrix_of(turn.alloc(), given.a)?;
+    let (pattern, _) = matrix.into_parts();
+    turn.begin();
+    let joined: Result<F, Failure> = turn.end(F::of_parts(pattern, values));
+    made(turn.alloc(), joined)
+}
+
+fn taken_apart<T: Scalar, F: Compressed<T> + Made<T>>(
+    alloc: Global,
+    call: MadeCall,
     a: Op<&str>,
 ) -> Result<String, Failure> {
-    let alloc = turn.alloc();
     let matrix: F = matrix_of(alloc, a)?;
-    match name {
-        "parts" => parts(alloc, matrix),
-        "disassemble" => {
-            let (offsets, indices, values) = matrix.into_arrays();
-            Ok(arrays_text(alloc, (&offsets, &indices, &values))?)
-        }
-        "rejoin" => shown(alloc, &matrix.rejoined()),
-        "transpose-as" => matrix.shown_as_transpose(alloc),
-        _ => Err(Failure::Unreadable("no constructor has these words")),
+    match call {
+        MadeCall::Parts => parts::<T, F>(alloc, matrix),
+        MadeCall::Disassemble => disassembled::<T, F>(alloc, matrix),
+        MadeCall::Rejoin => made(alloc, Ok(matrix.rejoined())),
+        _ => matrix.shown_as_transpose(alloc),
     }
+}
+
+fn disassembled<T: Scalar, F: Made<T>>(alloc: Global, matrix: F) -> Result<String, Failure> {
+    let (offsets, indices, values) = matrix.into_arrays();
+    arrays_text(alloc, (&offsets, &indices, &values))
 }
 
 fn parts<T: Scalar, F: Made<T>>(alloc: Global, matrix: F) -> Result<String, Failure> {

@@ -31,6 +31,7 @@ mod shapes;
 mod sums;
 mod systems;
 mod table;
+mod templates;
 mod text_scalars;
 mod text_values;
 mod texts;

@@ -1,5 +1,7 @@
 //! Arithmetic of scalars.
 
+use crate::conversions::truth;
+use crate::templates::{Operands, call_of};
 use crate::vectors::number_text;
 use case_words::failure::Failure;
 use case_words::scalar::{Scalar, scalar_from};
@@ -31,18 +33,47 @@ pub fn number<T: Scalar>(turn: &mut Turn, words: &[Word<'_>]) -> Result<String, 
     }
 }
 
-// The answer of `a`, `a + b`, `a * b`, `- a`, `1 / a` or `a == b`.
+#[derive(Clone, Copy)]
+enum Arithmetic {
+    Value,
+    Zero,
+    One,
+    Negative,
+    Inverse,
+    Sum,
+    Product,
+    Equal,
+}
+
+const ARITHMETIC: &[(&str, Arithmetic)] = &[
+    ("k", Arithmetic::Value),
+    ("zero", Arithmetic::Zero),
+    ("one", Arithmetic::One),
+    ("- k", Arithmetic::Negative),
+    ("l / k", Arithmetic::Inverse),
+    ("k + l", Arithmetic::Sum),
+    ("k * l", Arithmetic::Product),
+    ("k == l", Arithmetic::Equal),
+];
+
 fn result<T: Scalar>(alloc: Global, words: &[Word<'_>]) -> Result<String, Failure> {
-    match *words {
-        [Word::Number(a)] => number_text::<T>(alloc, scalar_from(a)?),
-        [Word::Name("zero")] => number_text(alloc, T::zero()),
-        [Word::Name("one")] => number_text(alloc, T::one()),
-        [Word::Name("-"), Word::Number(a)] => number_text(alloc, scalar_from::<T>(a)?.neg()),
-        [Word::Number(1), Word::Name("/"), Word::Number(a)] => inverse::<T>(alloc, scalar_from(a)?),
-        [Word::Number(a), Word::Name(sign), Word::Number(b)] => {
-            joined::<T>(alloc, scalar_from(a)?, sign, scalar_from(b)?)
-        }
-        _ => Err(Failure::Unreadable("no call has these words")),
+    match call_of(ARITHMETIC, words) {
+        Some((call, given)) => value::<T>(alloc, call, given),
+        None => Err(Failure::Unreadable("no call has these words")),
+    }
+}
+
+fn value<T: Scalar>(
+    alloc: Global,
+    call: Arithmetic,
+    given: Operands<'_>,
+) -> Result<String, Failure> {
+    let (k, l): (T, T) = (scalar_from(given.k)?, scalar_from(given.l)?);
+    match call {
+        Arithmetic::Inverse if given.l == 1 => inverse(alloc, k),
+        Arithmetic::Inverse => Err(Failure::Unreadable("only one is divided")),
+        Arithmetic::Equal => truth(alloc, k == l),
+        _ => number_text(alloc, computed(call, k, l)),
     }
 }
 
@@ -53,17 +84,13 @@ fn inverse<T: Scalar>(alloc: Global, a: T) -> Result<String, Failure> {
     }
 }
 
-fn joined<T: Scalar>(alloc: Global, a: T, sign: &str, b: T) -> Result<String, Failure> {
-    match sign {
-        "+" => number_text(alloc, a.add(b)),
-        "*" => number_text(alloc, a.mul(b)),
-        "==" => truth(alloc, a == b),
-        _ => Err(Failure::Unreadable("no call has this sign")),
+fn computed<T: Scalar>(call: Arithmetic, k: T, l: T) -> T {
+    match call {
+        Arithmetic::Zero => T::zero(),
+        Arithmetic::One => T::one(),
+        Arithmetic::Negative => k.neg(),
+        Arithmetic::Sum => k.add(l),
+        Arithmetic::Product => k.mul(l),
+        _ => k,
     }
-}
-
-/// Returns `true` or `false`.
-pub fn truth(alloc: Global, holds: bool) -> Result<String, Failure> {
-    let text = if holds { "true" } else { "false" };
-    Ok(String::from_str(alloc, text)?)
 }

@@ -1,7 +1,7 @@
 //! The scalars and the forms that rows are run over.
 
-use crate::calls::{Form, answer};
-use crate::compressed::{matrix_of, shown};
+use crate::calls::answer;
+use crate::compressed::{Compressed, matrix_of, shown};
 use crate::expressions::{answer_on_expressions, is_on_expressions};
 use crate::texts::{answer_on_texts, is_on_texts, name_of};
 use case_words::failure::Failure;
@@ -32,13 +32,14 @@ fn is_form(name: &str) -> bool {
     name == "rows" || name == "columns"
 }
 
+const SCALARS: &[&str] = &[
+    "W32", "W64", "W128", "Mod7", "Mod6", "Mod1", "Mod0", "i8", "i16", "i32", "i64", "i128",
+    "Places",
+];
+
 // Whether this is the name of a scalar. Plain integers and places are scalars of texts alone.
 fn is_scalar(name: &str) -> bool {
-    match name {
-        "W32" | "W64" | "W128" | "Mod7" | "Mod6" | "Mod1" | "Mod0" => true,
-        "i8" | "i16" | "i32" | "i64" | "i128" | "Places" => true,
-        _ => false,
-    }
+    SCALARS.iter().any(|scalar| *scalar == name)
 }
 
 /// What a call answered, and whether it is what its row expects.
@@ -59,84 +60,39 @@ pub fn answer_over(
     if !is_form(form) || !is_scalar(scalar) {
         return Ok(None);
     }
-    let (name, _) = name_of(call.trim());
+    let (call, wanted) = (call.trim(), wanted.trim());
+    let answer = answer_in(turn, (scalar, form), call);
+    let text = text_of(turn.alloc(), answer)?;
+    let fits = fits(text.as_str(), wanted) || shows(turn.alloc(), form, wanted, text.as_str());
+    Ok(Some(Answer { text, fits }))
+}
+
+// The answer of a call over the scalar and in the form of these names.
+fn answer_in(turn: &mut Turn, (scalar, form): (&str, &str), call: &str) -> Result<String, Failure> {
+    let (name, _) = name_of(call);
     if is_on_texts(name) {
-        let answer = answer_on_texts(turn, (scalar, form), call.trim());
-        return text_compared(turn.alloc(), answer, wanted.trim());
+        return answer_on_texts(turn, (scalar, form), call);
     }
     if is_on_expressions(name) {
-        let answer = answer_on_expressions(turn, (scalar, form), call.trim());
-        return text_compared(turn.alloc(), answer, wanted.trim());
+        return answer_on_expressions(turn, (scalar, form), call);
     }
+    match scalar {
+        "W32" => in_form::<W32>(turn, form, call),
+        "W64" => in_form::<W64>(turn, form, call),
+        "W128" => in_form::<W128>(turn, form, call),
+        "Mod7" => in_form::<Mod<7>>(turn, form, call),
+        "Mod6" => in_form::<Mod<6>>(turn, form, call),
+        "Mod1" => in_form::<Mod<1>>(turn, form, call),
+        "Mod0" => in_form::<Mod<0>>(turn, form, call),
+        _ => Err(Failure::Unreadable("only calls on texts are over this type")),
+    }
+}
+
+fn in_form<T: Scalar>(turn: &mut Turn, form: &str, call: &str) -> Result<String, Failure> {
     match form {
-        "rows" => by_rows(turn, scalar, call, wanted),
-        _ => by_columns(turn, scalar, call, wanted),
+        "rows" => answer::<T, CsrMatrix<T>>(turn, call),
+        _ => answer::<T, CscMatrix<T>>(turn, call),
     }
-}
-
-fn by_rows(
-    turn: &mut Turn,
-    scalar: &str,
-    call: &str,
-    wanted: &str,
-) -> Result<Option<Answer>, AllocError> {
-    match scalar {
-        "W32" => compared::<W32, CsrMatrix<W32>>(turn, call, wanted),
-        "W64" => compared::<W64, CsrMatrix<W64>>(turn, call, wanted),
-        "W128" => compared::<W128, CsrMatrix<W128>>(turn, call, wanted),
-        "Mod7" => compared::<Mod<7>, CsrMatrix<Mod<7>>>(turn, call, wanted),
-        "Mod6" => compared::<Mod<6>, CsrMatrix<Mod<6>>>(turn, call, wanted),
-        "Mod1" => compared::<Mod<1>, CsrMatrix<Mod<1>>>(turn, call, wanted),
-        "Mod0" => compared::<Mod<0>, CsrMatrix<Mod<0>>>(turn, call, wanted),
-        _ => no_ring(turn.alloc(), wanted),
-    }
-}
-
-fn by_columns(
-    turn: &mut Turn,
-    scalar: &str,
-    call: &str,
-    wanted: &str,
-) -> Result<Option<Answer>, AllocError> {
-    match scalar {
-        "W32" => compared::<W32, CscMatrix<W32>>(turn, call, wanted),
-        "W64" => compared::<W64, CscMatrix<W64>>(turn, call, wanted),
-        "W128" => compared::<W128, CscMatrix<W128>>(turn, call, wanted),
-        "Mod7" => compared::<Mod<7>, CscMatrix<Mod<7>>>(turn, call, wanted),
-        "Mod6" => compared::<Mod<6>, CscMatrix<Mod<6>>>(turn, call, wanted),
-        "Mod1" => compared::<Mod<1>, CscMatrix<Mod<1>>>(turn, call, wanted),
-        "Mod0" => compared::<Mod<0>, CscMatrix<Mod<0>>>(turn, call, wanted),
-        _ => no_ring(turn.alloc(), wanted),
-    }
-}
-
-fn compared<T: Scalar, F: Form<T>>(
-    turn: &mut Turn,
-    call: &str,
-    wanted: &str,
-) -> Result<Option<Answer>, AllocError> {
-    let (call, wanted) = (call.trim(), wanted.trim());
-    let answer: Result<String, Failure> = answer::<T, F>(turn, call);
-    let text = text_of(turn.alloc(), answer)?;
-    let fits = fits(text.as_str(), wanted) || shows::<T, F>(turn.alloc(), wanted, text.as_str());
-    Ok(Some(Answer { text, fits }))
-}
-
-// A call over a type of texts that is not one on texts.
-fn no_ring(alloc: Global, wanted: &str) -> Result<Option<Answer>, AllocError> {
-    let why = "only calls on texts are over this type";
-    text_compared(alloc, Err(Failure::Unreadable(why)), wanted)
-}
-
-// The text of an answer, and whether it is the wanted one.
-fn text_compared(
-    alloc: Global,
-    answer: Result<String, Failure>,
-    wanted: &str,
-) -> Result<Option<Answer>, AllocError> {
-    let text = text_of(alloc, answer)?;
-    let fits = fits(text.as_str(), wanted);
-    Ok(Some(Answer { text, fits }))
 }
 
 // The text of an answer.
@@ -156,19 +112,23 @@ fn fits(got: &str, wanted: &str) -> bool {
 }
 
 // Whether a picture with several triplets in a word, as `[9x9 (*,0)=1]`, shows the matrix whose picture the answer is.
-fn shows<T: Scalar, F: Form<T>>(alloc: Global, wanted: &str, got: &str) -> bool {
+fn shows(alloc: Global, form: &str, wanted: &str, got: &str) -> bool {
     let words = ["(*,", ",*)", "(even,", ",even)", "(odd,", ",odd)"];
     if !words.iter().any(|word| wanted.contains(*word)) {
         return false;
     }
-    match redrawn::<T, F>(alloc, wanted) {
+    let redrawn = match form {
+        "rows" => redrawn::<CsrMatrix<W128>>(alloc, wanted),
+        _ => redrawn::<CscMatrix<W128>>(alloc, wanted),
+    };
+    match redrawn {
         Ok(picture) => picture.as_str() == got,
         Err(_) => false,
     }
 }
 
 // The picture of the matrix in brackets, as answers have it.
-fn redrawn<T: Scalar, F: Form<T>>(alloc: Global, wanted: &str) -> Result<String, Failure> {
+fn redrawn<F: Compressed<W128>>(alloc: Global, wanted: &str) -> Result<String, Failure> {
     match wanted
         .strip_prefix("[")
         .and_then(|rest| rest.strip_suffix("]"))

@@ -1,6 +1,8 @@
 //! Patterns, whose lanes are rows here: how they are made, copied, compared, transposed and read.
 
 use crate::compressed::matrix_of;
+use crate::conversions::truth;
+use crate::templates::Operands;
 use case_words::drawing::{
     PatternByRows, draw_indices, draw_triplet, draw_values, is_large, or_none, picture,
 };
@@ -14,26 +16,60 @@ use nalgebra_sparse::scalar::{Ring, W64};
 use nalgebra_sparse::{CsrMatrix, SparseFormatError};
 use std::alloc::{AllocError, Global};
 
-/// Returns the answer of `pattern ..`: a call of a pattern.
-pub fn pattern_call(turn: &mut Turn, name: &str, words: &[Word<'_>]) -> Result<String, Failure> {
-    let alloc = turn.alloc();
-    match *words {
-        [Word::Name(size)] if name == "zeros" => zeros(turn, size_of(size)?),
-        [Word::Name(size), ref arrays @ ..] if name == "of" || name == "kind" => {
-            made(alloc, name, size_of(size)?, arrays)
-        }
-        [Word::Number(index), Word::Matrix(a)] if name == "lane" => {
-            lane(alloc, &pattern_of(alloc, a)?, index_from(index)?)
-        }
-        [Word::Matrix(a), Word::Matrix(b)] if name == "equal" => {
-            let equal = pattern_of(alloc, a)? == pattern_of(alloc, b)?;
-            Ok(format!(in alloc; "{equal}")?)
-        }
-        [Word::Matrix(a)] => of_one(turn, name, pattern_of(alloc, a)?),
-        [Word::Matrix(a), Word::Name("values"), ref values @ ..] if name == "transpose" => {
-            transpose_with::<W64>(turn, pattern_of(alloc, a)?, values)
-        }
-        _ => Err(Failure::Unreadable("no call of a pattern has these words")),
+/// A call of a pattern.
+#[derive(Clone, Copy)]
+pub enum PatternCall {
+    Zeros,
+    Of,
+    Kind,
+    Lane,
+    Equal,
+    Copy,
+    Transpose,
+    TransposeWith,
+    Data,
+    Arrays,
+    Entries,
+}
+
+pub const PATTERN_CALLS: &[(&str, PatternCall)] = &[
+    ("pattern zeros w", PatternCall::Zeros),
+    ("pattern of w ..", PatternCall::Of),
+    ("pattern kind w ..", PatternCall::Kind),
+    ("pattern lane k A", PatternCall::Lane),
+    ("pattern equal A B", PatternCall::Equal),
+    ("pattern copy A", PatternCall::Copy),
+    ("pattern transpose A", PatternCall::Transpose),
+    ("pattern transpose A values ..", PatternCall::TransposeWith),
+    ("pattern data A", PatternCall::Data),
+    ("pattern arrays A", PatternCall::Arrays),
+    ("pattern entries A", PatternCall::Entries),
+];
+
+/// Returns the answer of one of these calls.
+pub fn pattern_call(
+    turn: &mut Turn,
+    call: PatternCall,
+    given: Operands<'_>,
+) -> Result<String, Failure> {
+    match call {
+        PatternCall::Zeros => zeros(turn, size_of(given.w)?),
+        PatternCall::Of | PatternCall::Kind => made(turn.alloc(), call, given),
+        _ => of_pattern(turn, call, given),
+    }
+}
+
+fn of_pattern(turn: &mut Turn, call: PatternCall, given: Operands<'_>) -> Result<String, Failure> {
+    let pattern = pattern_of(turn.alloc(), given.a)?;
+    match call {
+        PatternCall::Lane => lane(turn.alloc(), &pattern, given.k),
+        PatternCall::Equal => equal(turn.alloc(), &pattern, given.b),
+        PatternCall::Copy => copy(turn, &pattern),
+        PatternCall::Transpose => transpose(turn, &pattern),
+        PatternCall::TransposeWith => transpose_with::<W64>(turn, &pattern, given.rest),
+        PatternCall::Data => data(turn, &pattern),
+        PatternCall::Arrays => arrays(turn.alloc(), pattern),
+        _ => entries(turn.alloc(), &pattern),
     }
 }
 
@@ -67,26 +103,37 @@ fn draw_places(pattern: &SparsityPattern, out: &mut String) -> Result<(), AllocE
 }
 
 fn zeros(turn: &mut Turn, (lanes, length): (usize, usize)) -> Result<String, Failure> {
-    let alloc = turn.alloc();
     turn.begin();
-    let made = turn.end(SparsityPattern::zeros(alloc, lanes, length))?;
-    Ok(text_of(alloc, made)?)
+    let made = turn.end(SparsityPattern::zeros(turn.alloc(), lanes, length));
+    made_text(turn.alloc(), made)
+}
+
+// The text of the pattern that a call made.
+fn made_text(alloc: Global, made: Result<SparsityPattern, AllocError>) -> Result<String, Failure> {
+    Ok(text_of(alloc, made?)?)
 }
 
 // The answer of `pattern of SIZE offsets .. indices ..`, or of `pattern kind ..`, where a fault is that of a matrix.
-fn made(
-    alloc: Global,
-    name: &str,
-    (lanes, length): (usize, usize),
-    words: &[Word<'_>],
-) -> Result<String, Failure> {
-    let (offsets, indices) = arrays_of(alloc, words)?;
+fn made(alloc: Global, call: PatternCall, given: Operands<'_>) -> Result<String, Failure> {
+    let (lanes, length) = size_of(given.w)?;
+    let (offsets, indices) = arrays_of(alloc, given.rest)?;
     let checked = check(lanes, length, &offsets, &indices);
     match SparsityPattern::try_from_offsets_and_indices(lanes, length, offsets, indices) {
-        Ok(pattern) if checked.is_ok() => Ok(text_of(alloc, pattern)?),
-        Err(fault) if checked == Err(fault) && name == "kind" => Err(as_of_matrix(alloc, fault)?),
-        Err(fault) if checked == Err(fault) => Err(Failure::from(fault)),
+        Ok(pattern) if checked.is_ok() => made_text(alloc, Ok(pattern)),
+        Err(fault) if checked == Err(fault) => Err(fault_of(alloc, call, fault)?),
         _ => Err(Failure::Unreadable("borrowed arrays have another fault")),
+    }
+}
+
+// The failure of a fault.
+fn fault_of(
+    alloc: Global,
+    call: PatternCall,
+    fault: SparsityPatternFormatError,
+) -> Result<Failure, AllocError> {
+    match call {
+        PatternCall::Kind => as_of_matrix(alloc, fault),
+        _ => Ok(Failure::from(fault)),
     }
 }
 
@@ -117,7 +164,8 @@ fn arrays_of(alloc: Global, words: &[Word<'_>]) -> Result<(Vec<usize>, Vec<usize
 }
 
 // The indices of a lane, or `none` out of bounds.
-fn lane(alloc: Global, pattern: &SparsityPattern, index: usize) -> Result<String, Failure> {
+fn lane(alloc: Global, pattern: &SparsityPattern, index: i128) -> Result<String, Failure> {
+    let index = index_from(index)?;
     let Some(indices) = pattern.get_lane(index) else {
         return Ok(String::from_str(alloc, "none")?);
     };
@@ -129,33 +177,29 @@ fn lane(alloc: Global, pattern: &SparsityPattern, index: usize) -> Result<String
     Ok(out)
 }
 
-// The answer of a call of one pattern.
-fn of_one(turn: &mut Turn, name: &str, pattern: SparsityPattern) -> Result<String, Failure> {
-    let alloc = turn.alloc();
-    match name {
-        "copy" => {
-            turn.begin();
-            let copy = turn.end(pattern.clone(alloc))?;
-            Ok(text_of(alloc, copy)?)
-        }
-        "transpose" => {
-            turn.begin();
-            let transposed = turn.end(pattern.transpose(alloc))?;
-            Ok(text_of(alloc, transposed)?)
-        }
-        "data" => data(turn, pattern),
-        "arrays" => arrays(alloc, pattern),
-        "entries" => entries(alloc, pattern),
-        _ => Err(Failure::Unreadable("no call of a pattern has this name")),
-    }
+fn equal(alloc: Global, left: &SparsityPattern, b: Op<&str>) -> Result<String, Failure> {
+    let right = pattern_of(alloc, b)?;
+    truth(alloc, *left == right)
+}
+
+fn copy(turn: &mut Turn, pattern: &SparsityPattern) -> Result<String, Failure> {
+    turn.begin();
+    let copy = turn.end(pattern.clone(turn.alloc()));
+    made_text(turn.alloc(), copy)
+}
+
+fn transpose(turn: &mut Turn, pattern: &SparsityPattern) -> Result<String, Failure> {
+    turn.begin();
+    let transposed = turn.end(pattern.transpose(turn.alloc()));
+    made_text(turn.alloc(), transposed)
 }
 
 // The pattern of its data struct.
-fn data(turn: &mut Turn, pattern: SparsityPattern) -> Result<String, Failure> {
-    let alloc = turn.alloc();
+fn data(turn: &mut Turn, pattern: &SparsityPattern) -> Result<String, Failure> {
     turn.begin();
-    let data = turn.end(pattern.to_data(alloc))?;
-    Ok(text_of(alloc, SparsityPattern::try_from_data(data)?)?)
+    let data = turn.end(pattern.to_data(turn.alloc()))?;
+    let copy = SparsityPattern::try_from_data(data)?;
+    made_text(turn.alloc(), Ok(copy))
 }
 
 // The offsets and the indices, borrowed and as the pattern is taken apart.
@@ -178,16 +222,16 @@ fn arrays_text(alloc: Global, offsets: &[usize], indices: &[usize]) -> Result<St
 }
 
 // The places in order.
-fn entries(alloc: Global, pattern: SparsityPattern) -> Result<String, Failure> {
+fn entries(alloc: Global, pattern: &SparsityPattern) -> Result<String, Failure> {
     let mut out = String::new(alloc);
-    draw_places(&pattern, &mut out)?;
+    draw_places(pattern, &mut out)?;
     Ok(or_none(alloc, out.as_str())?)
 }
 
 // The transpose, and its values behind it.
 fn transpose_with<T: Scalar>(
     turn: &mut Turn,
-    pattern: SparsityPattern,
+    pattern: &SparsityPattern,
     words: &[Word<'_>],
 ) -> Result<String, Failure> {
     let alloc = turn.alloc();
@@ -197,8 +241,16 @@ fn transpose_with<T: Scalar>(
     }
     turn.begin();
     let (transposed, moved) = turn.end(pattern.transpose_with(alloc, &values))?;
-    let mut out = text_of(alloc, transposed)?;
+    with_values(alloc, transposed, &moved)
+}
+
+fn with_values<T: Scalar>(
+    alloc: Global,
+    pattern: SparsityPattern,
+    values: &[T],
+) -> Result<String, Failure> {
+    let mut out = text_of(alloc, pattern)?;
     out.push_str(" values")?;
-    draw_values(&moved, &mut out)?;
+    draw_values(values, &mut out)?;
     Ok(out)
 }

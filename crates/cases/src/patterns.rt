@@ -1,16 +1,28 @@
 //! Patterns of sums and products.
 
 use crate::compressed::{Compressed, matrix_of};
+use crate::templates::Operands;
 use case_words::drawing::{PatternByColumns, PatternByRows, picture};
 use case_words::failure::Failure;
 use case_words::scalar::Scalar;
 use case_words::turn::Turn;
-use nalgebra_sparse::ops::Op;
 use nalgebra_sparse::ops::serial::{spadd_pattern, spmm_csc_pattern, spmm_csr_pattern};
 use nalgebra_sparse::{CscMatrix, CsrMatrix};
 
+/// A call that makes the pattern of a sum or a product.
+#[derive(Clone, Copy)]
+pub enum Joined {
+    Sum,
+    Product,
+}
+
+pub const PATTERNS: &[(&str, Joined)] = &[
+    ("pattern A + B", Joined::Sum),
+    ("pattern A B", Joined::Product),
+];
+
 /// The patterns of the sums and products of a form.
-pub trait Patterns<T: Scalar>: Compressed<T> {
+pub trait Patterns<T: Scalar> {
     fn sum_pattern(&self, turn: &mut Turn, other: &Self) -> Result<String, Failure>;
 
     fn product_pattern(&self, turn: &mut Turn, other: &Self) -> Result<String, Failure>;
@@ -58,22 +70,16 @@ impl<T: Scalar> Patterns<T> for CscMatrix<T> {
     }
 }
 
-/// Returns the places of the sum of two matrices.
-pub fn pattern_of_sum<T: Scalar, F: Patterns<T>>(
+/// Returns the answer of one of these calls.
+pub fn joined_pattern<T: Scalar, F: Compressed<T> + Patterns<T>>(
     turn: &mut Turn,
-    a: Op<&str>,
-    b: Op<&str>,
+    call: Joined,
+    given: Operands<'_>,
 ) -> Result<String, Failure> {
-    let (left, right): (F, F) = (matrix_of(turn.alloc(), a)?, matrix_of(turn.alloc(), b)?);
-    left.sum_pattern(turn, &right)
-}
-
-/// Returns the places of the product of two matrices.
-pub fn pattern_of_product<T: Scalar, F: Patterns<T>>(
-    turn: &mut Turn,
-    a: Op<&str>,
-    b: Op<&str>,
-) -> Result<String, Failure> {
-    let (left, right): (F, F) = (matrix_of(turn.alloc(), a)?, matrix_of(turn.alloc(), b)?);
-    left.product_pattern(turn, &right)
+    let left: F = matrix_of(turn.alloc(), given.a)?;
+    let right: F = matrix_of(turn.alloc(), given.b)?;
+    match call {
+        Joined::Sum => left.sum_pattern(turn, &right),
+        Joined::Product => left.product_pattern(turn, &right),
+    }
 }

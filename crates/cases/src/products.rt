@@ -1,19 +1,18 @@
-//! Products, and products into a given matrix.
+//! Products into a given matrix.
 
 use crate::compressed::{Compressed, inner_of, matrix_of, operand, shown, updated};
 use crate::sums::{size_by_columns, size_by_rows};
+use crate::templates::Operands;
 use case_words::failure::Failure;
 use case_words::scalar::Scalar;
 use case_words::turn::Turn;
 use nalgebra_sparse::ops::Op;
-use nalgebra_sparse::ops::serial::{mul_csc, mul_csr, spmm_csc_prealloc, spmm_csr_prealloc};
+use nalgebra_sparse::ops::serial::{spmm_csc_prealloc, spmm_csr_prealloc};
 use nalgebra_sparse::{CscMatrix, CsrMatrix};
 use std::alloc::Global;
 
-/// The products of a form.
-pub trait Products<T: Scalar>: Compressed<T> {
-    fn product(&self, alloc: Global, other: &Self) -> Result<Self, Failure>;
-
+/// The products of a form into a given matrix.
+pub trait Products<T: Scalar> {
     /// Updates this to `beta C + alpha A B`.
     fn add_product(
         &mut self,
@@ -26,13 +25,6 @@ pub trait Products<T: Scalar>: Compressed<T> {
 
 /// By rows.
 impl<T: Scalar> Products<T> for CsrMatrix<T> {
-    fn product(&self, alloc: Global, other: &Self) -> Result<Self, Failure> {
-        if self.ncols() != other.nrows() {
-            return Err(Failure::Misfit);
-        }
-        Ok(mul_csr(alloc, self, other)?)
-    }
-
     fn add_product(
         &mut self,
         alloc: Global,
@@ -50,13 +42,6 @@ impl<T: Scalar> Products<T> for CsrMatrix<T> {
 
 /// By columns.
 impl<T: Scalar> Products<T> for CscMatrix<T> {
-    fn product(&self, alloc: Global, other: &Self) -> Result<Self, Failure> {
-        if self.ncols() != other.nrows() {
-            return Err(Failure::Misfit);
-        }
-        Ok(mul_csc(alloc, self, other)?)
-    }
-
     fn add_product(
         &mut self,
         alloc: Global,
@@ -72,31 +57,28 @@ impl<T: Scalar> Products<T> for CscMatrix<T> {
     }
 }
 
-/// Returns the answer of `A B`.
-pub fn product<T: Scalar, F: Products<T>>(
-    turn: &mut Turn,
-    a: Op<&str>,
-    b: Op<&str>,
-) -> Result<String, Failure> {
-    let alloc = turn.alloc();
-    let (left, right): (F, F) = (matrix_of(alloc, a)?, matrix_of(alloc, b)?);
-    turn.begin();
-    let made = turn.end(left.product(alloc, &right))?;
-    shown(alloc, &made)
-}
-
 /// Returns the target after `beta C += alpha A B`, which is `beta C + alpha A B` on the places of C.
-pub fn product_into<T: Scalar, F: Products<T>>(
+pub fn product_into<T: Scalar, F: Compressed<T> + Products<T>>(
     turn: &mut Turn,
     scalars: (T, T),
-    target: Op<&str>,
-    (a, b): (Op<&str>, Op<&str>),
+    given: Operands<'_>,
 ) -> Result<String, Failure> {
-    let alloc = turn.alloc();
-    let mut c: F = matrix_of(alloc, target)?;
-    let (left, right): (F, F) = (inner_of(alloc, a)?, inner_of(alloc, b)?);
-    let before = shown(alloc, &c)?;
+    let a: F = inner_of(turn.alloc(), given.a)?;
+    let b: F = inner_of(turn.alloc(), given.b)?;
+    let mut c: F = matrix_of(turn.alloc(), given.c)?;
+    let (a, b) = (operand(given.a, &a), operand(given.b, &b));
+    added(turn, scalars, &mut c, a, b)
+}
+
+fn added<T: Scalar, F: Compressed<T> + Products<T>>(
+    turn: &mut Turn,
+    scalars: (T, T),
+    c: &mut F,
+    a: Op<&F>,
+    b: Op<&F>,
+) -> Result<String, Failure> {
+    let before = shown(turn.alloc(), c)?;
     turn.begin();
-    let answer = turn.end(c.add_product(alloc, scalars, operand(a, &left), operand(b, &right)));
-    updated(answer, before, shown(alloc, &c)?)
+    let answer = turn.end(c.add_product(turn.alloc(), scalars, a, b));
+    updated(answer, before, shown(turn.alloc(), c))
 }

@@ -1,24 +1,34 @@
 //! Triangular systems.
 
-use crate::compressed::{inner_of, operand, updated};
-use crate::dense_products::plain_dense_of;
+use crate::compressed::{inner_of, operand, plain_dense_of, updated};
 use case_words::drawing::picture;
 use case_words::failure::Failure;
 use case_words::scalar::Scalar;
-use case_words::turn::Turn;
 use nalgebra_sparse::CscMatrix;
 use nalgebra_sparse::dense::DMatrix;
 use nalgebra_sparse::ops::Op;
 use nalgebra_sparse::ops::serial::spsolve_csc_lower_triangular;
+use std::alloc::Global;
 
 /// Returns the answer of `L \ B`: the solution of a lower triangular system, or of its transpose.
-pub fn solution<T: Scalar>(turn: &mut Turn, a: Op<&str>, b: Op<&str>) -> Result<String, Failure> {
-    let alloc = turn.alloc();
+pub fn solution<T: Scalar>(alloc: Global, a: Op<&str>, b: Op<&str>) -> Result<String, Failure> {
     let l: CscMatrix<T> = inner_of(alloc, a)?;
-    let mut x = plain_dense_of::<T>(alloc, b)?;
-    let before = picture(alloc, &x)?;
-    let answer = solve(operand(a, &l), &mut x);
-    updated(answer, before, picture(alloc, &x)?)
+    let x: DMatrix<T> = plain_dense_of(alloc, b)?;
+    solved(alloc, operand(a, &l), x)
+}
+
+fn solved<T: Scalar>(
+    alloc: Global,
+    l: Op<&CscMatrix<T>>,
+    mut x: DMatrix<T>,
+) -> Result<String, Failure> {
+    let before = drawn(alloc, &x)?;
+    let answer = solve(l, &mut x);
+    updated(answer, before, drawn(alloc, &x))
+}
+
+fn drawn<T: Scalar>(alloc: Global, x: &DMatrix<T>) -> Result<String, Failure> {
+    Ok(picture(alloc, x)?)
 }
 
 // Replaces the right sides by the solution, where the sizes fit.

@@ -1,12 +1,11 @@
 //! The triplets of compressed matrices in order, and writes to all values.
 
-use crate::compressed::{matrix_of, shown};
-use crate::conversions::Conversions;
+use crate::compressed::{Compressed, matrix_of, shown};
+use crate::templates::Operands;
 use case_words::drawing::{draw_triplet, or_none};
 use case_words::failure::Failure;
 use case_words::scalar::Scalar;
 use case_words::turn::Turn;
-use nalgebra_sparse::ops::Op;
 use nalgebra_sparse::{CscMatrix, CsrMatrix};
 use std::alloc::{AllocError, Global};
 
@@ -33,7 +32,7 @@ const WAYS: &[ValuesWay] = &[
 ];
 
 /// The triplets of a form.
-pub trait Triplets<T: Scalar>: Conversions<T> {
+pub trait Triplets<T: Scalar> {
     /// Appends the triplets.
     fn draw_triplets(&self, out: &mut String) -> Result<(), AllocError>;
 
@@ -145,24 +144,36 @@ fn double_columns<T: Scalar>(matrix: &mut CscMatrix<T>) {
     }
 }
 
-/// Returns the answer of `triplets A` or `double A`, each in all ways that the library has.
-pub fn triplets_call<T: Scalar, F: Triplets<T>>(
-    turn: &Turn,
-    name: &str,
-    a: Op<&str>,
+/// A call on all triplets.
+#[derive(Clone, Copy)]
+pub enum TripletCall {
+    InOrder,
+    Double,
+}
+
+pub const TRIPLETS: &[(&str, TripletCall)] = &[
+    ("triplets A", TripletCall::InOrder),
+    ("double A", TripletCall::Double),
+];
+
+/// Returns the answer of one of these calls, each in all ways that the library has.
+pub fn triplets_call<T: Scalar, F: Compressed<T> + Triplets<T>>(
+    turn: &mut Turn,
+    call: TripletCall,
+    given: Operands<'_>,
 ) -> Result<String, Failure> {
-    let alloc = turn.alloc();
-    let matrix: F = matrix_of(alloc, a)?;
-    match name {
-        "triplets" => in_order::<T, F>(alloc, matrix),
-        _ => doubled::<T, F>(alloc, &matrix),
+    let mut matrix: F = matrix_of(turn.alloc(), given.a)?;
+    match call {
+        TripletCall::InOrder => in_order::<T, F>(turn.alloc(), &mut matrix),
+        TripletCall::Double => doubled::<T, F>(turn.alloc(), &matrix),
     }
 }
 
 // The triplets in order. Those with copies of the values and those for writing must be the same.
-fn in_order<T: Scalar, F: Triplets<T>>(alloc: Global, mut matrix: F) -> Result<String, Failure> {
-    let (mut read, mut copied) = (String::new(alloc), String::new(alloc));
+fn in_order<T: Scalar, F: Triplets<T>>(alloc: Global, matrix: &mut F) -> Result<String, Failure> {
+    let mut read = String::new(alloc);
     matrix.draw_triplets(&mut read)?;
+    let mut copied = String::new(alloc);
     matrix.draw_copies(&mut copied)?;
     let mut written = String::new(alloc);
     matrix.draw_triplets_mut(&mut written)?;
@@ -173,7 +184,10 @@ fn in_order<T: Scalar, F: Triplets<T>>(alloc: Global, mut matrix: F) -> Result<S
 }
 
 // The matrix with each value doubled. All ways must leave the same matrix.
-fn doubled<T: Scalar, F: Triplets<T>>(alloc: Global, matrix: &F) -> Result<String, Failure> {
+fn doubled<T: Scalar, F: Compressed<T> + Triplets<T>>(
+    alloc: Global,
+    matrix: &F,
+) -> Result<String, Failure> {
     let after = doubled_in(alloc, matrix, ValuesWay::Values)?;
     for way in WAYS {
         let other = doubled_in(alloc, matrix, *way)?;
@@ -184,7 +198,7 @@ fn doubled<T: Scalar, F: Triplets<T>>(alloc: Global, matrix: &F) -> Result<Strin
     Ok(after)
 }
 
-fn doubled_in<T: Scalar, F: Triplets<T>>(
+fn doubled_in<T: Scalar, F: Compressed<T> + Triplets<T>>(
     alloc: Global,
     matrix: &F,
     way: ValuesWay,

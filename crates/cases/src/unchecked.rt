@@ -8,6 +8,7 @@ ghost use Rattle.nalgebra_sparse.specs.Prealloc.{IsCovered};
 
 use crate::compressed::{Compressed, inner_of, matrix_of, operand, shown, updated};
 use crate::sums::{size_by_columns, size_by_rows};
+use crate::templates::Operands;
 use case_words::failure::Failure;
 use case_words::scalar::Scalar;
 use case_words::turn::Turn;
@@ -19,13 +20,20 @@ use nalgebra_sparse::ops::{Op, Steps};
 use nalgebra_sparse::{CscMatrix, CsrMatrix};
 use std::alloc::Global;
 
+/// A call that does not test the places.
+#[derive(Clone, Copy)]
+pub enum Way {
+    Plain,
+    Counted,
+}
+
 /// The products of a form into a matrix that has each of their places.
-pub trait Unchecked<T: Scalar>: Compressed<T> {
+pub trait Unchecked<T: Scalar> {
     /// Updates this to `beta C + alpha A B`, by the call that this way names.
     fn add_covered_product(
         &mut self,
         turn: &mut Turn,
-        way: (&str, (T, T)),
+        way: (Way, (T, T)),
         a: Op<&Self>,
         b: Op<&Self>,
     ) -> Result<(), Failure>;
@@ -38,7 +46,7 @@ impl<T: Scalar> Unchecked<T> for CsrMatrix<T> {
     fn add_covered_product(
         &mut self,
         turn: &mut Turn,
-        (way, (beta, alpha)): (&str, (T, T)),
+        (way, (beta, alpha)): (Way, (T, T)),
         a: Op<&Self>,
         b: Op<&Self>,
     ) -> Result<(), Failure> {
@@ -51,11 +59,12 @@ impl<T: Scalar> Unchecked<T> for CsrMatrix<T> {
             return Err(LACKS);
         }
         turn.begin();
-        let answer = if way == "counted" {
-            let mut steps = Steps::new();
-            spmm_csr_prealloc_unchecked_counted(alloc, beta, self, alpha, a, b, &mut steps)
-        } else {
-            spmm_csr_prealloc_unchecked(alloc, beta, self, alpha, a, b)
+        let answer = match way {
+            Way::Plain => spmm_csr_prealloc_unchecked(alloc, beta, self, alpha, a, b),
+            Way::Counted => {
+                let mut steps = Steps::new();
+                spmm_csr_prealloc_unchecked_counted(alloc, beta, self, alpha, a, b, &mut steps)
+            }
         };
         Ok(turn.end(answer)?)
     }
@@ -66,7 +75,7 @@ impl<T: Scalar> Unchecked<T> for CscMatrix<T> {
     fn add_covered_product(
         &mut self,
         turn: &mut Turn,
-        (way, (beta, alpha)): (&str, (T, T)),
+        (way, (beta, alpha)): (Way, (T, T)),
         a: Op<&Self>,
         b: Op<&Self>,
     ) -> Result<(), Failure> {
@@ -75,7 +84,7 @@ impl<T: Scalar> Unchecked<T> for CscMatrix<T> {
             return Err(Failure::Misfit);
         }
         let alloc = turn.alloc();
-        if way == "counted" || !covers_columns(alloc, self, a, b) {
+        if matches!(way, Way::Counted) || !covers_columns(alloc, self, a, b) {
             return Err(LACKS);
         }
         turn.begin();
@@ -139,16 +148,26 @@ fn covers_columns<T: Scalar>(
 }
 
 /// Returns the target after `unchecked beta C += alpha A B` or `counted beta C += alpha A B`.
-pub fn product_into_by<T: Scalar, F: Unchecked<T>>(
+pub fn product_into_by<T: Scalar, F: Compressed<T> + Unchecked<T>>(
     turn: &mut Turn,
-    way: (&str, (T, T)),
-    target: Op<&str>,
-    (a, b): (Op<&str>, Op<&str>),
+    way: (Way, (T, T)),
+    given: Operands<'_>,
 ) -> Result<String, Failure> {
-    let alloc = turn.alloc();
-    let mut c: F = matrix_of(alloc, target)?;
-    let (left, right): (F, F) = (inner_of(alloc, a)?, inner_of(alloc, b)?);
-    let before = shown(alloc, &c)?;
-    let answer = c.add_covered_product(turn, way, operand(a, &left), operand(b, &right));
-    updated(answer, before, shown(alloc, &c)?)
+    let a: F = inner_of(turn.alloc(), given.a)?;
+    let b: F = inner_of(turn.alloc(), given.b)?;
+    let mut c: F = matrix_of(turn.alloc(), given.c)?;
+    let (a, b) = (operand(given.a, &a), operand(given.b, &b));
+    added(turn, way, &mut c, a, b)
+}
+
+fn added<T: Scalar, F: Compressed<T> + Unchecked<T>>(
+    turn: &mut Turn,
+    way: (Way, (T, T)),
+    c: &mut F,
+    a: Op<&F>,
+    b: Op<&F>,
+) -> Result<String, Failure> {
+    let before = shown(turn.alloc(), c)?;
+    let answer = c.add_covered_product(turn, way, a, b);
+    updated(answer, before, shown(turn.alloc(), c))
 }

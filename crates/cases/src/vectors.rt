@@ -2,13 +2,15 @@
 
 ghost use Rattle.std.specs.Prelude.{◌≡◌};
 
-use crate::compressed::{Compressed, matrix_of};
-use crate::dense_products::plain_dense_of;
+use crate::compressed::{Compressed, matrix_of, plain_dense_of};
+use crate::templates::Operands;
 use case_words::drawing::{draw_number, picture};
 use case_words::failure::Failure;
 use case_words::picture::list_of;
-use case_words::scalar::Scalar;
+use case_words::scalar::{Scalar, scalar_from};
 use case_words::turn::Turn;
+use case_words::words::index_from;
+use nalgebra_sparse::dense::DMatrix;
 use nalgebra_sparse::ops::Op;
 use nalgebra_sparse::ops::serial::{
     axpy_csc_col, axpy_csr_row, dot_csc_col, dot_csr_row, usaxpy, usdot,
@@ -16,8 +18,26 @@ use nalgebra_sparse::ops::serial::{
 use nalgebra_sparse::{CooMatrix, CscMatrix, CsrMatrix};
 use std::alloc::Global;
 
+/// A call on vectors.
+#[derive(Clone, Copy)]
+pub enum VectorCall {
+    /// The dot product of row k, or of column k by columns, and a vector.
+    Dot,
+    /// The vector after l times row k, or column k by columns, is added.
+    Axpy,
+    SparseDot,
+    SparseAxpy,
+}
+
+pub const VECTORS: &[(&str, VectorCall)] = &[
+    ("dot k A B", VectorCall::Dot),
+    ("axpy l k A B", VectorCall::Axpy),
+    ("usdot A B", VectorCall::SparseDot),
+    ("usaxpy l A B", VectorCall::SparseAxpy),
+];
+
 /// The lanes of a form with dense vectors: its rows, or its columns.
-pub trait Vectors<T: Scalar>: Compressed<T> {
+pub trait Vectors<T: Scalar> {
     /// Returns the dot product of a lane and a vector.
     fn dot(&self, lane: usize, x: &[T]) -> Result<T, Failure>;
 
@@ -61,40 +81,55 @@ impl<T: Scalar> Vectors<T> for CscMatrix<T> {
     }
 }
 
-/// Returns the answer of `dot i A x`: the dot product of row i of A, or of column i by columns, and a vector.
-pub fn dot<T: Scalar, F: Vectors<T>>(
+/// Returns the answer of one of these calls. The first vector of a sparse call has the columns of a list as its indices,
+/// in the order of the list.
+pub fn with_vector<T: Scalar, F: Compressed<T> + Vectors<T>>(
     turn: &mut Turn,
-    lane: usize,
-    a: Op<&str>,
-    x: Op<&str>,
+    call: VectorCall,
+    given: Operands<'_>,
 ) -> Result<String, Failure> {
-    let alloc = turn.alloc();
-    let matrix: F = matrix_of(alloc, a)?;
-    let x = plain_dense_of::<T>(alloc, x)?;
-    number_text(alloc, matrix.dot(lane, x.as_slice())?)
+    let mut y: DMatrix<T> = plain_dense_of(turn.alloc(), given.b)?;
+    match call {
+        VectorCall::Dot => dot::<T, F>(turn.alloc(), given, y.as_slice()),
+        VectorCall::SparseDot => sparse_dot(turn.alloc(), given.a, y.as_slice()),
+        VectorCall::Axpy => {
+            axpy::<T, F>(turn.alloc(), given, y.as_mut_slice())?;
+            drawn(turn.alloc(), &y)
+        }
+        VectorCall::SparseAxpy => {
+            sparse_axpy(turn.alloc(), given, y.as_mut_slice())?;
+            drawn(turn.alloc(), &y)
+        }
+    }
 }
 
-/// Returns the answer of `axpy alpha i A y`: the vector after alpha times row i of A, or column i by columns, is added.
-pub fn axpy<T: Scalar, F: Vectors<T>>(
-    turn: &mut Turn,
-    (alpha, lane): (T, usize),
-    a: Op<&str>,
-    y: Op<&str>,
-) -> Result<String, Failure> {
-    let alloc = turn.alloc();
-    let matrix: F = matrix_of(alloc, a)?;
-    let mut y = plain_dense_of::<T>(alloc, y)?;
-    matrix.axpy(alpha, lane, y.as_mut_slice())?;
-    Ok(picture(alloc, &y)?)
+fn drawn<T: Scalar>(alloc: Global, y: &DMatrix<T>) -> Result<String, Failure> {
+    Ok(picture(alloc, y)?)
 }
 
-/// Returns the answer of `usdot x y`: the dot product of a sparse vector, whose indices are the columns of a list in its
-/// order, and a dense one.
-pub fn sparse_dot<T: Scalar>(turn: &mut Turn, x: Op<&str>, y: Op<&str>) -> Result<String, Failure> {
-    let alloc = turn.alloc();
+fn dot<T: Scalar, F: Compressed<T> + Vectors<T>>(
+    alloc: Global,
+    given: Operands<'_>,
+    x: &[T],
+) -> Result<String, Failure> {
+    let lane = index_from(given.k)?;
+    let matrix: F = matrix_of(alloc, given.a)?;
+    number_text(alloc, matrix.dot(lane, x)?)
+}
+
+fn axpy<T: Scalar, F: Compressed<T> + Vectors<T>>(
+    alloc: Global,
+    given: Operands<'_>,
+    y: &mut [T],
+) -> Result<(), Failure> {
+    let (alpha, lane): (T, usize) = (scalar_from(given.l)?, index_from(given.k)?);
+    let matrix: F = matrix_of(alloc, given.a)?;
+    matrix.axpy(alpha, lane, y)
+}
+
+fn sparse_dot<T: Scalar>(alloc: Global, x: Op<&str>, y: &[T]) -> Result<String, Failure> {
     let x = list_of::<T>(alloc, x.into_inner())?;
-    let y = plain_dense_of::<T>(alloc, y)?;
-    number_text(alloc, dot_of_list(&x, y.as_slice())?)
+    number_text(alloc, dot_of_list(&x, y)?)
 }
 
 fn dot_of_list<T: Scalar>(x: &CooMatrix<T>, y: &[T]) -> Result<T, Failure> {
@@ -104,18 +139,10 @@ fn dot_of_list<T: Scalar>(x: &CooMatrix<T>, y: &[T]) -> Result<T, Failure> {
     Ok(usdot(x.values(), x.col_indices(), y))
 }
 
-/// Returns the answer of `usaxpy alpha x y`: the dense vector after alpha times the sparse one is added.
-pub fn sparse_axpy<T: Scalar>(
-    turn: &mut Turn,
-    alpha: T,
-    x: Op<&str>,
-    y: Op<&str>,
-) -> Result<String, Failure> {
-    let alloc = turn.alloc();
-    let x = list_of::<T>(alloc, x.into_inner())?;
-    let mut y = plain_dense_of::<T>(alloc, y)?;
-    add_list(alpha, &x, y.as_mut_slice())?;
-    Ok(picture(alloc, &y)?)
+fn sparse_axpy<T: Scalar>(alloc: Global, given: Operands<'_>, y: &mut [T]) -> Result<(), Failure> {
+    let alpha: T = scalar_from(given.l)?;
+    let x = list_of::<T>(alloc, given.a.into_inner())?;
+    add_list(alpha, &x, y)
 }
 
 fn add_list<T: Scalar>(alpha: T, x: &CooMatrix<T>, y: &mut [T]) -> Result<(), Failure> {

@@ -1,8 +1,8 @@
 //! Views of borrowed arrays.
 
 use crate::arrays::{list_arrays, matrix_arrays};
-use crate::compressed::{Compressed, matrix_of, shown};
-use case_words::drawing::{Drawn, draw_entry, draw_triplet, is_large, picture, triplets};
+use crate::compressed::{Compressed, made_list, matrix_of, shown};
+use case_words::drawing::{Drawn, draw_entry, draw_triplet, is_large, picture};
 use case_words::failure::Failure;
 use case_words::picture::list_of;
 use case_words::scalar::Scalar;
@@ -14,7 +14,7 @@ use nalgebra_sparse::{CscMatrix, CsrMatrix};
 use std::alloc::{AllocError, Global};
 
 /// The view of a form.
-pub trait Views<T: Scalar>: Compressed<T> {
+pub trait Views<T: Scalar> {
     /// Returns the answer of `view A`.
     fn viewed(&self, turn: &mut Turn) -> Result<String, Failure>;
 }
@@ -35,7 +35,10 @@ impl<T: Scalar> Views<T> for CscMatrix<T> {
 
 /// Returns the answer of `view A`, `view list A`, `view csr 2x3 offsets .. indices .. values ..`, `view csc ..` or
 /// `view coo 2x3 rows .. cols .. values ..`: what the view shows, which its copy must show too.
-pub fn view<T: Scalar, F: Views<T>>(turn: &mut Turn, text: &str) -> Result<String, Failure> {
+pub fn view<T: Scalar, F: Compressed<T> + Views<T>>(
+    turn: &mut Turn,
+    text: &str,
+) -> Result<String, Failure> {
     match text.split_once(' ') {
         Some(("csr", arrays)) => csr_view::<T>(turn, arrays),
         Some(("csc", arrays)) => csc_view::<T>(turn, arrays),
@@ -62,7 +65,10 @@ fn coo_view<T: Scalar>(turn: &mut Turn, text: &str) -> Result<String, Failure> {
     list_seen(turn, &view)
 }
 
-fn view_of_words<T: Scalar, F: Views<T>>(turn: &mut Turn, text: &str) -> Result<String, Failure> {
+fn view_of_words<T: Scalar, F: Compressed<T> + Views<T>>(
+    turn: &mut Turn,
+    text: &str,
+) -> Result<String, Failure> {
     let alloc = turn.alloc();
     match *words_of(alloc, text)?.as_slice() {
         [Word::Matrix(a)] => matrix_of::<T, F>(alloc, a)?.viewed(turn),
@@ -114,35 +120,30 @@ impl<'b, 'a, T: Scalar> Drawn for ByColumns<'b, 'a, T> {
 
 // What a view by rows shows, and its copy.
 fn rows_seen<T: Scalar>(turn: &mut Turn, view: &CsrView<'_, T>) -> Result<String, Failure> {
-    let alloc = turn.alloc();
-    let seen = as_copied(
-        entries_seen(alloc, view)?,
-        picture(alloc, &ByRows { view })?,
-    )?;
+    let seen = entries_seen(turn.alloc(), view)?;
+    let lanes = picture(turn.alloc(), &ByRows { view })?;
+    let seen = as_copied(seen, Ok(lanes))?;
     turn.begin();
-    let copy = turn.end(view.to_csr(alloc))?;
-    as_copied(seen, shown(alloc, &copy)?)
+    let copy = turn.end(view.to_csr(turn.alloc()))?;
+    as_copied(seen, shown(turn.alloc(), &copy))
 }
 
 // What a view by columns shows, and its copy.
 fn columns_seen<T: Scalar>(turn: &mut Turn, view: &CscView<'_, T>) -> Result<String, Failure> {
-    let alloc = turn.alloc();
-    let seen = as_copied(
-        entries_seen(alloc, view)?,
-        picture(alloc, &ByColumns { view })?,
-    )?;
+    let seen = entries_seen(turn.alloc(), view)?;
+    let lanes = picture(turn.alloc(), &ByColumns { view })?;
+    let seen = as_copied(seen, Ok(lanes))?;
     turn.begin();
-    let copy = turn.end(view.to_csc(alloc))?;
-    as_copied(seen, shown(alloc, &copy)?)
+    let copy = turn.end(view.to_csc(turn.alloc()))?;
+    as_copied(seen, shown(turn.alloc(), &copy))
 }
 
 // What a view of a list shows, and its copy.
 fn list_seen<T: Scalar>(turn: &mut Turn, view: &CooView<'_, T>) -> Result<String, Failure> {
-    let alloc = turn.alloc();
-    let seen = triplets_seen(alloc, view)?;
+    let seen = triplets_seen(turn.alloc(), view)?;
     turn.begin();
-    let copy = turn.end(view.to_coo(alloc))?;
-    as_copied(seen, triplets(alloc, &copy)?)
+    let copy = turn.end(view.to_coo(turn.alloc()));
+    as_copied(seen, made_list(turn.alloc(), copy))
 }
 
 fn entries_seen<V: Drawn>(alloc: Global, view: &V) -> Result<String, Failure> {
@@ -163,7 +164,8 @@ fn triplets_seen<T: Scalar>(alloc: Global, view: &CooView<'_, T>) -> Result<Stri
 }
 
 // What a view showed, if its rows or columns, or its copy, show the same.
-fn as_copied(seen: String, copied: String) -> Result<String, Failure> {
+fn as_copied(seen: String, copied: Result<String, Failure>) -> Result<String, Failure> {
+    let copied = copied?;
     if seen.as_str() == copied.as_str() {
         return Ok(seen);
     }
