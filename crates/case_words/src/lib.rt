@@ -7,5 +7,6 @@ pub mod failure;
 pub mod lines;
 pub mod picture;
 pub mod scalar;
+pub mod templates;
 pub mod turn;
 pub mod words;

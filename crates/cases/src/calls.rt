@@ -1,19 +1,19 @@
 //! Calls, and what they answer.
 
-use crate::compressed::Compressed;
-use crate::constructors::{Constructors, constructed, is_constructor, of_parts};
-use crate::conversions::{CONVERSIONS, Conversions, converted};
-use crate::dense::{DENSE, dense_call};
-use crate::entries::{ENTRIES, Entries, entry_call};
-use crate::lanes::{LANES, Lanes, lane_call};
-use crate::lists::{LISTS, list_call};
-use crate::operations::{Operations, operation};
-use crate::pattern_calls::{PATTERN_CALLS, pattern_call};
-use crate::shapes::{SHAPES, Shapes, read, shaped};
-use crate::templates::call_of;
-use crate::triplets::{TRIPLETS, Triplets, triplets_call};
+use case_entries::entries::{ENTRIES, Entries, entry_call};
+use case_entries::lanes::{LANES, Lanes, lane_call};
+use case_entries::lists::{LISTS, list_call};
+use case_entries::shapes::{SHAPES, Shapes, read, shaped};
+use case_entries::triplets::{TRIPLETS, Triplets, triplets_call};
+use case_matrices::compressed::Compressed;
+use case_matrices::conversions::{CONVERSIONS, Conversions, converted};
+use case_objects::constructors::{Constructors, constructed, is_constructor, of_parts};
+use case_objects::dense::{DENSE, dense_call};
+use case_objects::pattern_calls::{PATTERN_CALLS, pattern_call};
+use case_operations::operations::{Operations, operation};
 use case_words::failure::Failure;
 use case_words::scalar::Scalar;
+use case_words::templates::call_of;
 use case_words::turn::Turn;
 use case_words::words::{Word, words_of};
 use nalgebra_sparse::{CscMatrix, CsrMatrix};

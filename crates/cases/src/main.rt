@@ -5,41 +5,9 @@
 //! refused: where a fixed request of the program is refused, these numbers decide which request of a call that is.
 #![tactic(auto)]
 
-mod arrays;
 mod calls;
-mod compressed;
-mod constructors;
-mod conversions;
-mod dense;
-mod dense_products;
-mod entries;
-mod expressions;
-mod factors;
-mod filters;
-mod in_place;
-mod json;
-mod lanes;
-mod lists;
-mod made;
-mod numbers;
-mod operations;
 mod over;
-mod pattern_calls;
-mod patterns;
-mod products;
-mod shapes;
-mod sums;
-mod systems;
 mod table;
-mod templates;
-mod text_scalars;
-mod text_values;
-mod texts;
-mod triplets;
-mod unchecked;
-mod vectors;
-mod views;
-mod written;
 
 use crate::table::{Count, refuse_table, run_table};
 use std::process::ExitCode;

@@ -1,9 +1,9 @@
 //! The scalars and the forms that rows are run over.
 
 use crate::calls::answer;
-use crate::compressed::{Compressed, matrix_of, shown};
-use crate::expressions::{answer_on_expressions, is_on_expressions};
-use crate::texts::{answer_on_texts, is_on_texts, name_of};
+use case_matrices::compressed::{Compressed, matrix_of, shown};
+use case_texts::expressions::{answer_on_expressions, is_on_expressions};
+use case_texts::texts::{answer_on_texts, is_on_texts, name_of};
 use case_words::failure::Failure;
 use case_words::scalar::Scalar;
 use case_words::turn::Turn;
