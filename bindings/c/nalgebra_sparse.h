@@ -24,10 +24,10 @@
  * behind the result. At any other status the arrays are as they were, and the status tells why. Equations hold in the
  * ring of the call: the integers modulo 2^64, or modulo `modulus`.
  *
- * At TOO_SMALL the call tells the size that is needed: the last argument, out_places, out_triplets or out_length, becomes
- * the number that it would have at status 0. So a call with short arrays, or with none, may be made again with arrays of
- * that size. The other sizes follow from the shape. At any other status than 0 and TOO_SMALL it is as it was. The calls
- * that write a dense matrix have no such argument, and nalgebra_sparse_matrix_read leaves it as it was.
+ * At TOO_SMALL the call tells the size that is needed: the last argument, out_places, out_triplets or out_length,
+ * becomes the number that it would have at status 0. So a call with short arrays, or with none, may be made again with
+ * arrays of that size. The other sizes follow from the shape. At any other status than 0 and TOO_SMALL it is as it was.
+ * The calls that write a dense matrix have no such argument, and nalgebra_sparse_matrix_read leaves it as it was.
  *
  * Each call lists its statuses in the order in which it looks for their causes, and has the first that applies: first
  * a number that chooses among cases, then the faults of the operands in their order, then SINGULAR, and last TOO_SMALL.
@@ -319,7 +319,8 @@ int32_t nalgebra_sparse_multiply_places(
 /* Writes the product a b of two matrices by rows, with a place wherever the operands share a middle index, also where
  * the sum is 0: out_offsets needs rows + 1 numbers, and out_indices and out_values as many as *out_places says at
  * TOO_SMALL, or nalgebra_sparse_multiply_places, which takes about as long as the product. One number for each
- * multiplication is always enough: the sum, over the places of a, of the lengths of the rows of b that their indices name.
+ * multiplication is always enough: the sum, over the places of a, of the lengths of the rows of b that their indices
+ * name.
  *
  * Statuses: OUT_OF_MEMORY; the first fault of a, and otherwise that of b, as for nalgebra_sparse_transpose; TOO_SMALL.
  */
@@ -483,8 +484,8 @@ int32_t nalgebra_sparse_fill(
 /* Writes the X for which A X = B, where A is the symmetric matrix whose entries on and above the diagonal are those of
  * a matrix by columns with `size` rows and columns, by the exact factorisation of A into L D L^T. What is below the
  * diagonal has no effect, and no call tests it: for a matrix that is not symmetric, X solves another system. (A matrix
- * is symmetric where all values of nalgebra_sparse_subtract of it and its nalgebra_sparse_transpose are 0.) B and X have
- * `cols` columns: b_values_len is size * cols, and out_values needs as many numbers.
+ * is symmetric where all values of nalgebra_sparse_subtract of it and its nalgebra_sparse_transpose are 0.) B and X
+ * have `cols` columns: b_values_len is size * cols, and out_values needs as many numbers.
  *
  * Statuses: OUT_OF_MEMORY; the first fault of the arrays, as for nalgebra_sparse_transpose; INVALID_STRUCTURE if B has
  * another number of values; SINGULAR if no factorisation exists; TOO_SMALL.
@@ -604,10 +605,10 @@ int32_t nalgebra_sparse_write(
  *
  * A handle stands for a matrix that the library owns, over the integers modulo 2^64, or for none: it is then
  * {NULL}, as NALGEBRA_SPARSE_NO_MATRIX. The calls below take handles in place of arrays, so a chain of them tests no
- * array twice. Transposes, multiples, sums and products copy no operand; a solve with a triangle and a factorisation copy
- * the matrix, and each solve copies its right side. Their contracts are equations between the plain matrices behind
- * handles (crates/sparse_c/src/handles.rt, handle_operations.rt, handle_systems.rt and handle_texts.rt). No call over
- * handles computes modulo another number.
+ * array twice. Transposes, multiples, sums and products copy no operand; a solve with a triangle and a factorisation
+ * copy the matrix, and each solve copies its right side. Their contracts are equations between the plain matrices
+ * behind handles (crates/sparse_c/src/handles.rt, handle_operations.rt, handle_systems.rt and handle_texts.rt). No call
+ * over handles computes modulo another number.
  *
  *     nalgebra_sparse_matrix a = NALGEBRA_SPARSE_NO_MATRIX, square = NALGEBRA_SPARSE_NO_MATRIX, copy = NALGEBRA_SPARSE_NO_MATRIX;
  *     status = nalgebra_sparse_matrix_from_rows(2, 2, offsets, 3, indices, 2, values, 2, &a);
@@ -705,17 +706,18 @@ void nalgebra_sparse_matrix_free(nalgebra_sparse_matrix *a);
 int32_t nalgebra_sparse_matrix_from_text(const uint8_t *text, size_t text_len, nalgebra_sparse_matrix *out);
 
 /* Writes the text of the matrix behind `a` in Matrix Market format (coordinate, integer, general), with a line for each
- * place, row by row. It is ASCII, and no zero byte ends it. *out_length becomes the number of its bytes, also at TOO_SMALL,
- * where `out_text` is unchanged. Statuses: TOO_SMALL if out_text_len is less.
+ * place, row by row. It is ASCII, and no zero byte ends it. *out_length becomes the number of its bytes, also at
+ * TOO_SMALL, where `out_text` is unchanged. Statuses: TOO_SMALL if out_text_len is less.
  */
 int32_t nalgebra_sparse_matrix_to_text(nalgebra_sparse_matrix *a, uint8_t *out_text, size_t out_text_len, size_t *out_length);
 
 /* Solves L X = B, or L^T X = B where `transposed` is set: L is the part on and below the diagonal of the square matrix
- * behind `a`. `values` has B, column by column, and then X: values_len is the number of rows times `cols`. Beside it the
- * call takes memory for a copy of B and of the matrix.
+ * behind `a`. `values` has B, column by column, and then X: values_len is the number of rows times `cols`. Beside it
+ * the call takes memory for a copy of B and of the matrix.
  *
- * Statuses: SHAPE_MISMATCH if the matrix is not square; INVALID_STRUCTURE if B has another number of values; SINGULAR if
- * there is a column to solve for, and some entry of the diagonal is not stored or is even. `values` is then unchanged.
+ * Statuses: SHAPE_MISMATCH if the matrix is not square; INVALID_STRUCTURE if B has another number of values; SINGULAR
+ * if there is a column to solve for, and some entry of the diagonal is not stored or is even. `values` is then
+ * unchanged.
  */
 int32_t nalgebra_sparse_matrix_solve_lower(
     nalgebra_sparse_matrix *a, bool transposed,
@@ -730,8 +732,8 @@ int32_t nalgebra_sparse_matrix_solve_upper(
 
 /* Handles of factors.
  *
- * They stand for the exact factors L D L^T of a symmetric matrix, as nalgebra_sparse_factor_symmetric writes them, or for
- * none. What is said of handles of matrices holds of them.
+ * They stand for the exact factors L D L^T of a symmetric matrix, as nalgebra_sparse_factor_symmetric writes them, or
+ * for none. What is said of handles of matrices holds of them.
  *
  *     nalgebra_sparse_factors f = NALGEBRA_SPARSE_NO_FACTORS;
  *     status = nalgebra_sparse_matrix_factor(&a, &f);
@@ -746,16 +748,16 @@ typedef struct {
 #define NALGEBRA_SPARSE_NO_FACTORS {NULL}
 
 /* Puts the factors of the symmetric matrix behind `out` whose entries on and above the diagonal are those of the matrix
- * behind `a`. What is below the diagonal has no effect, and no call tests it: where nalgebra_sparse_matrix_subtract of the
- * matrix and its transpose has a value other than 0, the factors are those of another matrix. Beside them the call takes
- * memory for a copy of the matrix. Statuses: SHAPE_MISMATCH if the matrix is not square; SINGULAR if no factorisation
- * exists.
+ * behind `a`. What is below the diagonal has no effect, and no call tests it: where nalgebra_sparse_matrix_subtract of
+ * the matrix and its transpose has a value other than 0, the factors are those of another matrix. Beside them the call
+ * takes memory for a copy of the matrix. Statuses: SHAPE_MISMATCH if the matrix is not square; SINGULAR if no
+ * factorisation exists.
  */
 int32_t nalgebra_sparse_matrix_factor(nalgebra_sparse_matrix *a, nalgebra_sparse_factors *out);
 
 /* Solves L D L^T X = B with the factors behind `f`. `values` has B, column by column, and then X: values_len is the number
- * of rows of L times `cols`. Beside it the call takes memory for a copy of B. Statuses: INVALID_STRUCTURE if B has another
- * number of values; `values` is then unchanged.
+ * of rows of L times `cols`. Beside it the call takes memory for a copy of B. Statuses: INVALID_STRUCTURE if B has
+ * another number of values; `values` is then unchanged.
  */
 int32_t nalgebra_sparse_factors_solve(nalgebra_sparse_factors *f, size_t cols, int64_t *values, size_t values_len);
 

@@ -9,14 +9,14 @@ use crate::error::answer;
 use crate::{calls, Error, Matrix, System};
 
 impl Matrix {
-    /// Replaces B by the X for which `L X = B` or `L^T X = B`, where L is the part of the matrix on and below its diagonal.
-    /// B and X have `cols` columns, one after the other. The call copies B and the matrix.
+    /// Replaces B by the X for which `L X = B` or `L^T X = B`, where L is the part of the matrix on and below its
+    /// diagonal. B and X have `cols` columns, one after the other. The call copies B and the matrix.
     ///
     /// # Errors
     ///
-    /// [`Error::OutOfMemory`]; [`Error::ShapeMismatch`] if the matrix is not square; [`Error::InvalidStructure`] if B has
-    /// another number of values; [`Error::Singular`] if there is a column to solve for, and some entry of the diagonal is
-    /// not stored or is even. `values` is then unchanged.
+    /// [`Error::OutOfMemory`]; [`Error::ShapeMismatch`] if the matrix is not square; [`Error::InvalidStructure`] if B
+    /// has another number of values; [`Error::Singular`] if there is a column to solve for, and some entry of the
+    /// diagonal is not stored or is even. `values` is then unchanged.
     ///
     /// # Examples
     ///
@@ -37,7 +37,8 @@ impl Matrix {
         })
     }
 
-    /// Replaces B by the X for which `U X = B` or `U^T X = B`, where U is the part of the matrix on and above its diagonal.
+    /// Replaces B by the X for which `U X = B` or `U^T X = B`, where U is the part of the matrix on and above its
+    /// diagonal.
     ///
     /// # Errors
     ///
@@ -50,14 +51,14 @@ impl Matrix {
         })
     }
 
-    /// Returns the exact factors `L D L^T` of the symmetric matrix whose entries on and above the diagonal are those of this
-    /// matrix, which is copied. What is below the diagonal has no effect: [`Matrix::factor_checked`] tests that the matrix
-    /// is symmetric.
+    /// Returns the exact factors `L D L^T` of the symmetric matrix whose entries on and above the diagonal are those of
+    /// this matrix, which is copied. What is below the diagonal has no effect: [`Matrix::factor_checked`] tests that
+    /// the matrix is symmetric.
     ///
     /// # Errors
     ///
-    /// [`Error::OutOfMemory`]; [`Error::ShapeMismatch`] if the matrix is not square; [`Error::Singular`] if no factorisation
-    /// exists.
+    /// [`Error::OutOfMemory`]; [`Error::ShapeMismatch`] if the matrix is not square; [`Error::Singular`] if no
+    /// factorisation exists.
     pub fn factor(&self) -> Result<Factorisation, Error> {
         // SAFETY: the handles are different, and no other call uses them.
         Factorisation::made(|out| unsafe { calls::nalgebra_sparse_matrix_factor(self.handle.get(), out) })
@@ -98,7 +99,8 @@ impl Factorisation {
     ///
     /// # Errors
     ///
-    /// [`Error::OutOfMemory`]; [`Error::InvalidStructure`] if B has another number of values. `values` is then unchanged.
+    /// [`Error::OutOfMemory`]; [`Error::InvalidStructure`] if B has another number of values. `values` is then
+    /// unchanged.
     pub fn solve_mut(&self, cols: usize, values: &mut [i64]) -> Result<(), Error> {
         // SAFETY: the pointer is that of a slice, with the slice's length behind it. The handle is as a call left it.
         answer(unsafe {

@@ -11,8 +11,8 @@ use crate::{calls, Arrays, Error, Rows};
 /// A matrix over the integers modulo 2^64 that the library owns.
 ///
 /// Its arrays are tested once, when it is made. Transposes, multiples, sums and products copy no operand; solves with a
-/// triangle and factorisations copy the matrix. Clones share the arrays. It may go to another thread; threads that use a
-/// matrix at once have a clone each.
+/// triangle and factorisations copy the matrix. Clones share the arrays. It may go to another thread; threads that use
+/// a matrix at once have a clone each.
 ///
 /// ```
 /// use nalgebra_sparse_exact::Matrix;
@@ -38,8 +38,8 @@ impl Matrix {
         Ok(matrix)
     }
 
-    /// Makes a matrix by a call with two operands. A second operand that is the first one is cloned: a call takes different
-    /// handles.
+    /// Makes a matrix by a call with two operands. A second operand that is the first one is cloned: a call takes
+    /// different handles.
     fn combined(&self, other: &Matrix, call: impl FnOnce(*mut Handle, *mut Handle, *mut Handle) -> i32) -> Result<Matrix, Error> {
         if ptr::eq(self, other) {
             let other = other.try_clone()?;
@@ -52,8 +52,8 @@ impl Matrix {
     ///
     /// # Errors
     ///
-    /// [`Error::OutOfMemory`]; [`Error::InvalidStructure`], [`Error::IndexOutOfBounds`] or [`Error::DuplicateEntry`] for the
-    /// first fault of the arrays.
+    /// [`Error::OutOfMemory`]; [`Error::InvalidStructure`], [`Error::IndexOutOfBounds`] or [`Error::DuplicateEntry`]
+    /// for the first fault of the arrays.
     pub fn from_rows(a: Rows<'_>) -> Result<Matrix, Error> {
         // SAFETY: each pointer is that of a slice, with the slice's length behind it, and the handle is empty.
         Matrix::made(|out| unsafe {
@@ -68,7 +68,8 @@ impl Matrix {
     ///
     /// # Errors
     ///
-    /// [`Error::OutOfMemory`]; [`Error::InvalidStructure`] if the lists have different lengths; [`Error::IndexOutOfBounds`].
+    /// [`Error::OutOfMemory`]; [`Error::InvalidStructure`] if the lists have different lengths;
+    /// [`Error::IndexOutOfBounds`].
     pub fn from_triplets((rows, cols): (usize, usize), i: &[usize], j: &[usize], values: &[i64]) -> Result<Matrix, Error> {
         // SAFETY: each pointer is that of a slice, with the slice's length behind it, and the handle is empty.
         Matrix::made(|out| unsafe {
