@@ -14,7 +14,7 @@ use Rattle.sparse_algebra.proofs.SumLemmas.{sum_by-permutation, sum_below-same, 
 use Rattle.sparse_algebra.specs.Plain.{Plain, IsProper, any_below, is_at, plain_of_triplets}
 use Rattle.sparse_algebra.specs.Plain.{plain_product, plain_transpose}
 
--- plain matrices are the same where their parts are
+-- plain matrices with equal shapes, places and values are equal
 pub same_plain : {R : CommRing} (a b : Plain R) → a.rows ≡ b.rows → a.cols ≡ b.cols
     → ((i j : ℕ) → a.has i j ≡ b.has i j) → ((i j : ℕ) → a.value i j ≡ b.value i j) → a ≡ b
 same_plain {R} a b rows cols has value =

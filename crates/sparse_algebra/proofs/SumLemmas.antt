@@ -12,7 +12,7 @@ use Rattle.sparse_algebra.specs.Sums.{sum_below, sum_by, where_true}
 use Rattle.sparse_algebra.proofs.RingLemmas.{zero_add, add_cross, mul_zero, cancel}
 
 module _ (R : CommRing) where
-  -- ---- one term
+  -- ---- a term with a condition
 
   pub where_yes : (b : Bool) (c : R.Carrier) → b ≡ true → where_true R b c ≡ c
   where_yes true c e = refl
@@ -78,7 +78,7 @@ module _ (R : CommRing) where
       (sum_below-exchange m n h) ∙ sym (sum_below-add n (λ j. sum_below R m (λ i. h i j))
       (λ j. h m j))
 
-  -- the product of three matrices, entry by entry: (A B) C is A (B C)
+  -- an entry of (A B) C equals the entry of A (B C); a is a row of A, and c a column of C
   pub product_assoc : (m n : ℕ) (a : ℕ → R.Carrier) (b : ℕ → ℕ → R.Carrier) (c : ℕ → R.Carrier)
       → sum_below R n (λ l. R.mul (sum_below R m (λ k. R.mul (a k) (b k l))) (c l)) ≡ sum_below R m
       (λ k. R.mul (a k) (sum_below R n (λ l. R.mul (b k l) (c l))))
@@ -107,7 +107,7 @@ reads_back l i j y d h q =
 
 module _ (R : CommRing) where
   module _ {X : Type 0} (f : X → R.Carrier) where
-    -- what a write changes
+    -- sum after a write + the old element = sum before it + the new element
     pub sum_by-set : (xs : List X) (i : ℕ) (d y : X) → i < length xs
         → R.add (sum_by R f (set xs i y)) (f (get_or xs i d)) ≡ R.add (sum_by R f xs) (f y)
     sum_by-set [] i d y h = absurd (omega arith)
@@ -132,7 +132,7 @@ module _ (R : CommRing) where
         cancel R (sum_by R f l) (sum_by R f (set (set l i y) j x)) (f y)
         (sym (ap (λ z. R.add (sum_by R f (set (set l i y) j x)) (f z)) (sym read) ∙ b ∙ a))
 
-    -- std's permutations, as sorting ensures them
+    -- permutations as std defines them, and as its sorts ensure them
     pub sum_by-permutation : (xs ys : List X) → IsPermutation xs ys → sum_by R f xs ≡ sum_by R f ys
     sum_by-permutation xs = IsPermutation-keeps xs (λ l. sum_by R f xs ≡ sum_by R f l) refl
         (λ l i j h k e. e ∙ sum_by-swap l i j h k)

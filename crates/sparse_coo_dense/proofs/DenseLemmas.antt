@@ -1,4 +1,4 @@
--- Places of a dense matrix, and its values.
+-- Dense matrices: the offsets of values, and the values after each operation.
 use Rattle.std.proofs.Common.{◌≡◌, ℕ, ◌+◌, ◌*◌, ◌/◌, ◌%◌, ◌<◌, ◌≤◌, ◌≢◌, ◌⊎◌, inl, inr, true, false}
 use Rattle.std.proofs.Common.{◌&&◌, ◌==◌, if◌then◌else◌, List, [], ◌∷◌, ◌++◌, length, get_or}
 use Rattle.std.proofs.Common.{replicate, slice_range, ap, sym, ◌∙◌, refl, arith}
@@ -13,7 +13,7 @@ use Rattle.std.proofs.Math.ListN.{length-append}
 use Rattle.std.proofs.Math.Seq.{get_or-append_seam}
 use Rattle.sparse_coo_dense.specs.Dense.{Dense, dense_of, value_at, with_value_at, HasValues}
 
--- equal positions belong to equal places
+-- equal offsets j * n + i have equal rows i and columns j
 pub position_row : (n i j k l : ℕ) → i < n → k < n → l * n + k ≡ j * n + i → k ≡ i
 position_row n i j k l row other e = sym (mod-mul-add l n k other) ∙ ap (λ p. p % n) e
     ∙ mod-mul-add j n i row
@@ -65,7 +65,7 @@ module _ {T : Type 0} where
         values = λ k l z inside _. one_set d i j w k l z row inside within;
       }
 
-  -- columns has what rows has, up to the place (i, j)
+  -- columns has the values of rows, up to row i of column j
   pub record IsFilled (n m : ℕ) (rows columns : List T) (j i : ℕ) : Type 0 where
     pub count : length columns ≡ j * n + i
     pub placed : (k l : ℕ) (z : T) → k < n → l * n + k < j * n + i
@@ -120,7 +120,7 @@ module _ {T : Type 0} where
     values = λ i j z row col. absurd (omega (arith, mul-add-lt i m j n row col, none));
   }
 
--- columns from the first one on, as a part of the values
+-- `count` columns from column `first` on lie within the values
 pub columns_within : (n first count cols : ℕ) → first + count ≤ cols
     → first * n + count * n ≤ n * cols
 columns_within n first count cols le = omega (

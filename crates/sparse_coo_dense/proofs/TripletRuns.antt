@@ -1,4 +1,4 @@
--- The three lists that a list of triplets is split into.
+-- Splitting a list of triplets into lists of rows, columns and values.
 use Rattle.std.proofs.Common.{◌≡◌, ℕ, zero, suc, ◌<◌, ◌≤◌, ◌⊎◌, inl, inr, List, [], ◌∷◌, length}
 use Rattle.std.proofs.Common.{get_or, map, Any, Result, Ok, Err, IfOk, OnOk, refl, ap, sym, subst}
 use Rattle.std.proofs.Common.{◌∙◌, arith}
@@ -53,7 +53,7 @@ module _ {T : Type 0} where
         (λ t out. inr out) ts h.0 h.1 h.2 h.3 h.4,
   )
 
-  -- triplets that are refused after they were split have one outside the shape
+  -- if the lists of split triplets have a fault, some triplet is outside the shape
   pub fault_outside : (nrows ncols : ℕ) (rows cols : List ℕ) (values : List T)
       (ts : List (ℕ × ℕ × T)) (kind : SparseFormatErrorKind)
       → rows ≡ map (λ t. t.0) ts → cols ≡ map (λ t. t.1) ts → values ≡ map (λ t. t.2) ts

@@ -1,4 +1,4 @@
--- What a mutable iterator over triplets has yet to yield, and the matrix after the borrow.
+-- The triplets that a mutable iterator has yet to yield, and the matrix after the borrow.
 use Rattle.std.specs.Prelude.{ℕ, List}
 use Rattle.std.specs.Borrow.{Lends, MutBor, Fml, Array, RattleType}
 use Rattle.sparse_coo_dense.specs.Coo.{Coo, coo_of, zip_triplets}

@@ -11,7 +11,7 @@ module _ {T : Type 0} where
   abbrev pub dense_sizes_eq : Dense T → Dense T → Bool
   dense_sizes_eq = eq_of_both (on (λ d. d.nrows) ◌==◌) (on (λ d. d.ncols) ◌==◌)
 
-  -- the shapes are equal, and so are the values at each place
+  -- the shapes are equal, and so are the values
   abbrev pub dense_eq : (T → T → Bool) → Dense T → Dense T → Bool
   dense_eq E = eq_of_both dense_sizes_eq (on (λ d. d.values) (pointwise E))
 

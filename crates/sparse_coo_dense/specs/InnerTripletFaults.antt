@@ -1,4 +1,4 @@
--- The spots at which the private enum of faults of triplets stands.
+-- The rules that the faults of the private enum `TripletFault` violate.
 use Rattle.sparse_coo_dense.specs.TripletFaults.{TripletSpot}
 use Rattle.sparse_coo_dense.specs.TripletFaults as at
 use Rattle.sparse_coo_dense.specs.declared.coo.triplet_fault.TripletFault.{TripletFault}

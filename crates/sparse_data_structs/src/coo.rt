@@ -1,4 +1,4 @@
-//! A triplet list as data.
+//! The data struct of a triplet list.
 
 use serde::{Deserialize, Serialize};
 

@@ -1,4 +1,4 @@
-//! A CSC matrix as data.
+//! The data struct of a CSC matrix.
 
 use serde::{Deserialize, Serialize};
 
@@ -10,10 +10,10 @@ pub struct CscData<T> {
     pub nrows: usize,
     /// The number of columns.
     pub ncols: usize,
-    /// The offset of the first place of each column, followed by the number of places.
+    /// The offset of the first entry of each column, followed by the number of entries.
     pub col_offsets: Vec<usize>,
-    /// The rows of the stored places, column after column.
+    /// The row of each entry, column by column.
     pub row_indices: Vec<usize>,
-    /// The values of the stored places, column after column.
+    /// The value of each entry, column by column.
     pub values: Vec<T>,
 }

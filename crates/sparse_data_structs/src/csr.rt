@@ -1,4 +1,4 @@
-//! A CSR matrix as data.
+//! The data struct of a CSR matrix.
 
 use serde::{Deserialize, Serialize};
 
@@ -10,10 +10,10 @@ pub struct CsrData<T> {
     pub nrows: usize,
     /// The number of columns.
     pub ncols: usize,
-    /// The offset of the first place of each row, followed by the number of places.
+    /// The offset of the first entry of each row, followed by the number of entries.
     pub row_offsets: Vec<usize>,
-    /// The columns of the stored places, row after row.
+    /// The column of each entry, row by row.
     pub col_indices: Vec<usize>,
-    /// The values of the stored places, row after row.
+    /// The value of each entry, row by row.
     pub values: Vec<T>,
 }

@@ -1,4 +1,4 @@
--- A pattern that is built lane after lane, for places that satisfy a given condition.
+-- A pattern built lane by lane has exactly the entries that satisfy a given condition.
 use Rattle.std.proofs.Common.{◌≡◌, ℕ, ◌+◌, ◌<◌, inl, inr, ◌↔◌, List, [], ◌∷◌, ◌++◌, length}
 use Rattle.std.proofs.Common.{Contains, ap, sym, subst, ◌∙◌, arith}
 use Rattle.std.specs.List.Sorted.{IsStrictlyIncreasing}
@@ -7,21 +7,21 @@ use Rattle.sparse_pattern.specs.Raw.{Raw, raw_of, IsValid, IsPlace}
 use Rattle.sparse_pattern.specs.InnerGainedLanes.{GainsLane}
 use Rattle.sparse_pattern.proofs.PushedLanes.{valid_pushed, places_kept, places_last}
 
--- an index of a place is below the minor size
+-- the minor index of an entry is below the minor dimension
 pub place_within : (d : Raw) → IsValid d → (i j : ℕ) → IsPlace d i j → j < d.minor_dim
 place_within d valid i j place =
     let at = place.in_lane in
     subst (λ x. x < d.minor_dim) place.index
     ((valid.lanes i at.lane).bounded place.at at.from at.to)
 
--- the first n lanes have the places for which P holds
+-- n lanes are built: their entries are the pairs for which P holds
 pub record IsBuilt (minor_dim : ℕ) (P : ℕ → ℕ → Type 0) (n : ℕ) (offsets indices : List ℕ) : Type
     0 where
   pub valid : IsValid (raw_of n minor_dim offsets indices)
   pub places : (i j : ℕ) → i < n → IsPlace (raw_of n minor_dim offsets indices) i j ↔ P i j
 
 module _ (m : ℕ) (P : ℕ → ℕ → Type 0) (n : ℕ) where
-  -- one lane more
+  -- appending the lane n builds n + 1 lanes
   pub lane_built : (offsets indices lane : List ℕ) (valid : IsValid (raw_of n m offsets indices))
       → ((i j : ℕ) → i < n → IsPlace (raw_of n m offsets indices) i j ↔ P i j)
       → IsStrictlyIncreasing lane
@@ -42,7 +42,7 @@ module _ (m : ℕ) (P : ℕ → ℕ → Type 0) (n : ℕ) where
     ];
   }
 
-  -- the same, of a lane that a list has gained
+  -- the same, for a lane that was appended to the indices
   pub lane_gained : (offsets offsets' indices indices' : List ℕ) → IsBuilt m P n offsets indices
       → ((j : ℕ) → P n j → j < m) → GainsLane indices indices' (P n)
       → offsets' ≡ offsets ++ length indices' ∷ [] → IsBuilt m P (n + 1) offsets' indices'
@@ -50,7 +50,7 @@ module _ (m : ℕ) (P : ℕ → ℕ → Type 0) (n : ℕ) where
       rw (is, gains.pushed) (lane_built offsets indices gains.lane built.valid built.places
       gains.rising (λ j h. below j ((gains.holds j).0 h)) gains.holds)
 
--- all lanes are built
+-- once all lanes are built, the entries are the pairs for which P holds
 pub all_built : (m : ℕ) (P : ℕ → ℕ → Type 0) (n rows : ℕ) (d : Raw) (offsets indices : List ℕ)
     → n ≡ rows → d ≡ raw_of rows m offsets indices → ((i j : ℕ) → P i j → i < rows)
     → IsBuilt m P n offsets indices → (i j : ℕ) → IsPlace d i j ↔ P i j

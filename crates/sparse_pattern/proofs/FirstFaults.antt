@@ -1,4 +1,4 @@
--- Data that is free of faults so far, and the first fault from there.
+-- The first fault of a pattern, found by checking its rules in order.
 use Rattle.std.proofs.Common.{◌≡◌, ℕ, ◌+◌, ◌-◌, ◌<◌, ◌≤◌, ◌⊎◌, inl, inr, length, slice_index, refl}
 use Rattle.std.proofs.Common.{arith}
 use Rattle.sparse_algebra.proofs.Cases.{le_cases}
@@ -10,7 +10,7 @@ use Rattle.sparse_pattern.specs.InnerPatternFaults.{IsRisingBelow, IsFirstAmong}
 use Rattle.sparse_pattern.specs.declared.pattern.faults.SparsityPatternFormatError.{SparsityPatternFormatError}
 use Rattle.sparse_pattern.specs.declared.pattern.faults.SparsityPatternFormatError.TheVariants.{NonmonotonicOffsets}
 
--- the number of offsets, the first and the last have no fault, nor have the lanes below i
+-- the number of offsets, the first and the last offset, and the lanes below i satisfy their rules
 pub record LanesFine (d : Raw) (i : ℕ) : Type 0 where
   pub count : length d.offsets ≡ d.major_dim + 1
   pub first : slice_index d.offsets 0 ≡ 0
@@ -21,12 +21,12 @@ abbrev NoneBefore : Raw → Spot → Type 0
 NoneBefore d s = (t : Spot) → IsBefore (rank_of t) (rank_of s) → HasFault d t → ⊥
 
 module _ (d : Raw) where
-  -- a valid lane has no fault at a spot of its own
+  -- a lane that ends after it begins and within the indices satisfies the rule for its end
   end_fine : (k : ℕ) → start_of d k ≤ end_of d k → end_of d k ≤ length d.indices
       → HasFault d (LaneEnd k) → ⊥
   end_fine k ordered inside h = elim h.1 [ inl x ↦ omega arith | inr x ↦ omega arith ]
 
-  -- no fault stands before the end of lane i
+  -- no rule before that for the end of lane i is violated
   none_before_lane : (i : ℕ) → LanesFine d i → NoneBefore d (LaneEnd i)
   none_before_lane i fine OffsetCount b h = h fine.count
   none_before_lane i fine FirstLast b h = elim h [ inl x ↦ x fine.first | inr x ↦ x fine.last ]
@@ -49,8 +49,8 @@ module _ (d : Raw) where
     is = refl;
   }
 
-  -- nor before the n-th spot of position p of lane i, where the spots of that position before it
-  -- are fine
+  -- no rule before the n-th rule for offset p of lane i is violated, if the rules for that offset before
+  -- it are satisfied
   module _ (i p : ℕ) (fine : LanesFine d i) (ordered : start_of d i ≤ end_of d i)
       (inside : end_of d i ≤ length d.indices)
       (so_far : IsRisingBelow d.minor_dim d.indices (start_of d i) p) where
@@ -85,7 +85,7 @@ module _ (d : Raw) where
           (arith, so_far.rising q (rw (← same) h.1) before, h.2)
     ]
 
-  -- the first fault among the indices of lane i is the first of the data
+  -- the first fault among the indices of lane i is the first fault of the data
   pub first_among : (i : ℕ) → LanesFine d i → i < d.major_dim → start_of d i ≤ end_of d i
       → end_of d i ≤ length d.indices → (e : SparsityPatternFormatError)
       → IsFirstAmong d.minor_dim d.indices (start_of d i) (end_of d i) e → IsFirstFault d e

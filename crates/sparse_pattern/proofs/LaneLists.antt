@@ -15,7 +15,7 @@ has_from_contains xs x h = record {
 pub contains_from_has : (xs : List ℕ) (x : ℕ) → Has xs x → Contains xs x
 contains_from_has xs x h = (h.at, h.within, get_or_default xs h.at x 0 h.within ∙ h.is)
 
--- the elements of a lane are its places
+-- the elements of the lane i are the indices j of its entries (i, j)
 pub lane_has : (d : Raw) → IsValid d → (i j : ℕ) → i < d.major_dim
     → Contains (lane_of d i) j ↔ IsPlace d i j
 lane_has d valid i j lt = (

@@ -1,4 +1,4 @@
--- The pairs in lane order are the places.
+-- The list of entries in lane order contains each entry of the pattern, and nothing else.
 use Rattle.std.proofs.Common.{◌≡◌, ℕ, zero, suc, ◌+◌, ◌≤◌, ◌⊎◌, inl, inr, ◌↔◌, List, [], ◌∷◌}
 use Rattle.std.proofs.Common.{length, slice_index, Contains, ap, subst, arith}
 use Rattle.std.proofs.Common.{length-append}

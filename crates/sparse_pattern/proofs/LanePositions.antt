@@ -1,10 +1,10 @@
--- Positions of lanes: each position is in one lane.
+-- Each offset is in exactly one lane.
 use Rattle.std.proofs.Common.{◌≡◌, ℕ, zero, suc, ◌+◌, ◌-◌, ◌<◌, ◌≤◌, inl, inr, length, slice_index}
 use Rattle.std.proofs.Common.{subst, arith}
 use Rattle.sparse_algebra.proofs.Cases.{lt_or_ge, three}
 use Rattle.sparse_pattern.specs.Raw.{Raw, start_of, end_of, IsInLane, IsValid}
 
--- offsets that rise from 0 to the number of indices
+-- the offsets at which lanes begin never decrease, from 0 to the number of indices
 pub record AreLanes (d : Raw) : Type 0 where
   pub first : slice_index d.offsets 0 ≡ 0
   pub last : slice_index d.offsets d.major_dim ≡ length d.indices

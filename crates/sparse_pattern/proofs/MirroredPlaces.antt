@@ -1,5 +1,5 @@
--- A pattern each of whose places has its mirrored one is its own transpose, and values move to the
--- mirrored places.
+-- A pattern that has the mirrored entry of each entry is its own transpose; the values move to the
+-- mirrored entries.
 use Rattle.std.proofs.Common.{◌≡◌, ℕ, ◌+◌, ◌<◌, ◌≤◌, ◌++◌, inl, inr, List, [], ◌∷◌, length, set}
 use Rattle.std.proofs.Common.{length-append, get_or, slice_get, slice_index, arith}
 use Rattle.std.proofs.Common.{sym, subst, ap, ◌∙◌}
@@ -18,7 +18,7 @@ module _ (d : Raw) (valid : IsValid d) where
   inside : (i p : ℕ) → IsInLane d i p → p < length d.indices
   inside i p h = omega (arith, h.to, (valid.lanes i h.lane).inside)
 
-  -- a cursor moves on
+  -- the cursors stay past the beginnings of their lanes if one is set to such an offset
   pub past_starts-set : (xs : List ℕ) (i n : ℕ) → ArePastStarts d xs → start_of d i ≤ n
       → i < length xs → ArePastStarts d (set xs i n)
   past_starts-set xs i n old past lt k below = elim (three k i) [
@@ -33,7 +33,7 @@ module _ (d : Raw) (valid : IsValid d) where
   ]
 
   module _ {T : Type 0} (vs : List T) where
-    -- the next position gets the value of its mirrored place
+    -- pushing the value of the mirrored entry of the next entry extends the mirrored values by one
     pub mirrored-push : (ws : List T) (i p k : ℕ) (v : T) → AreMirrored d vs ws → IsInLane d i p
         → length ws ≡ p → IsInLane d (slice_index d.indices p) k → slice_index d.indices k ≡ i
         → slice_get vs k ≡ Some v → AreMirrored d vs (ws ++ v ∷ [])

@@ -1,4 +1,4 @@
--- A lane of valid data, as a list and by its positions.
+-- A valid lane, as a list of indices and by its offsets.
 use Rattle.std.proofs.Common.{◌≡◌, ℕ, zero, suc, ◌+◌, ◌-◌, ◌<◌, ◌≤◌, length, get_or, subst, arith}
 use Rattle.std.proofs.lemmas.Grind.{common_steps}
 use Rattle.std.proofs.lemmas.List.Edits.{length-between}
@@ -14,7 +14,7 @@ module _ (d : Raw) (i : ℕ) (valid : IsValidLane d i) where
       let room : k < end_of d i - start_of d i = omega (arith, length-lane) in
       grind (arith, common_steps, room)
 
-  -- positions of a lane rise
+  -- the indices of a lane increase with the offset
   pub positions_rise : (p n : ℕ) → start_of d i ≤ p → p + suc n < end_of d i
       → get_or d.indices p 0 < get_or d.indices (p + suc n) 0
   positions_rise p zero from to =

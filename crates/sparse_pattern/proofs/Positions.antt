@@ -1,4 +1,4 @@
--- Positions of valid data: each is in one lane, and each place stands at one.
+-- Offsets of a valid pattern: each is in exactly one lane, and an entry has only one.
 use Rattle.std.proofs.Common.{◌≡◌, ℕ, ◌<◌, ◌≤◌, inl, inr, length, get_or, slice_index, All, sym}
 use Rattle.std.proofs.Common.{subst, arith}
 use Rattle.std.proofs.lemmas.Grind.{get_or_default_zero}

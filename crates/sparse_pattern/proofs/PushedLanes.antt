@@ -1,4 +1,4 @@
--- A pattern in the making that gains a lane at its end.
+-- A valid pattern to which a lane is appended is valid, and has the entries of both.
 use Rattle.std.proofs.Common.{◌≡◌, ℕ, ◌+◌, ◌-◌, ◌<◌, ◌≤◌, inl, inr, ◌↔◌, List, [], ◌∷◌, ◌++◌}
 use Rattle.std.proofs.Common.{length, take, get_or, slice_range, Contains, length-append, ap, sym}
 use Rattle.std.proofs.Common.{subst, ◌∙◌, refl, arith}

@@ -1,4 +1,4 @@
--- Valid data is the same where its sizes and places are.
+-- Valid patterns with the same shape and the same entries are equal.
 use Rattle.std.proofs.Common.{◌≡◌, ℕ, zero, suc, ◌+◌, ◌-◌, ◌<◌, ◌≤◌, ◌⊎◌, inl, inr, ◌↔◌, List, []}
 use Rattle.std.proofs.Common.{◌∷◌, length, get_or, ap, subst, sym, ◌∙◌, refl, arith, Bool, true}
 use Rattle.std.proofs.Common.{IsTrue, rules}
@@ -12,7 +12,7 @@ use Rattle.sparse_pattern.specs.Raw.{Raw, raw_of, raw_eq, start_of, end_of, lane
 use Rattle.sparse_pattern.specs.Raw.{IsValid, IsPlace, HasSamePlaces}
 use Rattle.sparse_pattern.proofs.PatternLanes.{length-lane, get_or-lane, lane_rises}
 
--- x is in the list
+-- x is an element of the list
 pub record Has (xs : List ℕ) (x : ℕ) : Type 0 where
   pub at : ℕ
   pub within : at < length xs
@@ -42,7 +42,7 @@ head_below : (x y : ℕ) (xs : List ℕ) → Rises (x ∷ xs) → Has xs y → x
 head_below x y xs rises h = subst (λ v. x < v) h.is
     (rises 0 (suc h.at) (omega arith) (omega (arith, h.within)))
 
--- rising lists with the same elements are the same
+-- strictly increasing lists with the same elements are equal
 pub rising_same : (xs ys : List ℕ) → Rises xs → Rises ys → ((x : ℕ) → Has xs x → Has ys x)
     → ((x : ℕ) → Has ys x → Has xs x) → xs ≡ ys
 rising_same [] [] up vp to from = refl
@@ -69,7 +69,7 @@ rising_same (x ∷ xs) (y ∷ ys) up vp to from =
     let tails = rising_same xs ys (rises_tail x xs up) (rises_tail y ys vp) to' from' in
     cc
 
--- the elements of a lane are its places
+-- the elements of the lane i are the indices j of its entries (i, j)
 pub has_from_place : (d : Raw) (i j : ℕ) → IsValidLane d i → IsPlace d i j → Has (lane_of d i) j
 has_from_place d i j valid place =
     let n = place.at - start_of d i in
@@ -161,7 +161,7 @@ module _ (a b : Raw) (va : IsValid a) (vb : IsValid b) (same : HasSamePlaces a b
   pub same_from_places : a ≡ b
   same_from_places = raw_parts a b same.major_dim same.minor_dim offsets_same indices_same
 
--- what `==` on the fields tells of the places
+-- `==` is true if and only if the shapes and the entries are the same
 raw_eq-from_same : (a b : Raw) → a ≡ b → raw_eq a b ≡ true
 raw_eq-from_same a b same = subst (λ d. raw_eq a d ≡ true) same (raw_equiv.refl a)
 

@@ -1,4 +1,5 @@
-//! A pattern as data. It has a crate of its own, below the data structs of matrices, since patterns stand on it alone.
+//! The data struct of a pattern. `sparse_pattern` needs it alone, so it has a crate of its own, below that of the data
+//! structs of matrices.
 #![tactic(auto)]
 
 use serde::{Deserialize, Serialize};
@@ -13,6 +14,6 @@ pub struct PatternData {
     pub minor_dim: usize,
     /// The offset of the first index of each lane, followed by the number of indices.
     pub major_offsets: Vec<usize>,
-    /// The indices of all lanes, lane after lane.
+    /// The minor indices of all lanes, lane by lane.
     pub minor_indices: Vec<usize>,
 }

@@ -1,12 +1,12 @@
-//! Newton's steps towards an inverse.
+//! Newton's iteration for an inverse.
 
 ghost use Rattle.std.specs.Prelude.{◌≡◌};
 ghost use Rattle.sparse_algebra.specs.InnerNewton.{squared, one_minus};
 
 use crate::scalar::Ring;
 
-// Takes Newton's steps from one towards the inverse of `x`, until nothing is missing. Each step squares what is
-// missing.
+// Approximates the inverse of `x` by at most `steps` steps of Newton's iteration from one. Each step squares the
+// residual, 1 - x * inverse; the iteration ends once the residual is zero.
 pub fn approach<T: Ring>(x: T, steps: u32) -> T
     ensures { one_minus T.ring (T.ring.mul (T.value x) (T.value result))
         ≡ squared T.ring steps (one_minus T.ring (T.value x)) }

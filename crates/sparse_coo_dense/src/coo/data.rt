@@ -1,4 +1,4 @@
-//! Triplet lists as data.
+//! Conversions between triplet lists and their data struct.
 
 ghost use Rattle.std.specs.Prelude.{◌≡◌, length, IfOk, IfErr, IsOk, OnOk};
 ghost use Rattle.sparse_coo_dense.specs.TripletFaults.{IsFirstTripletFault};

@@ -7,14 +7,14 @@ use super::CooMatrix;
 impl<T> CooMatrix<T> {
     ghost use Rattle.sparse_coo_dense.specs.CooEquality.{coo_sizes_eq, coo_places_eq};
 
-    // Whether the shapes are equal.
+    // Returns whether the shapes are equal.
     fn has_same_sizes(&self, other: &Self) -> bool
         ensures { result ≡ coo_sizes_eq self.now other.now }
     {
         self.nrows() == other.nrows() && self.ncols() == other.ncols()
     }
 
-    // Whether the shapes and the lists of rows and of columns are equal.
+    // Returns whether the shapes and the lists of rows and of columns are equal.
     fn has_same_places(&self, other: &Self) -> bool
         ensures { result ≡ coo_places_eq self.now other.now }
     {

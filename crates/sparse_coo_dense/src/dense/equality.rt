@@ -7,7 +7,7 @@ use super::DMatrix;
 impl<T> DMatrix<T> {
     ghost use Rattle.sparse_coo_dense.specs.DenseEquality.{dense_sizes_eq};
 
-    // Whether the shapes are equal.
+    // Returns whether the shapes are equal.
     fn has_same_sizes(&self, other: &Self) -> bool
         ensures { result ≡ dense_sizes_eq self.now other.now }
     {
@@ -15,7 +15,7 @@ impl<T> DMatrix<T> {
     }
 }
 
-/// Matrices are equal if their shapes are equal and they have equal values at each place.
+/// Matrices are equal if their shapes are equal and they have equal values at each row and column.
 impl<T: PartialEq> PartialEq for DMatrix<T> {
     ghost use Rattle.sparse_coo_dense.specs.DenseEquality.{dense_eq, dense_eq-laws};
 

@@ -1,4 +1,4 @@
-//! Patterns as data.
+//! Conversions between patterns and their data struct.
 
 ghost use Rattle.std.specs.Prelude.{◌≡◌, IfOk, IfErr, IsOk, OnOk};
 ghost use Rattle.sparse_pattern.specs.Raw.{IsValid};

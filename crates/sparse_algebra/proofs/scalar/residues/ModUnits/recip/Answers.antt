@@ -42,13 +42,13 @@ loop-low-preserved g c =
       gcd = λ d h. invariant.gcd d (IsGcd-from_mod high low d h);
     }
 
--- where the greatest common divisor is one, its cofactor is the inverse
+-- if the greatest common divisor is one, its Bezout coefficient is the inverse
 inverse : (g : Over) (c : goal.Then-high-eq1 g)
     → (mod_ring g.row.M).mul (mod_class g.row.M c.args.self.number)
     (mod_class g.row.M c.loop-low.at_high.number) ≡ (mod_ring g.row.M).one
 inverse g c = sym c.loop-low.invariant.high_is ∙ ap (mod_class g.row.M) c.if-high-eq1.true
 
--- the last number is the greatest common divisor
+-- the last nonzero number is the greatest common divisor
 last_is_gcd : (m n high low : ℕ) → ((d : ℕ) → IsGcd high low d → IsGcd m n d) → low ≡ 0
     → IsGcd m n high
 last_is_gcd m n high low gcd none = gcd high (IsGcd-from_zero high low none)
