@@ -146,7 +146,7 @@ impl<'a, T> CooView<'a, T> {
         self.ncols
     }
 
-    /// Returns the number of triplets. Repeated places are counted each time.
+    /// Returns the number of triplets. Repeated entries are counted each time.
     pub fn nnz(&self) -> usize
         ensures { result ≡ length self.now.triplets }
     {

@@ -1,4 +1,4 @@
-//! CSR matrices made of arrays, of a pattern with values, and the identity.
+//! Constructors of CSR matrices from arrays and from a pattern with values, and the identity.
 
 ghost use Rattle.std.specs.Prelude.{◌≡◌, ◌≢◌, ◌⊎◌, length, IfOk, IfErr, IsOk, OnOk, IsOkUnless};
 ghost use Rattle.sparse_algebra.specs.Plain.{plain_identity};
@@ -18,7 +18,7 @@ use std::alloc::{AllocError, Global};
 impl<T> CsrMatrix<T> {
     /// Returns the matrix of a pattern, whose lanes are the rows, and its values. Nothing is tested.
     ///
-    /// There must be one value for each place of the pattern. Constant time. Allocates nothing.
+    /// There must be one value for each entry of the pattern. Constant time. Allocates nothing.
     ///
     /// # Examples
     ///
@@ -43,7 +43,7 @@ impl<T> CsrMatrix<T> {
 impl<T: Drop> CsrMatrix<T> {
     /// Returns the matrix of arrays whose rows are sorted by column.
     ///
-    /// Linear in the number of rows and stored places. Allocates nothing.
+    /// Linear in the number of rows and entries. Allocates nothing.
     ///
     /// # Errors
     ///
@@ -89,7 +89,7 @@ impl<T: Drop> CsrMatrix<T> {
 
     /// Returns the matrix of a pattern, whose lanes are the rows, and its values.
     ///
-    /// Returns `InvalidStructure` if the number of values is not the number of places; pattern and values are then
+    /// Returns `InvalidStructure` if the number of values is not the number of entries; pattern and values are then
     /// dropped. Allocates nothing.
     pub fn try_from_pattern_and_values(
         pattern: SparsityPattern,
@@ -108,7 +108,7 @@ impl<T: Drop> CsrMatrix<T> {
     }
 }
 
-// A fault as an error, with its text in the words of rows.
+// Returns the error that reports a fault, with a message that speaks of rows.
 fn error_of(fault: SortedFault) -> SparseFormatError
     ensures { result ≡ sorted_kind fault }
 {
