@@ -46,7 +46,7 @@ IsLaneFault i bound xs (LaneFall k) = ⊥
 IsLaneFault i bound xs (LaneEnd k) = ⊥
 
 module _ {T : Type 0} (m : Compressed T) where
-  -- this is the first fault of the arrays
+  -- this is the first rule that the arrays violate
   abbrev pub IsFirstAt : UnsortedSpot → Type 0
   IsFirstAt spot = IsFirst unsorted_rank (HasUnsortedFault m) spot
 

@@ -9,9 +9,10 @@ use Rattle.sparse_pattern.specs.declared.error.SparseFormatErrorKind.TheVariants
 use Rattle.sparse_pattern.specs.declared.error.SparseFormatErrorKind.TheVariants.{InvalidStructure}
 use Rattle.sparse_compressed.specs.Compressed.{Compressed, IsSound, lane_triplets}
 
--- the faults in their order: the number of values, no offset, the number of offsets, the first or
--- the last offset; then for each lane its end before its start, its end past the indices, an index
--- out of bounds, an index that occurs twice
+-- the rules, each named by its violation, in the order in which they are tested: the number of
+-- values, no offset, the number of offsets, the first or the last offset; then for each lane its
+-- end before its start, its end past the indices, an index out of bounds, an index that occurs
+-- twice
 pub data UnsortedSpot : Type 0 where
   ValueCount : UnsortedSpot
   NoOffsets : UnsortedSpot
@@ -30,7 +31,7 @@ pub record HasRepeat (xs : List ℕ) : Type 0 where
   pub within : other < length xs
   pub same : slice_index xs one ≡ slice_index xs other
 
--- the order of the faults, as above: lane by lane, and within a lane by kind
+-- the order of the rules, as above: lane by lane, and within a lane by kind
 abbrev pub unsorted_rank : UnsortedSpot → ℕ × ℕ × ℕ
 unsorted_rank ValueCount = (0, 0, 0)
 unsorted_rank NoOffsets = (1, 0, 0)
@@ -41,7 +42,7 @@ unsorted_rank (LaneEnd i) = (i + 4, 1, 0)
 unsorted_rank (LaneBounds i) = (i + 4, 2, 0)
 unsorted_rank (LaneRepeat i) = (i + 4, 3, 0)
 
--- the kind of the error that reports the fault
+-- the kind of the error that reports a violation of the rule
 abbrev pub unsorted_kind : UnsortedSpot → SparseFormatErrorKind
 unsorted_kind ValueCount = InvalidStructure
 unsorted_kind NoOffsets = InvalidStructure
@@ -53,7 +54,7 @@ unsorted_kind (LaneBounds i) = IndexOutOfBounds
 unsorted_kind (LaneRepeat i) = DuplicateEntry
 
 module _ {T : Type 0} where
-  -- the arrays have this fault
+  -- the arrays violate this rule
   abbrev pub HasUnsortedFault : Compressed T → UnsortedSpot → Type 0
   HasUnsortedFault m ValueCount = length m.values ≢ length m.pattern.indices
   HasUnsortedFault m NoOffsets = length m.pattern.offsets ≡ 0
