@@ -24,7 +24,7 @@ abbrev pub AnswersAs : {F T : Type 0} → Shared F (ℕ × (ℕ × (Bor T × Uni
 AnswersAs {T = T} g f test = (t : ℕ × ℕ × T) (b : Bool) → Answers g f t b → b ≡ test t
 
 module _ {T : Type 0} where
-  -- whether a triplet (row, column, value) is on or above the diagonal, on or below it, and on it
+  -- tests of a triplet (row, column, value): on or above the diagonal, on or below it, and on it
   abbrev pub is_upper : ℕ × ℕ × T → Bool
   is_upper t = nat_le t.0 t.1
 

@@ -50,7 +50,7 @@ impl<'a, T> Model for CscView<'a, T> {
 }
 
 impl<'a, T> CscView<'a, T> {
-    /// Returns the view of a matrix.
+    /// Returns a view of a matrix.
     ///
     /// Constant time. Copies nothing and allocates nothing.
     pub fn of(matrix: &'a CscMatrix<T>) -> Self
@@ -61,7 +61,7 @@ impl<'a, T> CscView<'a, T> {
         }
     }
 
-    /// Returns the view of arrays whose columns are sorted by row.
+    /// Returns a view of these arrays, whose columns must be sorted by row.
     ///
     /// Linear in the number of columns and entries. Copies nothing and allocates nothing.
     ///

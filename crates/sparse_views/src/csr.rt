@@ -50,7 +50,7 @@ impl<'a, T> Model for CsrView<'a, T> {
 }
 
 impl<'a, T> CsrView<'a, T> {
-    /// Returns the view of a matrix.
+    /// Returns a view of a matrix.
     ///
     /// Constant time. Copies nothing and allocates nothing.
     ///
@@ -71,7 +71,7 @@ impl<'a, T> CsrView<'a, T> {
         }
     }
 
-    /// Returns the view of arrays whose rows are sorted by column.
+    /// Returns a view of these arrays, whose rows must be sorted by column.
     ///
     /// Linear in the number of rows and entries. Copies nothing and allocates nothing.
     ///

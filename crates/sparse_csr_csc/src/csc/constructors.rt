@@ -16,7 +16,7 @@ use sparse_pattern::pattern::{SparsityPattern, SparsityPatternFormatError};
 use std::alloc::{AllocError, Global};
 
 impl<T> CscMatrix<T> {
-    /// Returns the matrix of a pattern, whose lanes are the columns, and its values. Nothing is tested.
+    /// Returns the matrix of a pattern, whose lanes are the columns, and its values. Nothing is checked.
     ///
     /// There must be one value for each entry of the pattern. Constant time. Allocates nothing.
     ///
@@ -41,7 +41,7 @@ impl<T> CscMatrix<T> {
 }
 
 impl<T: Drop> CscMatrix<T> {
-    /// Returns the matrix of arrays whose columns are sorted by row.
+    /// Returns the matrix with these arrays, whose columns must be sorted by row.
     ///
     /// Linear in the number of columns and entries. Allocates nothing.
     ///
@@ -137,7 +137,7 @@ impl<T: Ring> CscMatrix<T> {
 }
 
 impl<T: Copy> CscMatrix<T> {
-    /// Returns the matrix of arrays whose columns need not be sorted. Each value moves with its row index.
+    /// Returns the matrix with these arrays, whose columns need not be sorted. Each value moves with its row index.
     ///
     /// Columns that are already sorted take one pass and no memory. Other columns are sorted.
     ///

@@ -16,7 +16,7 @@ use sparse_pattern::pattern::{SparsityPattern, SparsityPatternFormatError};
 use std::alloc::{AllocError, Global};
 
 impl<T> CsrMatrix<T> {
-    /// Returns the matrix of a pattern, whose lanes are the rows, and its values. Nothing is tested.
+    /// Returns the matrix of a pattern, whose lanes are the rows, and its values. Nothing is checked.
     ///
     /// There must be one value for each entry of the pattern. Constant time. Allocates nothing.
     ///
@@ -41,7 +41,7 @@ impl<T> CsrMatrix<T> {
 }
 
 impl<T: Drop> CsrMatrix<T> {
-    /// Returns the matrix of arrays whose rows are sorted by column.
+    /// Returns the matrix with these arrays, whose rows must be sorted by column.
     ///
     /// Linear in the number of rows and entries. Allocates nothing.
     ///
@@ -160,7 +160,7 @@ impl<T: Ring> CsrMatrix<T> {
 }
 
 impl<T: Copy> CsrMatrix<T> {
-    /// Returns the matrix of arrays whose rows need not be sorted. Each value moves with its column index.
+    /// Returns the matrix with these arrays, whose rows need not be sorted. Each value moves with its column index.
     ///
     /// Rows that are already sorted take one pass and no memory. Other rows are sorted.
     ///
