@@ -48,8 +48,7 @@ impl<T: Drop> CsrMatrix<T> {
     /// # Errors
     ///
     /// Returns the first fault: that of the offsets and indices, in the order of
-    /// [`SparsityPattern::try_from_offsets_and_indices`](sparse_pattern::pattern::SparsityPattern::try_from_offsets_and_indices),
-    /// and then the number of values. The arrays are dropped.
+    /// [`SparsityPattern::try_from_offsets_and_indices`], and then the number of values. The arrays are dropped.
     ///
     /// # Examples
     ///
