@@ -1,4 +1,5 @@
--- Compressed matrices as plain matrices, and when two are the same.
+-- The places and values of the plain matrix of compressed arrays; `==` decides whether two plain
+-- matrices are the same.
 use Rattle.std.proofs.Common.{◌≡◌, ℕ, suc, zero, ◌<◌, inl, inr, ◌↔◌, Bool, true, List, [], ◌∷◌}
 use Rattle.std.proofs.Common.{length, get_or, Contains, slice_index, ap, sym, subst, ◌∙◌, refl}
 use Rattle.std.proofs.Common.{arith}
@@ -43,8 +44,8 @@ module _ (R : CommRing) {T : Type 0} (f : T → R.Carrier) (d : Raw) (valid : Is
         λ h. names.1 (subst (λ l. Contains l (i, j)) (sym pairs) (places.1 h)),
       )
 
--- what makes a matrix by rows stand for a plain matrix: the sizes, the places, and the values at
--- their positions
+-- a compressed matrix by rows that has the shape, the places and the values of a plain matrix
+-- represents it
 pub stands : (R : CommRing) {T : Type 0} (f : T → R.Carrier) (z : T) (m : Compressed T)
     (a : Plain R)
     → IsSound m → IsProper a → m.pattern.major_dim ≡ a.rows → m.pattern.minor_dim ≡ a.cols

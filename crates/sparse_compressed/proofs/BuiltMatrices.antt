@@ -1,4 +1,4 @@
--- A matrix that is built lane after lane, for given places and values.
+-- A compressed matrix that is built lane by lane has the given places and values.
 use Rattle.std.proofs.Common.{◌≡◌, ℕ, ◌+◌, ◌<◌, inl, inr, ◌↔◌, true, List, [], ◌∷◌, ◌++◌, length}
 use Rattle.std.proofs.Common.{get_or, slice_range, Contains, length-append, ap, sym, subst, ◌∙◌}
 use Rattle.std.proofs.Common.{refl, arith}
@@ -24,7 +24,7 @@ module _ (R : CommRing) {T : Type 0} (f : T → R.Carrier) where
       let e = get_or offsets (i + 1) 0 in
       lane_value R f (slice_range indices s e) (slice_range values s e) j
 
-  -- the first n lanes have the places for which P holds, with the values V
+  -- the first n lanes have the entries at which P holds, with the values V
   pub record IsBuiltMatrix (minor_dim : ℕ) (P : ℕ → ℕ → Type 0) (V : ℕ → ℕ → R.Carrier) (n : ℕ)
       (offsets indices : List ℕ) (values : List T) : Type 0 where
     pub built : IsBuilt minor_dim P n offsets indices
@@ -74,7 +74,7 @@ module _ (R : CommRing) {T : Type 0} (f : T → R.Carrier) where
         (sym count) ∙ between_end values lane_values in
         rw (start, end, between_end indices lane, values_end) refl
 
-    -- one lane more
+    -- appending a lane
     pub matrix_lane_built : ((j : ℕ) → lane_value R f lane lane_values j ≡ V n j)
         → IsBuiltMatrix m P V (n + 1) longer (indices ++ lane) (values ++ lane_values)
     matrix_lane_built is = record {
@@ -94,7 +94,7 @@ module _ (R : CommRing) {T : Type 0} (f : T → R.Carrier) where
       ];
     }
 
-  -- all lanes are built
+  -- once all lanes are built, the arrays represent the plain matrix a
   module _ (z : T) (a : Plain R) (proper : IsProper a) (P : ℕ → ℕ → Type 0)
       (places : (i j : ℕ) → P i j ↔ (a.has i j ≡ true)) (offsets indices : List ℕ) (values : List T)
       (done : IsBuiltMatrix a.cols P a.value a.rows offsets indices values)

@@ -1,4 +1,5 @@
--- Values that are changed where they stand, in plain matrices.
+-- Negating or scaling the values of a compressed matrix in place negates or scales its plain
+-- matrix.
 use Rattle.std.proofs.Common.{◌≡◌, ℕ, ◌<◌, List, length, get_or, ap, ◌∙◌, refl, arith}
 use Rattle.std.proofs.lemmas.List.{get_or_default}
 use Rattle.sparse_algebra.specs.Algebra.{CommRing}
@@ -18,7 +19,7 @@ module _ (R : CommRing) {T : Type 0} (f : T → R.Carrier) where
     pub changed_sound : (g : R.Carrier → R.Carrier) → AreChanged f g z m.values ws → IsSound now
     changed_sound g h = record { valid = sound.valid; count = h.count ∙ sound.count }
 
-    -- the value of a position
+    -- each new value represents the changed value of the plain matrix
     changed_at : (g : R.Carrier → R.Carrier) → AreChanged f g z m.values ws → (i j p : ℕ) (y : T)
         → IsPosition m.pattern i j p → f (get_or ws p y) ≡ g ((plain_of_rows R f m).value i j)
     changed_at g h i j p y at =

@@ -1,4 +1,4 @@
--- The pair at a position of a lane, in the list of all pairs in lane order.
+-- The pair at an offset, in the list of all entries of a pattern.
 use Rattle.std.proofs.Common.{◌≡◌, ℕ, zero, suc, ◌+◌, ◌-◌, ◌<◌, ◌≤◌, inl, inr, ◌++◌, length, get_or}
 use Rattle.std.proofs.Common.{slice_index, ap, sym, subst, ◌∙◌, refl, arith}
 use Rattle.std.proofs.lemmas.List.{length-map, get_or_append_left, get_or-append_right, get_or-map}
@@ -13,7 +13,7 @@ module _ (d : Raw) (valid : IsValid d) where
   pub position_within : (i j p : ℕ) → IsPosition d i j p → p < length d.indices
   position_within i j p h = omega (arith, (valid.lanes i h.0.lane).inside, h.0.to)
 
-  -- the entry at a position of lane i
+  -- the pair at the offset p of lane i, in the list of the entries from lane k on
   entry_from : (k n i p : ℕ) → k + n ≡ d.major_dim → k ≤ i → IsInLane d i p
       → get_or (entries_from d.offsets d.indices k n) (p - start_of d k) (0, 0)
       ≡ (i, slice_index d.indices p)

@@ -1,4 +1,4 @@
--- The first fault of arrays whose lanes needn't be sorted.
+-- Which fault of arrays whose lanes need not be sorted is the first.
 use Rattle.std.proofs.Common.{◌≡◌, ℕ, ◌+◌, ◌<◌, ◌≤◌, inl, inr, List, length, All, Any, arith}
 use Rattle.sparse_algebra.proofs.Cases.{le_cases}
 use Rattle.sparse_pattern.specs.Raw.{start_of, end_of, lane_of}
@@ -20,12 +20,12 @@ pub record IsFineLane {T : Type 0} (m : Compressed T) (k : ℕ) : Type 0 where
   pub bounded : All (λ j. j < m.pattern.minor_dim) (lane_of m.pattern k)
   pub distinct : HasRepeat (lane_of m.pattern k) → ⊥
 
--- not both all below and some past the bound
+-- if all are below the bound, none is past it
 not_past : (bound : ℕ) (xs : List ℕ) → All (λ j. j < bound) xs → Any (λ j. bound ≤ j) xs → ⊥
 not_past bound xs below past = omega (arith, below past.0 past.1 past.2, past.3, past.4)
 
 module _ {T : Type 0} (m : Compressed T) where
-  -- no spot has a fault where all lanes are fine
+  -- arrays with valid counts and lanes without a fault have no fault
   pub faultless : HasFineCounts m → ((k : ℕ) → k < m.pattern.major_dim → IsFineLane m k)
       → IsFaultless m
   faultless counts lanes ValueCount h = h counts.values
@@ -39,7 +39,8 @@ module _ {T : Type 0} (m : Compressed T) where
 
   module _ (counts : HasFineCounts m) (i : ℕ) (lane : i < m.pattern.major_dim)
       (fine : (k : ℕ) → k < i → IsFineLane m k) where
-    -- no spot before the n-th of lane i has a fault, where those of that lane before it have none
+    -- no fault comes before the n-th kind of fault of lane i, if the lanes before i have no fault
+    -- and lane i has none of the kinds before n
     none_before : (n : ℕ) → n ≤ 3 → (0 < n → start_of m.pattern i ≤ end_of m.pattern i)
         → (1 < n → end_of m.pattern i ≤ length m.pattern.indices)
         → (2 < n → All (λ j. j < m.pattern.minor_dim) (lane_of m.pattern i)) → (t : UnsortedSpot)
@@ -105,7 +106,7 @@ module _ {T : Type 0} (m : Compressed T) where
           (λ _. below);
     }
 
-  -- the faults of the arrays as a whole
+  -- the faults of the counts and of the first and last offset
   pub first_value_count : (length m.values ≡ length m.pattern.indices → ⊥)
       → IsFirstAt m ValueCount
   first_value_count bad = record {

@@ -1,5 +1,5 @@
--- What a look-up finds, as an entry; and facts beside an assertion, for the walks over calls that
--- lend an entry.
+-- A look-up (`Found`) as an entry; adding a fact to an assertion of the separation logic. For
+-- proofs by hand of functions that return an entry borrowed mutably.
 use mathlib.Core.Path.{◌≡◌, refl}
 use Prim.Native.Nat.{ℕ}
 use seplogic.Ra.Ura.{Ura}
@@ -31,7 +31,7 @@ lane_entry_is l j (Value r) is = is
 lane_entry_is l j (Nothing OutOfBounds) is = is
 lane_entry_is l j (Nothing NotStored) is = is
 
--- a fact that holds may stand beside what is there
+-- a fact that holds can be added to an assertion
 pub with_fact : {M : Type 1} (𝓤 : Ura M) (φ : Type 0) (P : SProp 𝓤) → φ
     → ent 𝓤 P (sep 𝓤 P (sep 𝓤 (fact 𝓤 φ) (emp 𝓤)))
 with_fact 𝓤 φ P x = via 𝓤 (sep 𝓤 (emp 𝓤) P) (emp∗ 𝓤 P)

@@ -1,4 +1,4 @@
--- Arrays whose offsets and indices count up and whose values are ones stand for the identity.
+-- Offsets 0, 1, .., n, indices 0, 1, .., n - 1 and values 1 represent the identity.
 use Rattle.std.proofs.Common.{◌≡◌, ℕ, ◌+◌, ◌<◌, ◌↔◌, true, ◌&&◌, List, get_or, ap, sym, ◌∙◌, refl}
 use Rattle.std.proofs.Common.{arith}
 use Rattle.std.specs.Prelude.{nat_eq, nat_lt}
@@ -20,7 +20,7 @@ on_diagonal i j n = (
 
 module _ (n : ℕ) (offsets indices : List ℕ) (starts : (k : ℕ) → k < n + 1 → get_or offsets k 0 ≡ k)
     (own : (k : ℕ) → k < n → get_or indices k 0 ≡ k) where
-  -- lane i has the position i alone
+  -- lane i has the one offset i
   position_is : (i p : ℕ) → IsInLane (raw_of n n offsets indices) i p → p ≡ i
   position_is i p h = omega (
     arith,

@@ -1,4 +1,4 @@
--- The triplets of a sound matrix, in number and inside its sizes.
+-- A sound matrix has as many triplets as values, and each triplet is an entry within the shape.
 use Rattle.std.proofs.Common.{◌≡◌, ℕ, zero, suc, ◌<◌, List, [], ◌∷◌, length, get_or, slice_index}
 use Rattle.std.proofs.Common.{All, ap, sym, ◌∙◌, refl, arith}
 use Rattle.sparse_pattern.specs.Raw.{entries_of, IsPlace}
@@ -43,7 +43,7 @@ module _ {T : Type 0} where
           rw (pair.1, ap (λ p. p.1) entry) (lane.bounded k at.1.from at.1.to),
         )
 
-    -- each triplet is at a place
+    -- each triplet is at an entry of the pattern
     pub lane_triplets-places : All (λ t. IsPlace m.pattern t.0 t.1) (lane_triplets m)
     lane_triplets-places k t lt =
         let within : k < length m.values = omega (arith, length-lane_triplets) in

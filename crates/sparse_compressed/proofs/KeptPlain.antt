@@ -1,4 +1,4 @@
--- Keeping triplets by a test of their pair, in plain matrices.
+-- Filtering triplets by a test of row and column filters the plain matrix.
 use Rattle.std.proofs.Common.{◌≡◌, ℕ, inl, inr, Bool, true, false, ◌&&◌, cond, List, [], ◌∷◌, map}
 use Rattle.std.proofs.Common.{ap, sym, ◌∙◌, refl}
 use Rattle.std.specs.List.{filter, list_any}
@@ -16,7 +16,7 @@ use Rattle.sparse_compressed.specs.Filter.{HasSizesOf}
 use Rattle.sparse_compressed.specs.PlainOfLanes.{plain_of_rows, plain_of_cols}
 use Rattle.sparse_compressed.proofs.Arrays.{pair_is, value_at, unnamed}
 
--- a filter of triplets whose first two parts have changed places
+-- filtering transposed triplets
 filter-transposed : {T : Type 0} (test : ℕ × ℕ × T → Bool) (ts : List (ℕ × ℕ × T))
     → map transposed (filter test (map transposed ts)) ≡ filter (λ t. test (transposed t)) ts
 filter-transposed test [] = refl
@@ -48,7 +48,7 @@ module _ (R : CommRing) {T : Type 0} (f : T → R.Carrier) (test : ℕ → ℕ �
   has_kept i j ts = any-filter_same (is_at i j) passes (test i j) (passes_at i j) ts
       ∙ and_comm (test i j) (list_any (is_at i j) ts)
 
-  -- at a pair that passes, nothing that is added is dropped
+  -- the sum at a pair that passes the test is unchanged
   sum_kept : (i j : ℕ) (ts : List (ℕ × ℕ × T)) → test i j ≡ true
       → value_at R f (filter passes ts) i j ≡ value_at R f ts i j
   sum_kept i j [] pass = refl
@@ -82,7 +82,7 @@ module _ (R : CommRing) {T : Type 0} (f : T → R.Carrier) (test : ℕ → ℕ �
         ∙ sym (where_no R _ _ outside)
   ]
 
-  -- the rows that are kept
+  -- by rows
   pub kept_rows : (m n : Compressed T) → HasSizesOf m n
       → lane_triplets n ≡ filter passes (lane_triplets m)
       → plain_of_rows R f n ≡ plain_kept R test (plain_of_rows R f m)
@@ -91,7 +91,7 @@ module _ (R : CommRing) {T : Type 0} (f : T → R.Carrier) (test : ℕ → ℕ �
       (λ i j. ap (λ ts. list_any (is_at i j) ts) kept ∙ has_kept i j (lane_triplets m))
       (λ i j. ap (λ ts. value_at R f ts i j) kept ∙ value_kept i j (lane_triplets m))
 
--- the columns that are kept
+-- by columns
 pub kept_cols : (R : CommRing) {T : Type 0} (f : T → R.Carrier) (test : ℕ → ℕ → Bool)
     (m n : Compressed T)
     → HasSizesOf m n

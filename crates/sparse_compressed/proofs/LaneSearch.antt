@@ -1,4 +1,4 @@
--- The search for an index in a lane.
+-- A binary search in a lane finds the offset of an entry.
 use Rattle.std.proofs.Common.{◌≡◌, ℕ, ◌+◌, ◌-◌, ◌<◌, ◌≤◌, ◌⊎◌, inl, inr, ◌↔◌, List, [], length}
 use Rattle.std.proofs.Common.{get_or, take, drop, Option, Some, None, Result, Ok, Err, ap, sym, ◌∙◌}
 use Rattle.std.proofs.Common.{refl, arith}
@@ -20,7 +20,7 @@ use Rattle.sparse_pattern.proofs.PatternLanes.{lane_rises, length-lane, get_or-l
 use Rattle.sparse_compressed.specs.Compressed.{IsPosition}
 use Rattle.sparse_compressed.specs.StoredEntries.{place_of}
 
--- the indices of a valid lane rise
+-- the indices of a valid lane are strictly increasing
 pub rising_lane : (d : Raw) (i : ℕ) → IsValidLane d i → IsStrictlyIncreasing (lane_of d i)
 rising_lane d i valid k within = lane_rises d i valid k (k + 1) (omega arith) within
 
@@ -28,7 +28,7 @@ not_falling : (xs : List ℕ) → IsStrictlyIncreasing xs → (a b : ℕ) → a 
     → get_or xs a 0 ≤ get_or xs b 0
 not_falling xs rising a b le within = grind (arith, AllPairs-from_increasing xs rising a b 0)
 
--- the position of a number in rising numbers
+-- the offset of a number in strictly increasing numbers
 pub position_at : (xs : List ℕ) (j k : ℕ) → IsStrictlyIncreasing xs → k < length xs
     → get_or xs k 0 ≡ j → position (λ x. x == j) xs ≡ Some k
 position_at xs j k rising within is =
@@ -38,7 +38,7 @@ position_at xs j k rising within is =
     ap (λ n. cond (nat_lt n (length xs)) (Some n) None) here
     ∙ ap (λ b. cond b (Some k) None) (lt-ltb k (length xs) within)
 
--- a binary search in rising indices finds the position
+-- a binary search in strictly increasing indices finds the offset
 pub search_is_position : (xs : List ℕ) (j : ℕ) (r : Result ℕ ℕ) → IsStrictlyIncreasing xs
     → IsBinarySearchResult (λ y. nat_cmp y j) xs r → result_ok r ≡ position (λ x. x == j) xs
 search_is_position xs j (Ok k) rising is =
@@ -56,7 +56,7 @@ none_or_some None = inl refl
 none_or_some (Some x) = inr (x, refl)
 
 module _ (d : Raw) (valid : IsValid d) (i j p : ℕ) where
-  -- no index stands past the lanes
+  -- no entry is stored past the last lane
   none_past : d.major_dim ≤ i → place_of d i j ≡ None
   none_past past =
       let end : end_of d i ≡ 0 = get_or_past d.offsets (i + 1) 0 (omega (arith, valid.count)) in
@@ -100,6 +100,6 @@ module _ (d : Raw) (valid : IsValid d) (i j p : ℕ) where
         ]
   ]
 
-  -- the position of a look-up is that of the place
+  -- a look-up returns the offset p if and only if p is the offset of the entry
   pub place_of_is_position : (place_of d i j ≡ Some p) ↔ IsPosition d i j p
   place_of_is_position = (position-place_of, place_of-position)

@@ -1,4 +1,4 @@
--- What the iterators that borrow values mutably have left.
+-- Lemmas for the mutable iterators: the lanes and triplets that they have not yielded.
 use Rattle.std.proofs.Common.{◌≡◌, ℕ, zero, suc, ◌+◌, ◌-◌, ◌<◌, ◌≤◌, List, [], ◌∷◌, length, take}
 use Rattle.std.proofs.Common.{drop, ap, sym, ◌∙◌, refl, arith}
 use Rattle.std.proofs.lemmas.List.{drop-drop, length-take-le, length-drop}
@@ -18,7 +18,7 @@ module _ {T : Type 0} where
       (drop (length (lane_of d i)) values)
   lanes_with_suc d i n m values e = ap (λ k. lanes_with d i k values) e
 
-  -- the lane i comes off the front
+  -- the next lane is lane i
   pub lanes_with_next : (d : Raw) (i : ℕ) (values : List T) → i < d.major_dim
       → lanes_with d i (d.major_dim - i) values
       ≡ lane_parts d.minor_dim (lane_of d i) (take (length (lane_of d i)) values) ∷ lanes_with d
@@ -26,7 +26,7 @@ module _ {T : Type 0} where
   lanes_with_next d i values lt = lanes_with_suc d i (d.major_dim - i) (d.major_dim - (i + 1))
       values (omega arith)
 
-  -- no lane is left
+  -- past the last lane none is left
   pub lanes_with_end : (d : Raw) (i : ℕ) (values : List T) → d.major_dim ≤ i
       → lanes_with d i (d.major_dim - i) values ≡ []
   lanes_with_end d i values le =
@@ -55,7 +55,7 @@ module _ {T : Type 0} where
       ∙ ap (λ vs. lane_at m i ∷ lanes_with d (i + 1) n vs) rest
       ∙ ap (λ ls. lane_at m i ∷ ls) (cut_lanes m sound n (i + 1) (omega arith))
 
-  -- the values are cut into the lanes of the matrix
+  -- cutting the values by lanes gives the lanes of the matrix
   pub lanes_with_all : (m : Compressed T) → IsSound m
       → lanes_with m.pattern 0 (m.pattern.major_dim - 0) m.values ≡ lanes_of m
   lanes_with_all m sound =

@@ -1,4 +1,5 @@
--- Transposes: their values by positions, as plain matrices, and one after another.
+-- Transposes of compressed matrices: the transpose is unique, transposing twice gives the matrix,
+-- and the plain matrix is transposed.
 use Rattle.std.proofs.Common.{◌≡◌, ℕ, ◌<◌, List, length, get_or, slice_get, slice_index, refl, ap}
 use Rattle.std.proofs.Common.{sym, ◌∙◌, subst, arith}
 use Rattle.std.specs.Prelude.{unwrap_or}
@@ -16,7 +17,7 @@ use Rattle.sparse_pattern.proofs.Positions.{lane_of_position}
 use Rattle.sparse_compressed.proofs.Arrays.{value_at_position, has_is_place, stands, proper_rows}
 
 module _ {T : Type 0} where
-  -- a transposed pattern with its values
+  -- a transposed pattern with the transposed values is the transpose
   pub with_values : (m : Compressed T) (t : Raw) (values : List T) → IsTransposedPattern m.pattern t
       → AreTransposedValues m.pattern t m.values values → IsTranspose m (compressed_of t values)
   with_values m t values transposed moved = record {
@@ -24,7 +25,7 @@ module _ {T : Type 0} where
     values = λ i j p q here there. moved i j p q here.0 here.1 there.0 there.1;
   }
 
-  -- lists that have the same element at a position
+  -- lists with the same element at p and q
   same_read : (xs ys : List T) (p q : ℕ) (z : T) → slice_get xs p ≡ slice_get ys q
       → get_or xs p z ≡ get_or ys q z
   same_read xs ys p q z same = sym (unwrap_or-slice_get xs p z) ∙ ap (λ x. unwrap_or x z) same
@@ -40,7 +41,7 @@ module _ {T : Type 0} where
     values = λ i j p q here there. sym (h.values j i q p there here);
   }
 
-  -- a matrix transposed twice
+  -- a matrix transposed twice is the matrix
   pub twice : (m n k : Compressed T) → IsSound m → IsSound k → IsTranspose m n → IsTranspose n k
       → k ≡ m
   twice m n k sm sk once again = ap (λ d. compressed_of d k.values) patterns
@@ -76,7 +77,7 @@ module _ {T : Type 0} where
       → IsTranspose m k → n ≡ k
   one_transpose m n k sn sk left right = twice k m n sk sn (transposed_back m k right) left
 
-  -- the plain matrix of a transpose
+  -- the plain matrix of the transpose is the transposed plain matrix
   pub plain_transposed : (R : CommRing) (f : T → R.Carrier) (z : T) (m n : Compressed T) → IsSound m
       → IsSound n → IsTranspose m n → plain_of_rows R f n ≡ plain_transpose R (plain_of_rows R f m)
   plain_transposed R f z m n sm sn h =

@@ -1,4 +1,4 @@
--- The triplets in lane order are the places of the plain matrix, row after row.
+-- The triplets of a matrix by rows are the places of its plain matrix, row by row.
 use Rattle.std.proofs.Common.{◌≡◌, ℕ, zero, suc, ◌+◌, ◌<◌, ◌⊎◌, inl, inr, ◌↔◌, Bool, true, false}
 use Rattle.std.proofs.Common.{List, [], ◌∷◌, ◌++◌, length, get_or, map, slice_index, slice_range}
 use Rattle.std.proofs.Common.{ap, sym, subst, ◌∙◌, refl, arith, length-append}
@@ -27,7 +27,7 @@ abbrev passing : ℕ → (ℕ → Bool) → List ℕ
 passing zero test = []
 passing (suc n) test = passing n test ++ (if test n then n ∷ [] else [])
 
--- a list of a place or none, for each number below n
+-- joining a list of one or no element for each number below n
 passing_is : {X : Type 0} (n : ℕ) (test : ℕ → Bool) (f : ℕ → X)
     → flat_map (λ j. if test j then f j ∷ [] else []) (below n) ≡ map f (passing n test)
 passing_is zero test f = refl
@@ -126,7 +126,7 @@ module _ (d : Raw) (valid : IsValid d) (test : ℕ → ℕ → Bool)
       passing_has (test i) d.minor_dim j (subst (λ k. k < d.minor_dim) place.index
       (v.bounded place.at place.in_lane.from place.in_lane.to)) ((places i j).1 place))
 
--- the pairs of n lanes, with the last lane at the end
+-- the entries of n + 1 lanes are those of n lanes and then those of the last
 entries_from-suc : (offsets indices : List ℕ) (i n : ℕ)
     → entries_from offsets indices i (suc n) ≡ entries_from offsets indices i n ++ paired (i + n)
     (slice_range indices (slice_index offsets (i + n)) (slice_index offsets (i + n + 1)))
@@ -177,7 +177,7 @@ map-paired h i [] = refl
 map-paired h i (j ∷ js) = ap (λ l. h (i, j) ∷ l) (map-paired h i js)
 
 module _ {T C : Type 0} (f : T → C) (value : ℕ → ℕ → C) where
-  -- a value at each pair, which is the one that stands beside it
+  -- if each value represents the value of its pair, the triplets are the pairs with those values
   map-zip_values : (ps : List (ℕ × ℕ)) (vs : List T) → length ps ≡ length vs
       → ((z : T) (k : ℕ) → k < length ps → f (get_or vs k z) ≡ value (get_or ps k (0, 0)).0
       (get_or ps k (0, 0)).1)

@@ -1,4 +1,4 @@
--- Lanes that are added into a row, entry after entry.
+-- Adding a multiple of a lane to a dense row, entry by entry.
 use Rattle.std.proofs.Common.{◌≡◌, ℕ, zero, suc, ◌+◌, ◌*◌, ◌<◌, inl, inr, true, List, [], ◌∷◌}
 use Rattle.std.proofs.Common.{length, get_or, set, take, Fits, w64, ap, sym, ◌∙◌, refl, arith}
 use Rattle.std.specs.Prelude.{nat_eq, zip}
@@ -30,7 +30,7 @@ module _ (R : CommRing) {T : Type 0} where
       ap (R.add (g (x, y))) (sum_zip_suc g ks vs n k v (omega arith) (omega arith) is is')
       ∙ sym (R.laws.add_assoc (g (x, y)) (sum_by R g (zip (take n ks) (take n vs))) (g (k, v)))
 
-  -- one pair more
+  -- one more pair adds its term to the sum
   pub sum_zip_more : (g : ℕ × T → R.Carrier) (ks : List ℕ) (vs : List T) (n k : ℕ) (v : T)
       → n < length ks → n < length vs → k ≡ get_or ks n k → v ≡ get_or vs n v
       → sum_by R g (zip (take (n + 1) ks) (take (n + 1) vs)) ≡ R.add
@@ -40,7 +40,7 @@ module _ (R : CommRing) {T : Type 0} where
       ap (λ m. sum_by R g (zip (take m ks) (take m vs))) e ∙ sum_zip_suc g ks vs n k v lt lt' is is'
 
 module _ (R : CommRing) {T : Type 0} (f : T → R.Carrier) where
-  -- one entry of a lane more, added into the row
+  -- adding one more entry of the lane to the row
   pub lane_step : (scale : R.Carrier) (columns : List ℕ) (values row start : List T) (z : T)
       (n k : ℕ) (v old new : T)
       → n < length columns → n < length values → k ≡ get_or columns n k → v ≡ get_or values n v

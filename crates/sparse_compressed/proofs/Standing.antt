@@ -1,4 +1,5 @@
--- The plain matrix of compressed arrays, and the only one that has what it has.
+-- Compressed arrays determine their plain matrix: it has their shape, places and values, and no
+-- other plain matrix has them.
 use Rattle.std.proofs.Common.{◌≡◌, refl, ap, ◌∙◌, sym}
 use Rattle.sparse_algebra.specs.Algebra.{CommRing}
 use Rattle.sparse_algebra.specs.Plain.{Plain, plain_transpose}

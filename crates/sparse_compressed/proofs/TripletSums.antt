@@ -1,4 +1,4 @@
--- Sums over the triplets that name a pair: none gives zero, and one alone its value.
+-- The sum of the triplets at a pair: zero if there is none, and the value if there is one.
 use Rattle.std.proofs.Common.{◌≡◌, ℕ, zero, suc, ◌<◌, inl, inr, ◌↔◌, true, false, ◌&&◌, List}
 use Rattle.std.proofs.Common.{[], ◌∷◌, length, get_or, map, Contains, ap, subst, ◌∙◌, refl}
 use Rattle.std.proofs.Common.{arith}
@@ -27,7 +27,7 @@ pair_is (a, b) i j h =
 pub test_yes : (i j : ℕ) → (nat_eq i i && nat_eq j j) ≡ true
 test_yes i j = grind (arith, nat_tests)
 
--- the pairs of triplets
+-- the pairs (row, column) of triplets
 abbrev pub pairs_of : {T : Type 0} → List (ℕ × ℕ × T) → List (ℕ × ℕ)
 pairs_of ts = map (λ t. (t.0, t.1)) ts
 
@@ -65,12 +65,12 @@ module _ (R : CommRing) {T : Type 0} (f : T → R.Carrier) where
   abbrev pub value_at : List (ℕ × ℕ × T) → ℕ → ℕ → R.Carrier
   value_at ts i j = sum_by R (λ t. where_true R (is_at i j t) (f t.2)) ts
 
-  -- nothing is added where no triplet names the pair
+  -- the sum is zero if no triplet is at the pair
   pub unnamed : (i j : ℕ) (ts : List (ℕ × ℕ × T)) → list_any (is_at i j) ts ≡ false
       → value_at ts i j ≡ R.zero
   unnamed i j ts = proper_plain_of_triplets R f 0 0 ts i j
 
-  -- one triplet alone names the pair
+  -- the sum is the value of the triplet if only one is at the pair
   pub one_named : (i j p : ℕ) (z : T) (ps : List (ℕ × ℕ)) (vs : List T) → length ps ≡ length vs
       → p < length ps → get_or ps p (0, 0) ≡ (i, j)
       → ((q : ℕ) → q < length ps → get_or ps q (0, 0) ≡ (i, j) → q ≡ p)

@@ -1,4 +1,4 @@
--- A matrix whose values are replaced, position by position.
+-- The plain matrix of a compressed matrix whose values are replaced.
 use Rattle.std.proofs.Common.{◌≡◌, ℕ, false, List, length, get_or, ap, ◌∙◌, refl, arith}
 use Rattle.std.proofs.lemmas.List.{get_or_default}
 use Rattle.sparse_algebra.specs.Algebra.{CommRing}
@@ -7,7 +7,8 @@ use Rattle.sparse_compressed.specs.PlainOfLanes.{plain_of_rows}
 use Rattle.sparse_compressed.proofs.Arrays.{position_within}
 use Rattle.sparse_compressed.proofs.Standing.{rows_have, rows_are}
 
--- what the matrix stands for where its positions have the values of `value`
+-- if each new value represents `value i j` at its entry (i, j), the plain matrix has the values
+-- `value`
 pub updated : (R : CommRing) {T : Type 0} (f : T → R.Carrier) (z : T) (m : Compressed T)
     (ws : List T) (value : ℕ → ℕ → R.Carrier)
     → IsSound m → length ws ≡ length m.values

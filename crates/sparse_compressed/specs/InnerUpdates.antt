@@ -1,10 +1,10 @@
--- Values that an operation leaves at the positions of a pattern.
+-- The values of a pattern after C = beta C + alpha X.
 use Rattle.std.specs.Prelude.{◌≡◌, ℕ, List, slice_index_or}
 use Rattle.sparse_algebra.specs.Algebra.{CommRing}
 use Rattle.sparse_pattern.specs.Raw.{Raw}
 use Rattle.sparse_compressed.specs.Compressed.{IsPosition}
 
--- at each place of the pattern, the new value represents beta * c + alpha * x, where c is what the
+-- at each entry of the pattern, the new value represents beta * c + alpha * x, where c is what the
 -- old value represented
 abbrev pub AreUpdated : (R : CommRing) {T : Type 0} → (T → R.Carrier) → T → Raw → R.Carrier
     → R.Carrier → (ℕ → ℕ → R.Carrier) → List T → List T → Type 0

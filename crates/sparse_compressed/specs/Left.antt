@@ -1,4 +1,4 @@
--- What the mutable iterators have yet to yield.
+-- What the mutable iterators have not yielded yet.
 use Rattle.std.specs.Prelude.{ℕ, zero, suc, ◌+◌, ◌-◌, List, [], ◌∷◌, length, take, drop}
 use Rattle.std.specs.Borrow.{MutBor}
 use Rattle.sparse_pattern.specs.Raw.{Raw, lane_of}
@@ -20,11 +20,11 @@ module _ {T : Type 0} where
   abbrev pub lane_values : CsLaneIterMut T → MutBor (List T)
   lane_values it = it.values
 
-  -- the lane borrowed mutably
+  -- the lane, with its values as they are at this time
   abbrev pub lent_lane : CsLaneMut T → Lane T
   lent_lane l = lane_parts l.minor_dim l.indices l.values.now
 
-  -- the n lanes from lane i on, each with its share of the values
+  -- the n lanes from lane i on, whose values are those given, one lane after another
   abbrev pub lanes_with : Raw → ℕ → ℕ → List T → List (Lane T)
   lanes_with d i zero values = []
   lanes_with d i (suc n) values = lane_parts d.minor_dim (lane_of d i)

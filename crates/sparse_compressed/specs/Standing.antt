@@ -1,4 +1,4 @@
--- A plain matrix that agrees with compressed arrays: in shape, places and values.
+-- A plain matrix that has the shape, the places and the values of compressed arrays.
 use Rattle.std.specs.Prelude.{◌≡◌, ℕ, ◌↔◌, true, slice_index_or}
 use Rattle.sparse_algebra.specs.Algebra.{CommRing}
 use Rattle.sparse_algebra.specs.Plain.{Plain, IsProper, IsWithin}
@@ -6,8 +6,8 @@ use Rattle.sparse_pattern.specs.Raw.{IsPlace}
 use Rattle.sparse_compressed.specs.Compressed.{Compressed, IsPosition}
 
 module _ (R : CommRing) {T : Type 0} (f : T → R.Carrier) where
-  -- rows are the lanes: (i, j) is a place if and only if lane i has the index j, with the value of
-  -- its position
+  -- lanes are rows: (i, j) is a place if and only if lane i has the index j, and the value there is
+  -- the value of that entry
   pub record HasLanesAsRows (m : Compressed T) (a : Plain R) : Type 0 where
     pub rows : m.pattern.major_dim ≡ a.rows
     pub cols : m.pattern.minor_dim ≡ a.cols
@@ -17,8 +17,8 @@ module _ (R : CommRing) {T : Type 0} (f : T → R.Carrier) where
     pub within : IsWithin a
     pub proper : IsProper a
 
-  -- columns are the lanes: (i, j) is a place if and only if lane j has the index i, with the value
-  -- of its position
+  -- lanes are columns: (i, j) is a place if and only if lane j has the index i, and the value there
+  -- is the value of that entry
   pub record HasLanesAsCols (m : Compressed T) (a : Plain R) : Type 0 where
     pub rows : m.pattern.minor_dim ≡ a.rows
     pub cols : m.pattern.major_dim ≡ a.cols

@@ -64,7 +64,7 @@ impl<'a> LaneIndices<'a> {
         self.indices.len()
     }
 
-    /// Returns the position of `minor_index` in the lane, or `None` if it is not stored. Binary search.
+    /// Returns the offset of `minor_index` from the start of the lane, or `None` if it is not stored. Binary search.
     pub fn position_of(&self, minor_index: usize) -> Option<usize>
         ensures position { result ≡ position (λ x. x == minor_index) self.now }
         ensures within { IfSome result (λ at. at < length self.now) }
@@ -73,7 +73,8 @@ impl<'a> LaneIndices<'a> {
     }
 }
 
-/// Returns the position of a place among those of the pattern, or `None` if it is not stored. Binary search in the lane.
+/// Returns the offset of the entry at (lane, index) in the arrays of a pattern, or `None` if it is not stored. Binary
+/// search in the lane.
 ///
 /// `lane` must be within bounds.
 pub fn position_of(pattern: &SparsityPattern, lane: usize, index: usize) -> Option<usize>
@@ -106,7 +107,7 @@ impl<'a> Debug for LaneIndices<'a> {
     }
 }
 
-/// One lane of a compressed matrix: the indices of its stored places, and their values.
+/// One lane of a compressed matrix: the indices of its entries, and their values.
 #[derive(Debug, Drop)]
 pub struct CsLane<'a, T> {
     minor_dim: usize,
@@ -148,14 +149,14 @@ impl<'a, T> CsLane<'a, T> {
         self.minor_dim
     }
 
-    /// Returns the number of stored places, including those whose value is zero.
+    /// Returns the number of entries, including those whose value is zero.
     pub fn nnz(&self) -> usize
         ensures { result ≡ length self.now.indices }
     {
         self.minor_indices.len()
     }
 
-    /// Returns the indices of the stored places, strictly increasing.
+    /// Returns the indices of the entries, strictly increasing.
     pub fn minor_indices(&self) -> &'a [usize]
         ensures indices { result.now ≡ self.now.indices }
         ensures sound { IsSoundLane self.now }
@@ -163,7 +164,7 @@ impl<'a, T> CsLane<'a, T> {
         self.minor_indices.as_slice()
     }
 
-    /// Returns the values of the stored places, in the order of their indices.
+    /// Returns the values of the entries, in the order of their indices.
     pub fn values(&self) -> &'a [T]
         ensures values { result.now ≡ self.now.values }
         ensures sound { IsSoundLane self.now }
@@ -171,7 +172,7 @@ impl<'a, T> CsLane<'a, T> {
         self.values
     }
 
-    /// Returns the entry at an index, or `None` if it is out of bounds. Binary search.
+    /// Returns the entry at an index, `Zero` if none is stored, or `None` if the index is out of bounds. Binary search.
     pub fn get_entry(&self, minor_index: usize) -> Option<SparseEntry<'a, T>>
         ensures { IsLaneEntryOf self.now minor_index result }
     {
@@ -182,7 +183,7 @@ impl<'a, T> CsLane<'a, T> {
         }
     }
 
-    /// Returns the entry at an index, which must be within bounds. Binary search.
+    /// Returns the entry at an index, or `Zero` if none is stored. The index must be within bounds. Binary search.
     pub fn index_entry(&self, minor_index: usize) -> SparseEntry<'a, T>
         requires { minor_index < self.now.minor_dim }
         ensures { IsLaneEntryAt self.now minor_index result }

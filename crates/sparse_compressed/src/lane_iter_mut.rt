@@ -37,7 +37,7 @@ impl<T> CsMatrix<T> {
         }
     }
 
-    /// Returns an iterator over the lanes, including those without stored places, that borrows their values mutably.
+    /// Returns an iterator over the lanes, including those without entries, that borrows their values mutably.
     pub fn lane_iter_mut(&mut self) -> CsLaneIterMut<'_, T>
         ensures* writes_back { sem 𝓛 (LendsValues T.row self.entry (lane_values result)) }
         ensures all { lanes_left result ≡ lanes_of self.old }
@@ -51,8 +51,7 @@ impl<T> CsMatrix<T> {
     }
 }
 
-/// An iterator over the lanes of a [`CsMatrix`], including those without stored places, that borrows their values
-/// mutably.
+/// An iterator over the lanes of a [`CsMatrix`], including those without entries, that borrows their values mutably.
 #[derive(Drop)]
 pub struct CsLaneIterMut<'a, T> {
     pattern: &'a SparsityPattern,
@@ -85,7 +84,7 @@ impl<'a, T> Iterator for CsLaneIterMut<'a, T> {
     }
 }
 
-// The first values, and the others.
+// Returns the first `count` values, or all if there are fewer, and the rest.
 #[tactic(auto, using(std::proofs::lemmas::List::take_min, std::proofs::lemmas::List::drop_min))]
 fn split_front<'a, T>(values: &'a mut [T], count: usize) -> (&'a mut [T], &'a mut [T])
     ensures front { result.0.now ≡ take count values.old }

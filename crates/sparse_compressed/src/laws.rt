@@ -26,7 +26,8 @@ pub fn equal_law<T: Ring>()
         ↔ (plain_of_cols T.ring T.value m ≡ plain_of_cols T.ring T.value n) }
 {}
 
-/// The plain matrix of a sound matrix is the only one with exactly the shape, the places and the values of its arrays.
+/// The arrays of a sound matrix determine its plain matrix: it has their shape, places and values, and it is the only
+/// plain matrix that has them.
 pub fn stands_law<T: Ring>()
     ensures rows { (m : Compressed T) → IsSound m
         → HasLanesAsRows T.ring T.value m (plain_of_rows T.ring T.value m) }
@@ -54,7 +55,7 @@ pub fn col_order_law<T: Ring>()
         ≡ col_order T.ring (plain_of_cols T.ring T.value m) }
 {}
 
-/// A lookup finds the position of a place if and only if the place is stored.
+/// A look-up of an entry returns its offset if the entry is stored, and otherwise `None`.
 pub fn place_law()
     ensures { (d : Raw) → IsValid d → (i j p : ℕ) → (place_of d i j ≡ Some p) ↔ IsPosition d i j p }
 {}

@@ -33,8 +33,8 @@ pub use triplet_iter_mut::CsTripletIterMut;
 pub use triplets::CsTripletValues;
 pub use view::CsView;
 
-/// A sparsity pattern with a value for each of its places. The lanes are the rows of a CSR matrix or the columns of a
-/// CSC matrix.
+/// A compressed matrix: a sparsity pattern, and one value for each of its entries. The lanes are the rows of a CSR
+/// matrix or the columns of a CSC matrix.
 #[derive(Debug, Drop)]
 pub struct CsMatrix<T> {
     sparsity_pattern: SparsityPattern,
@@ -57,7 +57,7 @@ impl<T> Model for CsMatrix<T> {
 }
 
 impl<T> CsMatrix<T> {
-    /// Returns the matrix of a pattern and its values. There must be one value for each place of the pattern.
+    /// Returns the matrix of a pattern and its values. There must be one value for each entry of the pattern.
     pub fn from_pattern_and_values(pattern: SparsityPattern, values: Vec<T>) -> Self
         requires { length values.items ≡ length pattern.indices }
         ensures is { result ≡ compressed_of pattern values.items }

@@ -1,4 +1,4 @@
-//! Mutable borrows of the values: all of them, or the value at one place.
+//! Mutable borrows of the values: all of them, or the value of one entry.
 
 ghost use Rattle.std.specs.Prelude.{◌≡◌, ◌<◌, length, slice_index_or};
 ghost use Rattle.std.specs.Borrow.{sem};
@@ -46,7 +46,7 @@ impl<T> CsMatrix<T> {
         )
     }
 
-    /// Returns the value at a pair of indices, borrowed mutably, or the reason why there is none. Binary search in the
+    /// Returns the value stored at a pair of indices, borrowed mutably, or why there is none. Binary search in the
     /// lane.
     pub fn find_mut(&mut self, major_index: usize, minor_index: usize) -> Found<'_, T>
         ensures* writes_back { sem 𝓛 (LendsFound T.row self.entry major_index minor_index result) }
@@ -63,7 +63,8 @@ impl<T> CsMatrix<T> {
         }
     }
 
-    /// Returns the entry at a pair of indices, borrowed mutably. Both must be within bounds. Binary search in the lane.
+    /// Returns the entry at a pair of indices, borrowed mutably, or `Zero` if none is stored. Both indices must be
+    /// within bounds. Binary search in the lane.
     pub fn index_entry_mut(
         &mut self,
         major_index: usize,
@@ -90,7 +91,8 @@ pub fn element_mut<'a, T>(values: &'a mut [T], position: usize) -> &'a mut T
     &mut values[position]
 }
 
-/// Returns the entry at an index of a lane given by its parts, or `None` if the index is out of bounds. Binary search.
+/// Returns the entry at an index of the lane with these indices and values, `Zero` if none is stored, or `None` if the
+/// index is out of bounds. Binary search.
 pub fn entry_in<'a, T>(
     minor_dim: usize,
     indices: &LaneIndices<'_>,

@@ -1,6 +1,6 @@
--- A function that lends a lane of the core that another one lends, if it lends one:
+-- Proof by hand, once for every type of lane, of a function with the body
 --     match first(self, index) { Some(core) => Some(second(core, index)), None => None }
--- It is walked over once here, whatever the lane's type is.
+-- where `first` borrows the core of a matrix mutably if it has a lane `index`, and `second` that lane.
 use Rattle.sparse_rows_cols.proofs.Walking.{◌≡◌, refl, sym, subst, List, [], ◌∷◌, ◌↔◌, lit<, w64}
 use Rattle.sparse_rows_cols.proofs.Walking.{named, Fn, Body, Val, emp, GName, Env, Wp, after_seq}
 use Rattle.sparse_rows_cols.proofs.Walking.{at_return, Post, any_q, at_ret, prop, Sq, ‵, raw, ◌⊛◌}
@@ -35,8 +35,8 @@ use Rattle.sparse_compressed.proofs.FoundEntries.{with_fact}
 use Rattle.sparse_csr_csc.proofs.LentOptions.{some_val, none_val, some_in, none_in, lent_cases}
 use Rattle.sparse_csr_csc.proofs.LentOptions.{lent_on, none_lent}
 
--- the code: the types of a matrix, of its core and of a lane, spelled out and as they are written
--- behind a reference, and the functions that are called
+-- the code of the function: the types of the matrix, of its core and of the lane, each also as it
+-- is written behind a reference, and the two callees
 pub record Code : Type 0 where
   pub matrix : Ty
   pub written_matrix : Ty
@@ -80,7 +80,7 @@ module _ (c : Code) where
   }
 
 module _ {M : Type 1} {𝓤 : Ura M} (𝓛 : Logic 𝓤) (𝓜 : Model 𝓤 𝓛.H) (𝓡 : Running 𝓤 𝓛.H 𝓜) where
-  -- what the two calls do, in the terms of the logic
+  -- what the contracts of the two callees say, in terms of the logic
   pub record Calls (c : Code) : Type 2 where
     -- a matrix, its core, an element and a lane
     pub Matrix : RattleType
@@ -88,22 +88,22 @@ module _ {M : Type 1} {𝓤 : Ura M} (𝓛 : Logic 𝓤) (𝓜 : Model 𝓤 𝓛
     pub Element : RattleType
     pub Lane : RattleType
     pub borrow : Lft
-    -- the arguments, with the tokens of the lifetimes and a fact that comes with them
+    -- the arguments, the lifetime tokens, and the fact about lifetimes that every call needs
     pub self : MutBor Matrix.Denot
     pub index : ℕ
     pub is_index : Is usize index (uint_vals w64 index)
     pub tokens : SProp 𝓤
     pub Within : Type 0
-    -- the matrix of a core, the core that was passed, and a core with other elements in its lane
+    -- the matrix of a core, the core before the call, and a core with other elements in its lane
     pub of_core : Core.Denot → Matrix.Denot
     pub now : Core.Denot
     pub refilled : Core.Denot → (Array Element 0).Denot → Core.Denot
-    -- the core has the lane, the lane is this one, and the core is sound
+    -- the core has such a lane; this is the lane; the core is sound
     pub Has : Core.Denot → Type 0
     pub IsLane : Core.Denot → Lane.Denot → Type 0
     pub IsGood : Core.Denot → Type 0
     pub name : Lane.Denot → GName
-    -- what the callees say of their arguments at last
+    -- what the callees ensure of their arguments at the end of the lifetimes
     pub LastOfFirst : Type 0
     pub last_of_first : LastOfFirst → Fml
     pub LastOfSecond : MutBor Core.Denot → Type 0
@@ -118,7 +118,8 @@ module _ {M : Type 1} {𝓤 : Ura M} (𝓛 : Logic 𝓤) (𝓜 : Model 𝓤 𝓛
     abbrev 𝓣 : MachineTables 𝓤 𝓛.H 𝓜
     𝓣 = tables 𝓤 𝓛.H 𝓜 𝓡 𝓡.env
 
-    -- the reference that the first callee lends, if it does, and the result
+    -- the types of the mutable borrow of the core, of the result of the first callee, and of the
+    -- result
     abbrev Ref : RattleType
     Ref = MutRef (named 0) x.borrow x.Core
 
@@ -128,7 +129,7 @@ module _ {M : Type 1} {𝓤 : Ura M} (𝓛 : Logic 𝓤) (𝓜 : Model 𝓤 𝓛
     abbrev Result : RattleType
     Result = option_row x.Lane
 
-    -- what the matrix follows: the core, then the elements of a lane
+    -- the matrix follows the core, and then the elements of the lane
     abbrev FollowsCore : Option (MutBor x.Core.Denot) → Fml
     FollowsCore q = follows_if x.Matrix x.Core x.self.ghost_name (ghost_name_of q) x.of_core
         x.self.now
@@ -141,7 +142,7 @@ module _ {M : Type 1} {𝓤 : Ura M} (𝓛 : Logic 𝓤) (𝓜 : Model 𝓤 𝓛
     name_of None = maybe.none
     name_of (Some w) = maybe.some (x.name w)
 
-    -- what the callees give
+    -- what the callees return
     abbrev found : Val → Item 𝓤
     found v = later (some (λ (q : Found.Denot).
         (raw x.tokens ⊛ ‵ (Found.own_val q (v ∷ []))) ⊛ some (λ (ws : x.LastOfFirst).
@@ -194,7 +195,8 @@ module _ {M : Type 1} {𝓤 : Ura M} (𝓛 : Logic 𝓤) (𝓜 : Model 𝓤 𝓛
           await ! tt $ pick ! (λ q. split ! $ split ! $ move ! (2 ∷ []) $ pick !
           (λ ws. split ! $ drop ! $ split ! $ move ! (1 ∷ []) $ split ! $ heard ! _
           (λ inside. split ! $ heard ! _ (λ same. heard ! _ (λ good.
-          -- [what the matrix follows; the tokens; the reference, if it is lent]
+          -- hypotheses: the matrix follows the core; the lifetime tokens; the borrow of the core,
+          -- if any
           move ! (2 ∷ []) $ lent_cases ! (named 0) x.borrow x.Core v q
           (λ m is-some is-val.
           let same-now : m.now ≡ x.now = subst (λ (o : Option (MutBor x.Core.Denot)). IfSome o
@@ -208,7 +210,7 @@ module _ {M : Type 1} {𝓤 : Ura M} (𝓛 : Logic 𝓤) (𝓜 : Model 𝓤 𝓛
           sets ! (of_opd ! (get_in ! (vrt ! refl (fld ! refl (stop !)))
           (in_variant ! 1 0 refl refl (whole !)))) refl (tt, tt) $
           sets ! (addr ! (through ! refl (stop !))) refl (tt, tt) $
-          -- [the core; what the matrix follows; the tokens]
+          -- hypotheses: the core; the matrix follows the core; the lifetime tokens
           nothing ! $ owned ! usize _ (uint_Makes 𝓛 w64) i _ (refl, x.is_index.1) $ fjoin ! $
           move ! (1 ∷ 0 ∷ []) $ fjoin ! $ move ! (2 ∷ 0 ∷ []) $ join ! $
           use1 𝓛 (raw (passed m)) (id⊢ 𝓤 _) $
@@ -221,7 +223,8 @@ module _ {M : Type 1} {𝓤 : Ura M} (𝓛 : Logic 𝓤) (𝓜 : Model 𝓤 𝓛
           peeks ! x.Lane (Is x.Lane) (shows 𝓛 x.Lane) w (u ∷ []) (λ is-lane-val.
           move ! (2 ∷ []) $ pick ! (λ ws'. split ! $ drop ! $ split ! $ move ! (1 ∷ []) $ split ! $
           heard ! _ (λ is-lane. drop ! $
-          -- [what the core follows; the lane; the tokens; what the matrix follows]
+          -- hypotheses: the core follows the lane; the lane; the lifetime tokens; the matrix
+          -- follows the core
           lands_as ! refl refl (x.lane_typed w u is-lane-val) $
           rewrite ! 0 (λ (d : x.Core.Denot). ‵ (follows x.Core (Array x.Element 0) m.ghost_name
           (x.name w) (x.refilled d))) same-now refl $

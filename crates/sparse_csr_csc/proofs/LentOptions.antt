@@ -1,5 +1,5 @@
--- How a walk goes on over a call that lends an `Option`: the option is taken apart or made, and
--- what the lender follows is passed on.
+-- Lemmas for proofs by hand over a call that returns an `Option` of a mutable borrow: making the
+-- option, taking cases of it, and composing `follows`.
 use mathlib.Core.Path.{◌≡◌, refl, ap, ◌∙◌, subst⁻¹}
 use mathlib.Core.List.{List, [], ◌∷◌, ◌++◌}
 use mathlib.Core.Option as maybe
@@ -30,7 +30,7 @@ some_val v = live 1 (of_list (v ∷ []))
 abbrev pub none_val : Val
 none_val = live 0 (of_list [])
 
--- an option is made
+-- the ownership of `None` and of `Some(x)`
 module _ {M : Type 1} {𝓤 : Ura M} (𝓛 : Logic 𝓤) (R : RattleType) where
   pub none_in : ent 𝓤 (emp 𝓤) (sem 𝓛 ((the_row R).own_val None (none_val ∷ [])))
   none_in =
@@ -52,7 +52,7 @@ module _ {M : Type 1} {𝓤 : Ura M} (𝓛 : Logic 𝓤) (R : RattleType) where
       (form_of (shape (the_type R))).payload ((the_type R).to (Some x)) (some_val v ∷ []))
       (v ∷ []) $ done !
 
--- an option of a `&mut` is taken apart
+-- cases of an option, and of an option of a `&mut`
 module _ {M : Type 1} {𝓤 : Ura M} {𝓛 : Logic 𝓤} {K : Type 0} {Γ : List (Item 𝓤)} {G : Goal 𝓤 𝓛.H}
     (t : K) where
   none_out : (R : RattleType) (vs : List Val) → (vs ≡ none_val ∷ [] → Seq K 𝓛 Γ G)
@@ -87,7 +87,7 @@ module _ {M : Type 1} {𝓤 : Ura M} {𝓛 : Logic 𝓤} {K : Type 0} {Γ : List
         k x refl (ap only (e ∙ ap (λ (ws : List Val). live 1 (of_list (ws ++ [])) ∷ [])
         (mut_Tells ℓ κ R x us is)))))
 
--- what was borrowed is borrowed again
+-- a borrow from a borrowed value: the first lender follows the second borrow
 module _ {M : Type 1} {𝓤 : Ura M} (𝓛 : Logic 𝓤) (R S T : RattleType) (γ : GName) (v : R.Denot) where
   pub lent_on : (γ' γ'' : GName) (F : S.Denot → R.Denot) (F' : T.Denot → S.Denot)
       → ent 𝓤 (sep 𝓤 (sem 𝓛 (follows_if R S γ (maybe.some γ') F v)) (sem 𝓛 (follows S T γ' γ'' F')))

@@ -1,4 +1,5 @@
--- What the proofs by hand of calls that lend a value cite of the toolchain and of `std`.
+-- Imports for proofs by hand of functions that return a mutable borrow: names of the toolchain and
+-- of `std`.
 pub use Prim.Native.Nat.{◌<◌}
 pub use base.Fml.{GName, flft, ftrue}
 pub use base.Logic.{emp, id⊢}

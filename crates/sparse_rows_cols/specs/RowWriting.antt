@@ -14,7 +14,7 @@ use Rattle.sparse_rows_cols.specs.declared.row_mut.CsrRowMut.{CsrRowMut}
 use Rattle.sparse_rows_cols.specs.contracts.row_mut.CsrRowMut.{the_row as row_type}
 
 module _ {T : Type 0} where
-  -- the row as a lane
+  -- the row as a lane, with its values as they are at this time
   abbrev pub lent_row : CsrRowMut T → Lane T
   lent_row s = lane_parts s.ncols s.col_indices s.values.now
 
@@ -22,7 +22,7 @@ module _ {T : Type 0} where
   abbrev pub row_values : CsrRowMut T → MutBor (List T)
   row_values s = s.values
 
-  -- the name of the row's reference, if there is a row
+  -- the ghost name of the borrow of the values, if there is a row
   abbrev pub row_name : Option (CsrRowMut T) → maybe.Option GName
   row_name = name_if_some (λ s. s.values.ghost_name)
 
@@ -30,11 +30,11 @@ module _ {T : Type 0} where
   abbrev pub row_with_values : CsrRowMut T → List T → CsrRowMut T
   row_with_values s ws = record s { values = record s.values { now = ws } }
 
-  -- the row with another value at the position k
+  -- the row with another value at the offset k
   abbrev pub row_with_value_at : CsrRowMut T → ℕ → T → CsrRowMut T
   row_with_value_at s k w = row_with_values s (slice_set s.values.now k w)
 
-  -- the row with another value at the stored column j
+  -- the row with another value at the column j, which is stored
   abbrev pub row_with_value : CsrRowMut T → ℕ → T → CsrRowMut T
   row_with_value s j w = row_with_value_at s (unwrap_or (index_in s.col_indices j) 0) w
 

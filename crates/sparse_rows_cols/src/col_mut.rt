@@ -22,13 +22,13 @@ use std::marker::PhantomData;
 pub struct CscColMut<'a, T> {
     nrows: usize,
     row_indices: LaneIndices<'a>,
-    /// The values of the stored places, in the order of their rows. They are borrowed for as long as the matrix is.
+    /// The values of the entries, in the order of their rows. They are borrowed for as long as the matrix is.
     pub values: &'a mut [T],
     lent: PhantomData<&'a mut T>,
 }
 
 impl<'a, T> CscColMut<'a, T> {
-    // The lane as a column.
+    // Returns a lane as a column.
     fn new(lane: CsLaneMut<'a, T>) -> Self
         ensures same_reference { (col_values result).ghost_name ≡ lane.entry.values.ghost_name }
         ensures col { lent_col result ≡ lent_lane lane.entry }
@@ -66,28 +66,29 @@ impl<'a, T> CscColMut<'a, T> {
         self.nrows
     }
 
-    /// Returns the number of stored places in the column, including those whose value is zero.
+    /// Returns the number of entries of the column, including those whose value is zero.
     pub fn nnz(&self) -> usize
         ensures { result ≡ length (lent_col self.now).indices }
     {
         self.row_indices.len()
     }
 
-    /// Returns the rows of the stored places, strictly increasing.
+    /// Returns the rows of the entries, strictly increasing.
     pub fn row_indices(&self) -> &[usize]
         ensures { result.now ≡ (lent_col self.now).indices }
     {
         self.row_indices.as_slice()
     }
 
-    /// Returns the values of the stored places, in the order of their rows.
+    /// Returns the values of the entries, in the order of their rows.
     pub fn values(&self) -> &[T]
         ensures { result.now ≡ (lent_col self.now).values }
     {
         &*self.values
     }
 
-    /// Returns the entry at a row, or `None` if `global_row_index` is out of bounds. Binary search.
+    /// Returns the entry at a row, `Zero` if none is stored, or `None` if `global_row_index` is out of bounds. Binary
+    /// search.
     pub fn get_entry(&self, global_row_index: usize) -> Option<SparseEntry<'_, T>>
         ensures { IsLentEntryOf (lent_col self.now) global_row_index result }
     {
@@ -99,7 +100,7 @@ impl<'a, T> CscColMut<'a, T> {
         )
     }
 
-    /// Returns the values of the stored places, borrowed mutably.
+    /// Returns the values of the entries, borrowed mutably.
     pub fn values_mut(&mut self) -> &mut [T]
         ensures* writes_back { sem 𝓛 (LendsColValues T.row self.entry result) }
         ensures values { result.now ≡ (lent_col self.old).values }
@@ -107,7 +108,7 @@ impl<'a, T> CscColMut<'a, T> {
         &mut *self.values
     }
 
-    /// Returns the rows of the stored places, and their values borrowed mutably.
+    /// Returns the rows of the entries, and their values borrowed mutably.
     pub fn rows_and_values_mut(&mut self) -> (&[usize], &mut [T])
         ensures* writes_back { sem 𝓛 (LendsColValues T.row self.entry result.1) }
         ensures rows { result.0.now ≡ (lent_col self.old).indices }
@@ -117,7 +118,8 @@ impl<'a, T> CscColMut<'a, T> {
         (rows, self.values_mut())
     }
 
-    /// Returns the entry at a row, borrowed mutably, or `None` if `global_row_index` is out of bounds. Binary search.
+    /// Returns the entry at a row, borrowed mutably, `Zero` if none is stored, or `None` if `global_row_index` is out
+    /// of bounds. Binary search.
     pub fn get_entry_mut(&mut self, global_row_index: usize) -> Option<SparseEntryMut<'_, T>>
         ensures* writes_back { sem 𝓛 (LendsColEntry T.row self.entry global_row_index result) }
         ensures entry { IsLaneEntryMutOf (lent_col self.old) global_row_index result }
@@ -125,7 +127,7 @@ impl<'a, T> CscColMut<'a, T> {
         into_entry(self.find_mut(global_row_index))
     }
 
-    // The value at a row, or why there is none.
+    // Returns the value stored at a row, borrowed mutably, or why there is none.
     fn find_mut(&mut self, row: usize) -> Found<'_, T>
         ensures* writes_back { sem 𝓛 (LendsColFound T.row self.entry row result) }
         ensures found { IsLaneFoundAt (lent_col self.old) row result }
@@ -145,7 +147,8 @@ impl<'a, T> CscColMut<'a, T> {
         }
     }
 
-    // The value at a position of the column.
+    // Returns the value at an offset of the column, borrowed mutably. `position` must be less than the number of
+    // values.
     fn at_mut(&mut self, position: usize) -> &mut T
         requires { position < length (lent_col self.old).values }
         ensures* writes_back { sem 𝓛 (LendsColAt T.row self.entry position result) }
@@ -155,8 +158,7 @@ impl<'a, T> CscColMut<'a, T> {
     }
 }
 
-/// An iterator over the columns of a CSC matrix, including those without stored places, that borrows their values
-/// mutably.
+/// An iterator over the columns of a CSC matrix, including those without entries, that borrows their values mutably.
 #[derive(Drop)]
 pub struct CscColIterMut<'a, T> {
     lanes: CsLaneIterMut<'a, T>,

@@ -22,13 +22,13 @@ use std::marker::PhantomData;
 pub struct CsrRowMut<'a, T> {
     ncols: usize,
     col_indices: LaneIndices<'a>,
-    /// The values of the stored places, in the order of their columns. They are borrowed for as long as the matrix is.
+    /// The values of the entries, in the order of their columns. They are borrowed for as long as the matrix is.
     pub values: &'a mut [T],
     lent: PhantomData<&'a mut T>,
 }
 
 impl<'a, T> CsrRowMut<'a, T> {
-    // The lane as a row.
+    // Returns a lane as a row.
     fn new(lane: CsLaneMut<'a, T>) -> Self
         ensures same_reference { (row_values result).ghost_name ≡ lane.entry.values.ghost_name }
         ensures row { lent_row result ≡ lent_lane lane.entry }
@@ -66,28 +66,29 @@ impl<'a, T> CsrRowMut<'a, T> {
         self.ncols
     }
 
-    /// Returns the number of stored places in the row, including those whose value is zero.
+    /// Returns the number of entries of the row, including those whose value is zero.
     pub fn nnz(&self) -> usize
         ensures { result ≡ length (lent_row self.now).indices }
     {
         self.col_indices.len()
     }
 
-    /// Returns the columns of the stored places, strictly increasing.
+    /// Returns the columns of the entries, strictly increasing.
     pub fn col_indices(&self) -> &[usize]
         ensures { result.now ≡ (lent_row self.now).indices }
     {
         self.col_indices.as_slice()
     }
 
-    /// Returns the values of the stored places, in the order of their columns.
+    /// Returns the values of the entries, in the order of their columns.
     pub fn values(&self) -> &[T]
         ensures { result.now ≡ (lent_row self.now).values }
     {
         &*self.values
     }
 
-    /// Returns the entry at a column, or `None` if `global_col_index` is out of bounds. Binary search.
+    /// Returns the entry at a column, `Zero` if none is stored, or `None` if `global_col_index` is out of bounds.
+    /// Binary search.
     pub fn get_entry(&self, global_col_index: usize) -> Option<SparseEntry<'_, T>>
         ensures { IsLentEntryOf (lent_row self.now) global_col_index result }
     {
@@ -99,7 +100,7 @@ impl<'a, T> CsrRowMut<'a, T> {
         )
     }
 
-    /// Returns the values of the stored places, borrowed mutably.
+    /// Returns the values of the entries, borrowed mutably.
     pub fn values_mut(&mut self) -> &mut [T]
         ensures* writes_back { sem 𝓛 (LendsRowValues T.row self.entry result) }
         ensures values { result.now ≡ (lent_row self.old).values }
@@ -107,7 +108,7 @@ impl<'a, T> CsrRowMut<'a, T> {
         &mut *self.values
     }
 
-    /// Returns the columns of the stored places, and their values borrowed mutably.
+    /// Returns the columns of the entries, and their values borrowed mutably.
     pub fn cols_and_values_mut(&mut self) -> (&[usize], &mut [T])
         ensures* writes_back { sem 𝓛 (LendsRowValues T.row self.entry result.1) }
         ensures cols { result.0.now ≡ (lent_row self.old).indices }
@@ -117,8 +118,8 @@ impl<'a, T> CsrRowMut<'a, T> {
         (cols, self.values_mut())
     }
 
-    /// Returns the entry at a column, borrowed mutably, or `None` if `global_col_index` is out of bounds. Binary
-    /// search.
+    /// Returns the entry at a column, borrowed mutably, `Zero` if none is stored, or `None` if `global_col_index` is
+    /// out of bounds. Binary search.
     pub fn get_entry_mut(&mut self, global_col_index: usize) -> Option<SparseEntryMut<'_, T>>
         ensures* writes_back { sem 𝓛 (LendsRowEntry T.row self.entry global_col_index result) }
         ensures entry { IsLaneEntryMutOf (lent_row self.old) global_col_index result }
@@ -126,7 +127,7 @@ impl<'a, T> CsrRowMut<'a, T> {
         into_entry(self.find_mut(global_col_index))
     }
 
-    // The value at a column, or why there is none.
+    // Returns the value stored at a column, borrowed mutably, or why there is none.
     fn find_mut(&mut self, col: usize) -> Found<'_, T>
         ensures* writes_back { sem 𝓛 (LendsRowFound T.row self.entry col result) }
         ensures found { IsLaneFoundAt (lent_row self.old) col result }
@@ -146,7 +147,7 @@ impl<'a, T> CsrRowMut<'a, T> {
         }
     }
 
-    // The value at a position of the row.
+    // Returns the value at an offset of the row, borrowed mutably. `position` must be less than the number of values.
     fn at_mut(&mut self, position: usize) -> &mut T
         requires { position < length (lent_row self.old).values }
         ensures* writes_back { sem 𝓛 (LendsRowAt T.row self.entry position result) }
@@ -156,7 +157,7 @@ impl<'a, T> CsrRowMut<'a, T> {
     }
 }
 
-/// An iterator over the rows of a CSR matrix, including those without stored places, that borrows their values mutably.
+/// An iterator over the rows of a CSR matrix, including those without entries, that borrows their values mutably.
 #[derive(Drop)]
 pub struct CsrRowIterMut<'a, T> {
     lanes: CsLaneIterMut<'a, T>,

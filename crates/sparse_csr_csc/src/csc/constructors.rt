@@ -1,4 +1,4 @@
-//! CSC matrices made of arrays, of a pattern with values, and the identity.
+//! Constructors of CSC matrices from arrays and from a pattern with values, and the identity.
 
 ghost use Rattle.std.specs.Prelude.{◌≡◌, ◌≢◌, ◌⊎◌, length, IfOk, IfErr, IsOk, OnOk, IsOkUnless};
 ghost use Rattle.sparse_algebra.specs.Plain.{plain_identity};
@@ -16,9 +16,9 @@ use sparse_pattern::pattern::{SparsityPattern, SparsityPatternFormatError};
 use std::alloc::{AllocError, Global};
 
 impl<T> CscMatrix<T> {
-    /// Returns the matrix of a pattern, whose lanes are the columns, and its values. Nothing is tested.
+    /// Returns the matrix of a pattern, whose lanes are the columns, and its values. Nothing is checked.
     ///
-    /// There must be one value for each place of the pattern. Constant time. Allocates nothing.
+    /// There must be one value for each entry of the pattern. Constant time. Allocates nothing.
     ///
     /// # Examples
     ///
@@ -41,15 +41,14 @@ impl<T> CscMatrix<T> {
 }
 
 impl<T: Drop> CscMatrix<T> {
-    /// Returns the matrix of arrays whose columns are sorted by row.
+    /// Returns the matrix with these arrays, whose columns must be sorted by row.
     ///
-    /// Linear in the number of columns and stored places. Allocates nothing.
+    /// Linear in the number of columns and entries. Allocates nothing.
     ///
     /// # Errors
     ///
     /// Returns the first fault: that of the offsets and indices, in the order of
-    /// [`SparsityPattern::try_from_offsets_and_indices`](sparse_pattern::pattern::SparsityPattern::try_from_offsets_and_indices),
-    /// and then the number of values. The arrays are dropped.
+    /// [`SparsityPattern::try_from_offsets_and_indices`], and then the number of values. The arrays are dropped.
     pub fn try_from_csc_data(
         nrows: usize,
         ncols: usize,
@@ -75,7 +74,7 @@ impl<T: Drop> CscMatrix<T> {
 
     /// Returns the matrix of a pattern, whose lanes are the columns, and its values.
     ///
-    /// Returns `InvalidStructure` if the number of values is not the number of places; pattern and values are then
+    /// Returns `InvalidStructure` if the number of values is not the number of entries; pattern and values are then
     /// dropped. Allocates nothing.
     pub fn try_from_pattern_and_values(
         pattern: SparsityPattern,
@@ -94,7 +93,7 @@ impl<T: Drop> CscMatrix<T> {
     }
 }
 
-// A fault as an error, with its text in the words of columns.
+// Returns the error that reports a fault, with a message that speaks of columns.
 fn error_of(fault: SortedFault) -> SparseFormatError
     ensures { result ≡ sorted_kind fault }
 {
@@ -137,7 +136,7 @@ impl<T: Ring> CscMatrix<T> {
 }
 
 impl<T: Copy> CscMatrix<T> {
-    /// Returns the matrix of arrays whose columns need not be sorted. Each value moves with its row index.
+    /// Returns the matrix with these arrays, whose columns need not be sorted. Each value moves with its row index.
     ///
     /// Columns that are already sorted take one pass and no memory. Other columns are sorted.
     ///

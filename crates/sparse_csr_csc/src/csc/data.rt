@@ -1,4 +1,4 @@
-//! CSC matrices as data.
+//! Conversion of CSC matrices from and to the data struct that `serde` reads and writes.
 
 ghost use Rattle.std.specs.Prelude.{◌≡◌, IfOk, IfErr, IsOk, OnOk};
 ghost use Rattle.sparse_compressed.specs.Compressed.{IsSound};
@@ -11,9 +11,9 @@ use sparse_pattern::error::SparseFormatError;
 use std::alloc::{AllocError, Global};
 
 impl<T> CscMatrix<T> {
-    /// Returns the matrix of the data, or its first fault, as [`CscMatrix::try_from_csc_data`] does.
+    /// Returns the matrix of the data, or the error of its first fault, as [`CscMatrix::try_from_csc_data`] does.
     ///
-    /// Linear in columns and places. Allocates nothing. Invalid data is dropped.
+    /// Linear in columns and entries. Allocates nothing. Invalid data is dropped.
     pub fn try_from_data(source: CscData<T>) -> Result<CscMatrix<T>, SparseFormatError>
     where
         T: Drop,

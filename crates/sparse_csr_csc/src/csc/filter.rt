@@ -1,4 +1,4 @@
-//! Selection of stored places of a CSC matrix.
+//! Selection of entries of a CSC matrix.
 
 ghost use Rattle.std.specs.Prelude.{◌≡◌, ℕ, Bool, map, IfOk};
 ghost use Rattle.std.specs.List.{filter};
@@ -10,12 +10,11 @@ use super::CscMatrix;
 use std::alloc::{AllocError, Global};
 
 impl<T: Copy> CscMatrix<T> {
-    /// Returns a matrix of the same shape with the stored places (row, column) for which `predicate` returns `true`,
-    /// and their values.
+    /// Returns a matrix of the same shape with the entries (row, column, value) for which `predicate` returns `true`.
     ///
-    /// The predicate is called once for each stored place, including those whose value is zero, column by column, rows
-    /// increasing. It must be callable with any arguments. Linear in columns and places; the memory is proportional to
-    /// the columns and the places kept. Fails only if an allocation fails.
+    /// The predicate is called once for each entry, including those whose value is zero, column by column, rows
+    /// increasing. It must be callable with any arguments. Linear in columns and entries; the memory is proportional to
+    /// the columns and the entries kept. Fails only if an allocation fails.
     pub fn filter<P>(&self, alloc: Global, predicate: P) -> Result<Self, AllocError>
     where
         P: Fn(usize, usize, &T) -> bool,
@@ -36,7 +35,7 @@ impl<T: Copy> CscMatrix<T> {
         })
     }
 
-    /// Returns a matrix of the same shape with the stored places (i, j) where `i <= j`. Cost and errors are those of
+    /// Returns a matrix of the same shape with the entries (i, j) where `i <= j`. Cost and errors are those of
     /// [`CscMatrix::filter`].
     pub fn upper_triangle(&self, alloc: Global) -> Result<Self, AllocError>
         ensures sizes { IfOk result (HasSizesOf self.now) }
@@ -48,7 +47,7 @@ impl<T: Copy> CscMatrix<T> {
         self.filter(alloc, |row, column, _| row <= column)
     }
 
-    /// Returns a matrix of the same shape with the stored places (i, j) where `i >= j`. Cost and errors are those of
+    /// Returns a matrix of the same shape with the entries (i, j) where `i >= j`. Cost and errors are those of
     /// [`CscMatrix::filter`].
     pub fn lower_triangle(&self, alloc: Global) -> Result<Self, AllocError>
         ensures sizes { IfOk result (HasSizesOf self.now) }
@@ -60,8 +59,7 @@ impl<T: Copy> CscMatrix<T> {
         self.filter(alloc, |row, column, _| row >= column)
     }
 
-    /// Returns a matrix of the same shape with the stored places (i, i). Cost and errors are those of
-    /// [`CscMatrix::filter`].
+    /// Returns a matrix of the same shape with the entries (i, i). Cost and errors are those of [`CscMatrix::filter`].
     pub fn diagonal_as_csc(&self, alloc: Global) -> Result<Self, AllocError>
         ensures sizes { IfOk result (HasSizesOf self.now) }
         ensures kept { IfOk result

@@ -1,4 +1,4 @@
-//! CSR matrices made of arrays, of a pattern with values, and the identity.
+//! Constructors of CSR matrices from arrays and from a pattern with values, and the identity.
 
 ghost use Rattle.std.specs.Prelude.{◌≡◌, ◌≢◌, ◌⊎◌, length, IfOk, IfErr, IsOk, OnOk, IsOkUnless};
 ghost use Rattle.sparse_algebra.specs.Plain.{plain_identity};
@@ -16,9 +16,9 @@ use sparse_pattern::pattern::{SparsityPattern, SparsityPatternFormatError};
 use std::alloc::{AllocError, Global};
 
 impl<T> CsrMatrix<T> {
-    /// Returns the matrix of a pattern, whose lanes are the rows, and its values. Nothing is tested.
+    /// Returns the matrix of a pattern, whose lanes are the rows, and its values. Nothing is checked.
     ///
-    /// There must be one value for each place of the pattern. Constant time. Allocates nothing.
+    /// There must be one value for each entry of the pattern. Constant time. Allocates nothing.
     ///
     /// # Examples
     ///
@@ -41,15 +41,14 @@ impl<T> CsrMatrix<T> {
 }
 
 impl<T: Drop> CsrMatrix<T> {
-    /// Returns the matrix of arrays whose rows are sorted by column.
+    /// Returns the matrix with these arrays, whose rows must be sorted by column.
     ///
-    /// Linear in the number of rows and stored places. Allocates nothing.
+    /// Linear in the number of rows and entries. Allocates nothing.
     ///
     /// # Errors
     ///
     /// Returns the first fault: that of the offsets and indices, in the order of
-    /// [`SparsityPattern::try_from_offsets_and_indices`](sparse_pattern::pattern::SparsityPattern::try_from_offsets_and_indices),
-    /// and then the number of values. The arrays are dropped.
+    /// [`SparsityPattern::try_from_offsets_and_indices`], and then the number of values. The arrays are dropped.
     ///
     /// # Examples
     ///
@@ -89,7 +88,7 @@ impl<T: Drop> CsrMatrix<T> {
 
     /// Returns the matrix of a pattern, whose lanes are the rows, and its values.
     ///
-    /// Returns `InvalidStructure` if the number of values is not the number of places; pattern and values are then
+    /// Returns `InvalidStructure` if the number of values is not the number of entries; pattern and values are then
     /// dropped. Allocates nothing.
     pub fn try_from_pattern_and_values(
         pattern: SparsityPattern,
@@ -108,7 +107,7 @@ impl<T: Drop> CsrMatrix<T> {
     }
 }
 
-// A fault as an error, with its text in the words of rows.
+// Returns the error that reports a fault, with a message that speaks of rows.
 fn error_of(fault: SortedFault) -> SparseFormatError
     ensures { result ≡ sorted_kind fault }
 {
@@ -160,7 +159,7 @@ impl<T: Ring> CsrMatrix<T> {
 }
 
 impl<T: Copy> CsrMatrix<T> {
-    /// Returns the matrix of arrays whose rows need not be sorted. Each value moves with its column index.
+    /// Returns the matrix with these arrays, whose rows need not be sorted. Each value moves with its column index.
     ///
     /// Rows that are already sorted take one pass and no memory. Other rows are sorted.
     ///

@@ -1,4 +1,4 @@
-//! Selection of stored places of a CSR matrix.
+//! Selection of entries of a CSR matrix.
 
 ghost use Rattle.std.specs.Prelude.{◌≡◌, ℕ, Bool, IfOk};
 ghost use Rattle.std.specs.List.{filter};
@@ -10,12 +10,11 @@ use super::CsrMatrix;
 use std::alloc::{AllocError, Global};
 
 impl<T: Copy> CsrMatrix<T> {
-    /// Returns a matrix of the same shape with the stored places (row, column) for which `predicate` returns `true`,
-    /// and their values.
+    /// Returns a matrix of the same shape with the entries (row, column, value) for which `predicate` returns `true`.
     ///
-    /// The predicate is called once for each stored place, including those whose value is zero, row by row, columns
-    /// increasing. It must be callable with any arguments. Linear in rows and places; the memory is proportional to the
-    /// rows and the places kept. Fails only if an allocation fails.
+    /// The predicate is called once for each entry, including those whose value is zero, row by row, columns
+    /// increasing. It must be callable with any arguments. Linear in rows and entries; the memory is proportional to
+    /// the rows and the entries kept. Fails only if an allocation fails.
     ///
     /// # Examples
     ///
@@ -42,7 +41,7 @@ impl<T: Copy> CsrMatrix<T> {
         })
     }
 
-    /// Returns a matrix of the same shape with the stored places (i, j) where `i <= j`. Cost and errors are those of
+    /// Returns a matrix of the same shape with the entries (i, j) where `i <= j`. Cost and errors are those of
     /// [`CsrMatrix::filter`].
     ///
     /// # Examples
@@ -63,7 +62,7 @@ impl<T: Copy> CsrMatrix<T> {
         self.filter(alloc, |row, column, _| row <= column)
     }
 
-    /// Returns a matrix of the same shape with the stored places (i, j) where `i >= j`. Cost and errors are those of
+    /// Returns a matrix of the same shape with the entries (i, j) where `i >= j`. Cost and errors are those of
     /// [`CsrMatrix::filter`].
     pub fn lower_triangle(&self, alloc: Global) -> Result<Self, AllocError>
         ensures sizes { IfOk result (HasSizesOf self.now) }
@@ -74,8 +73,7 @@ impl<T: Copy> CsrMatrix<T> {
         self.filter(alloc, |row, column, _| row >= column)
     }
 
-    /// Returns a matrix of the same shape with the stored places (i, i). Cost and errors are those of
-    /// [`CsrMatrix::filter`].
+    /// Returns a matrix of the same shape with the entries (i, i). Cost and errors are those of [`CsrMatrix::filter`].
     pub fn diagonal_as_csr(&self, alloc: Global) -> Result<Self, AllocError>
         ensures sizes { IfOk result (HasSizesOf self.now) }
         ensures kept { IfOk result

@@ -1,4 +1,4 @@
--- `get_entry_mut` passes on what `find_mut` lends, as an entry.
+-- Proof by hand: `get_entry_mut` returns the value that `find_mut` borrows mutably, as an entry.
 use Rattle.sparse_rows_cols.proofs.Walking.{◌≡◌, refl, sym, ap, ◌∙◌, subst, List, [], ◌∷◌, Val, w64}
 use Rattle.sparse_rows_cols.proofs.Walking.{named, a_type, inst_fn, emp, id⊢, GName, ‵, raw, ◌⊛◌}
 use Rattle.sparse_rows_cols.proofs.Walking.{some, later, ◌$◌, ◌∵◌, !, qed, done, move, drop, use1}
@@ -80,7 +80,7 @@ get_entry_mut_spec 𝓤 𝓛 𝓜 𝓡 wired T L =
     (shows 𝓛 Got) r (v ∷ []) (λ is-got.
     move ! (2 ∷ []) $ pick ! (λ ws. split ! $ drop ! $ split ! $ move ! (1 ∷ []) $ split ! $ heard
     ! _ (λ found. heard ! _ (λ sound.
-    -- [what the matrix follows; what was found; the tokens]
+    -- hypotheses: the matrix follows what was found; what was found; the lifetime tokens
     lands_as ! refl refl
     (((found_laws (named_lft 2 0 tt κs) (param 0 T) (param_laws 0 T L)).lawful 𝓛).typed r (v ∷ [])
     is-got).0 $
@@ -99,7 +99,7 @@ get_entry_mut_spec 𝓤 𝓛 𝓜 𝓡 wired T L =
     await ! tt $ pick ! (λ e. split ! $ split ! $ move ! (1 ∷ []) $ peeks ! Out (Is Out)
     (shows 𝓛 Out) e (u ∷ []) (λ is-out.
     move ! (2 ∷ []) $ pick ! (λ ws'. split ! $ drop ! $ heard ! _ (λ same.
-    -- [the entry; the tokens; what the matrix follows]
+    -- hypotheses: the entry; the lifetime tokens; the matrix follows what was found
     lands_as ! refl refl
     (((option_laws Entry (entry_laws (named_lft 2 0 tt κs) (param 0 T) (param_laws 0 T L))).lawful
     𝓛).typed e (u ∷ []) is-out).0 $

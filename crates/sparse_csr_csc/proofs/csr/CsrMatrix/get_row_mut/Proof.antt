@@ -1,4 +1,5 @@
--- `get_row_mut` lends a row of the core that `cs_with_row` lends, where it lends it.
+-- Proof by hand: `get_row_mut` returns a row of the storage that `cs_with_row` borrows mutably, or
+-- `None` if it returns `None`.
 use Rattle.sparse_rows_cols.proofs.Walking.{refl, List, [], ◌∷◌, w64, named, a_type, Val, inst_fn}
 use Rattle.sparse_rows_cols.proofs.Walking.{◌$◌, !, done, move, join, fjoin, suffices, frame, usize}
 use Rattle.sparse_rows_cols.proofs.Walking.{yes, no, param, layouts, param_laws, uint_vals}
@@ -97,7 +98,8 @@ get_row_mut_spec 𝓤 𝓛 𝓜 𝓡 wired T L =
     via 𝓤 (E.pre x) (with_facts 𝓤 within (i < m.now.pattern.major_dim)
     (on_entry 𝓛 (h.signature T) κs qs (m, (i, tt)) (mut_vals m, (uint_vals w64 i, tt))) le has)
     (of_met 𝓤 𝓛 𝓜 𝓡 (code.calls-sparse_rows_cols::row_mut::CsrRowMut::of 𝓡.env wired) T L x))
-    -- from [the row, if there is one; the tokens; what the matrix follows]
+    -- hypotheses: the row, if there is one; the lifetime tokens; the matrix follows the values of
+    -- the row
     (λ r v inside is-lane sound.
     suffices ! _ (ends_at 𝓛 (f.ended T) (stayed T) c y v r (tt, (tt, tt)) (tt, (tt, tt))) $
     nothing ! $ nothing ! $ fjoin ! $ nothing ! $ fjoin ! $ join ! $ move ! (1 ∷ 0 ∷ []) $ join ! $

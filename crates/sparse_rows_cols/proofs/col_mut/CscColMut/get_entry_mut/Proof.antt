@@ -1,4 +1,4 @@
--- `get_entry_mut` passes on what `find_mut` lends, as an entry: a walk over the two calls.
+-- Proof by hand: `get_entry_mut` returns the value that `find_mut` borrows mutably, as an entry.
 use Rattle.sparse_rows_cols.proofs.Walking.{◌≡◌, refl, sym, ap, ◌∙◌, subst, List, [], ◌∷◌, Val, w64}
 use Rattle.sparse_rows_cols.proofs.Walking.{named, a_type, inst_fn, emp, id⊢, GName, flft, ‵, raw}
 use Rattle.sparse_rows_cols.proofs.Walking.{◌⊛◌, some, later, ◌$◌, ◌∵◌, !, qed, done, move, drop}
@@ -82,12 +82,13 @@ get_entry_mut_spec 𝓤 𝓛 𝓜 𝓡 wired T L =
     (shows 𝓛 Got) r (v ∷ []) (λ is-got.
     move ! (2 ∷ []) $ pick ! (λ ws. split ! $ drop ! $ split ! $ move ! (1 ∷ []) $ heard ! _
     (λ found.
-    -- [what the row follows; what was found; the tokens]
+    -- hypotheses: the column follows what was found; what was found; the lifetime tokens
     lands_as ! refl refl
     (((found_laws (named_lft 3 0 tt κs) (param 0 T) (param_laws 0 T L)).lawful 𝓛).typed r (v ∷ [])
     is-got).0 $
     move ! (2 ∷ []) $ split ! $ move ! (1 ∷ []) $ split ! $ move ! (2 ∷ 1 ∷ []) $ join ! $
-    -- [two tokens; that of the row's own lifetime; what the row follows; what was found]
+    -- hypotheses: two tokens; the token of the column's own lifetime; the column follows what was
+    -- found; what was found
     move ! (3 ∷ []) $ nothing ! $ move ! (1 ∷ 0 ∷ []) $ fjoin ! $ move ! (1 ∷ 0 ∷ []) $ join ! $
     let E = triple_of 𝓛 (h.signature T) (h.spec T 𝓛 𝓜.mem 𝓡.returns) in
     let κs' : Lfts 2 = (κs.0, (κs.1.1.0, tt)) in let qs' : Shares 2 = (qs.0, (qs.1.1.0, tt)) in
@@ -104,7 +105,8 @@ get_entry_mut_spec 𝓤 𝓛 𝓜 𝓡 wired T L =
     await ! tt $ pick ! (λ e. split ! $ split ! $ move ! (1 ∷ []) $ peeks ! Out (Is Out)
     (shows 𝓛 Out) e (u ∷ []) (λ is-out.
     move ! (2 ∷ []) $ pick ! (λ ws'. split ! $ drop ! $ heard ! _ (λ same.
-    -- [the entry; two tokens; that of the row's own lifetime; what the row follows]
+    -- hypotheses: the entry; two tokens; the token of the column's own lifetime; the column follows
+    -- what was found
     lands_as ! refl refl
     (((option_laws Entry (entry_laws (named_lft 3 0 tt κs) (param 0 T) (param_laws 0 T L))).lawful
     𝓛).typed e (u ∷ []) is-out).0 $

@@ -1,4 +1,4 @@
--- `at_mut` lends one value of what `values_mut` lends.
+-- Proof by hand: `at_mut` borrows one value mutably from the slice that `values_mut` borrows.
 use Rattle.sparse_rows_cols.proofs.Walking.{◌≡◌, refl, sym, subst, List, [], ◌∷◌, length, Val, ◌<◌}
 use Rattle.sparse_rows_cols.proofs.Walking.{w64, named, a_type, inst_fn, emp, id⊢, flft, ftrue, ‵}
 use Rattle.sparse_rows_cols.proofs.Walking.{raw, ◌⊛◌, some, later, ◌$◌, ◌∵◌, !, qed, done, move}
@@ -81,10 +81,11 @@ at_mut_spec 𝓤 𝓛 𝓜 𝓡 wired T L =
     (shows 𝓛 Got) r (v ∷ []) (λ is-got.
     move ! (2 ∷ []) $ pick ! (λ ws. split ! $ drop ! $ split ! $ move ! (1 ∷ []) $ heard ! _
     (λ same.
-    -- [what the row follows; the slice; the tokens]
+    -- hypotheses: the row follows the slice; the slice; the lifetime tokens
     lands_as ! refl refl ((mut_slice_Lawful 𝓛 (named 0) κs.0 P).typed r (v ∷ []) is-got).0 $
     move ! (2 ∷ []) $ split ! $ move ! (1 ∷ []) $ split ! $ move ! (2 ∷ 1 ∷ []) $ join ! $
-    -- [two tokens; that of the row's own lifetime; what the row follows; the slice]
+    -- hypotheses: two tokens; the token of the row's own lifetime; the row follows the slice; the
+    -- slice
     nothing ! $ owned ! usize _ (uint_Makes 𝓛 w64) k _ (refl, are.1.0.1) $ fjoin ! $ move !
     (4 ∷ 0 ∷ []) $ fjoin ! $ move ! (1 ∷ 0 ∷ []) $ join ! $
     let E = triple_of 𝓛 (h.signature T) (h.spec T 𝓛 𝓜.mem 𝓡.returns) in
@@ -108,8 +109,8 @@ at_mut_spec 𝓤 𝓛 𝓜 𝓡 wired T L =
     (shows 𝓛 Out) w (u ∷ []) (λ is-out.
     move ! (2 ∷ []) $ pick ! (λ ws'. split ! $ drop ! $ split ! $ move ! (1 ∷ []) $ heard ! _
     (λ value.
-    -- [what the slice follows; the value; two tokens; that of the row's own lifetime; what the row
-    -- follows]
+    -- hypotheses: the slice follows the value; the value; two tokens; the token of the row's own
+    -- lifetime; the row follows the slice
     lands_as ! refl refl ((mut_Lawful 𝓛 (named 0) κs.0 P).typed w (u ∷ []) is-out).0 $ move !
     (4 ∷ 0 ∷ []) $
     use2 𝓛 (‵ (follows R P x.ghost_name w.ghost_name
