@@ -1,4 +1,4 @@
-//! Compressed matrices made from arrays that C passes.
+//! Compressed matrices from arrays that C passes.
 
 ghost use Rattle.std.specs.Prelude.{◌≡◌, IfOk, IfErr, OnOk};
 ghost use Rattle.sparse_pattern.specs.Raw.{IsValid, raw_of};

@@ -33,7 +33,7 @@ pub enum Refusal {
     InvalidText,
     /// The header of a text has a combination of format, field and symmetry that is not allowed.
     InvalidHeader,
-    /// A text has not as many entries as its size line says.
+    /// The number of entries of a text is not that of its size line.
     EntryMismatch,
     /// A text has an entry that is not a 64-bit integer.
     TypeMismatch,

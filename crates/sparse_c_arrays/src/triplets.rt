@@ -1,4 +1,4 @@
-//! Coordinate lists made from arrays that C passes.
+//! Coordinate lists from arrays that C passes.
 
 ghost use Rattle.std.specs.Prelude.{◌≡◌, IfOk, IfErr, OnOk};
 ghost use Rattle.sparse_coo_dense.specs.Coo.{AreParts};

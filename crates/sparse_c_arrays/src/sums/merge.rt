@@ -43,7 +43,7 @@ pub(crate) fn merge_parts<T: Number>(
 }
 
 // Merges both lanes until one of them ends. Returns how many entries of each were merged, and the offset after the last
-// entry written. No branch but the test of the loop depends on the data, since branches on indices are mispredicted.
+// entry written. The only branch is the test of the loop: one that depends on indices would be mispredicted.
 #[inline(always)]
 fn merge_fronts<T: Number>(
     a: &Part<'_, T>,

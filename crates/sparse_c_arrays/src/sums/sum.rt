@@ -80,7 +80,7 @@ pub fn write_sum<T: Number>(
     0
 }
 
-// Returns the matrix in these arrays with its scale, or the first fault of the arrays. The arrays are not copied.
+// Returns the matrix in these arrays with its scale, or the error for their first fault. The arrays are not copied.
 fn term<'a, T: Number>(factor: T, lanes: Lanes<'a>) -> Result<Term<'a, T>, Refusal>
     ensures factor { IfOk result (λ t. t.factor ≡ factor) }
     ensures matrix { IfOk result (λ t. t.matrix ≡ lanes.entry) }
