@@ -1,4 +1,4 @@
--- What a call promises at a refusal, and of a matrix that it writes by rows.
+-- The contract of a call that fails, and of a call that writes a matrix by rows (`WritesRows`).
 use Rattle.std.proofs.Common.{◌≡◌, ◌≢◌, ℕ, ℤ, pos, Result, Ok, Err, inl, inr, ap, sym, subst}
 use Rattle.std.proofs.Common.{◌∙◌, refl, arith}
 use Rattle.std.specs.Prelude.{nat_abs, IfOk, IfErr, MatchResult, OnErr, OnOk}
@@ -22,7 +22,7 @@ small_not_zero status small zero =
     let same : pos 5 ≡ pos 0 = sym small ∙ zero in
     five (ap nat_abs same)
 
--- ---- the size that a call tells, where no fault has the status TOO_SMALL
+-- ---- the size that a call writes, if no fault has the status TOO_SMALL
 
 module _ {X : Type 0} (Q : X → Type 0) (status : ℤ) where
   pub size_told : {P N : X → Type 0} {Fault : Refusal → Type 0} (answer : Result X Refusal)
@@ -92,14 +92,14 @@ module _ (R : CommRing) {T : Type 0} (f : T → R.Carrier) (a : Plain R) {Sound 
     refused = λ h. (e, refused written, inl fault);
   }
 
--- the same with the status as the caller sees it
+-- WritesRows for an equal status, which the caller sees
 pub seen_rows : {R : CommRing} {Sound : Type 0} {Fault : Refusal → Type 0} {a : Plain R}
     {before after : Room} {status seen : ℤ} → seen ≡ status
     → WritesRows Sound Fault a before after status → WritesRows Sound Fault a before after seen
 seen_rows {R} {Sound} {Fault} {a} {before} {after} same made =
     subst (λ (s : ℤ). WritesRows Sound Fault a before after s) (sym same) made
 
--- the same with another name of the matrix
+-- WritesRows for an equal plain matrix
 pub same_rows : {R : CommRing} {Sound : Type 0} {Fault : Refusal → Type 0} {a b : Plain R}
     {before after : Room} {status : ℤ} → a ≡ b
     → WritesRows Sound Fault a before after status → WritesRows Sound Fault b before after status

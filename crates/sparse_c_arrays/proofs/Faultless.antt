@@ -1,4 +1,4 @@
--- Where the operands of a call have no fault: where its status says so.
+-- Which statuses imply that the operands have no fault (`FindsNoFault`).
 use Rattle.std.proofs.Common.{◌≡◌, ◌≢◌, ℕ, ℤ, pos, Result, Ok, Err, inl, inr, ap, subst, ◌∙◌, arith}
 use Rattle.std.specs.Prelude.{IfErr, MatchResult, OnOk, nat_abs, List}
 use Rattle.sparse_compressed.specs.Compressed.{Compressed}
@@ -11,7 +11,7 @@ use Rattle.sparse_c_arrays.specs.Statuses.{number_of, refusal_of, FindsNoFault}
 use Rattle.sparse_c_arrays.specs.declared.refusal.Refusal.{Refusal}
 use Rattle.sparse_c_arrays.specs.declared.refusal.Refusal.TheVariants.{OutOfMemory}
 
--- any other number is the status of a fault
+-- no other number than 0, 5 and 6 is such a status
 pub other : (n : ℕ) → n ≢ 0 → n ≢ 5 → n ≢ 6 → FindsNoFault (pos n) → ⊥
 other n zero small singular told = elim told [
   | inl e ↦ zero (ap nat_abs e)
@@ -21,7 +21,7 @@ other n zero small singular told = elim told [
   ]
 ]
 
--- ---- a refusal for a fault has such a status
+-- ---- the status of an error that a fault of the operands gives is none of them
 
 pub kind_told : (kind : SparseFormatErrorKind) → FindsNoFault (number_of (refusal_of kind)) → ⊥
 kind_told kinds.OutOfMemory = other 1 (omega arith) (omega arith) (omega arith)
@@ -57,7 +57,7 @@ pub system_told : (m : Compressed ℤ) (rows cols : ℕ) (values : List ℤ) (e 
 system_told m rows cols values e (inl fault) = matrix_told m e fault
 system_told m rows cols values e (inr fault) = told_of kinds.InvalidStructure e fault.1.0
 
--- ---- so the operands have no fault where an answer has none, or its refusal is for none
+-- ---- so at these statuses the operands have no fault
 
 module _ {X Sound : Type 0} {Fault : Refusal → Type 0} (P Q : X → Type 0) where
   pub accepted : (answer : Result X Refusal) (status seen : ℤ) → seen ≡ status

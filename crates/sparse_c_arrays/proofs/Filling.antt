@@ -3,7 +3,7 @@ use Rattle.std.proofs.Common.{◌≡◌, ℕ, ℤ, ◌+◌, ◌-◌, ◌≤◌, 
 use Rattle.std.proofs.lemmas.List.{drop-drop}
 use Rattle.sparse_c_arrays.specs.InnerFilling.{IsFilled}
 
--- what is kept behind a position is kept behind a later one
+-- an array that is unchanged from an offset on is unchanged from a later one on
 pub behind : {T : Type 0} (n m : ℕ) (old new : List T) → n ≤ m → drop n new ≡ drop n old
     → drop m new ≡ drop m old
 behind n m old new le same =

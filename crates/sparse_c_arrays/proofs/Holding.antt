@@ -1,4 +1,4 @@
--- Arrays that hold a matrix.
+-- Arrays that hold a matrix once its arrays are copied into them.
 use Rattle.std.proofs.Common.{◌≡◌, ℕ, ℤ, ◌*◌, ◌≤◌, List, length, map, take, ap, sym}
 use Rattle.std.proofs.Common.{subst, ◌∙◌, arith}
 use Rattle.sparse_algebra.specs.Algebra.{CommRing}
@@ -13,7 +13,7 @@ use Rattle.sparse_coo_dense.proofs.Meanings.{dense-meant, same_length}
 use Rattle.sparse_c_arrays.proofs.Meanings.{places_of-rows, rows-meant}
 
 module _ (R : CommRing) {T : Type 0} (f : T → R.Carrier) where
-  -- the arrays begin with those of a matrix
+  -- arrays that begin with those of a sound matrix hold its plain matrix
   pub HoldsRows-put : (m : Compressed T) → IsSound m
       → (os is : List ℕ) (vs : List ℤ) (places : ℕ)
       → take (length m.pattern.offsets) os ≡ m.pattern.offsets
@@ -37,7 +37,7 @@ module _ (R : CommRing) {T : Type 0} (f : T → R.Carrier) where
         places = count ∙ sym (places_of-rows R f m sound);
       }
 
-  -- the array begins with the values of a dense matrix
+  -- an array that begins with the values of a dense matrix holds its plain matrix
   pub HoldsDense-put : (d : Dense T) → length d.values ≡ d.nrows * d.ncols → (vs : List ℤ)
       → length d.values ≤ length vs → map (element_of R) (take (length d.values) vs) ≡ map f d.values
       → HoldsDense (plain_of_dense R f d) vs

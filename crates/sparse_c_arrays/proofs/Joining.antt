@@ -1,4 +1,4 @@
--- What a call promises, from what it read, what it computed and how it ended.
+-- The contract of a call, from what was read, what was computed and the status.
 use Rattle.std.proofs.Common.{◌≡◌, ℕ, ℤ, Result, Ok, Err, inl, inr, ap, subst, ◌∙◌, refl}
 use Rattle.std.specs.Prelude.{IfOk, IfErr, MatchResult}
 use Rattle.sparse_algebra.specs.Algebra.{CommRing}
@@ -12,14 +12,14 @@ use Rattle.sparse_c_arrays.specs.Statuses.{number_of}
 use Rattle.sparse_c_arrays.specs.declared.refusal.Refusal.{Refusal}
 use Rattle.sparse_c_arrays.specs.declared.refusal.Refusal.TheVariants.{TooSmall}
 
--- two facts on an answer
+-- two facts about the value of an answer
 pub both : {X : Type 0} (P Q : X → Type 0) (answer : Result X Refusal) → IfOk answer P
     → IfOk answer Q → IfOk answer (λ x. P x × Q x)
 both P Q (Ok x) p q = (p, q)
 both P Q (Err e) p q = q
 
 module _ {X : Type 0} {P Q : X → Type 0} (answer : Result X Refusal) (known : IfOk answer P) where
-  -- what was written, and what is known of it
+  -- if a value was written, it exists, and what is known of the answer holds for it
   pub found : MatchResult answer Q (λ _. ⊥) → (x : X) × (P x × Q x)
   found q = find answer known q
     where
@@ -27,8 +27,8 @@ module _ {X : Type 0} {P Q : X → Type 0} (answer : Result X Refusal) (known : 
       find (Ok x) p q = (x, (p, q))
       find (Err e) p never = absurd never
 
-  -- why nothing was written: the fault that was given, or what is too small for what is known; the
-  -- caller sees the status as `seen`
+  -- if nothing was written, the status is that of the error of the answer, or of an array that is too small for its
+  -- value; the caller sees the status as `seen`
   pub refused : {Given Fault : Refusal → Type 0} {Small : Type 0} (status seen : ℤ)
       → seen ≡ status → IfErr answer (IsMemoryOr Given) → ((e : Refusal) → Given e → Fault e)
       → ((x : X) → P x → Q x → Small)

@@ -25,7 +25,7 @@ module _ {T : Type 0} (f : T → ℤ) where
     pub length-valued : length (map (value_triplet f) m.triplets) ≡ length m.triplets
     length-valued = length-map m.triplets (value_triplet f)
 
-    -- the front of an array, copied from a part of the triplets
+    -- the beginning of an array, copied from the rows, the columns or the values of the triplets
     front : {X Y : Type 0} (xs : List X) (ys zs : List Y) (part : ℕ × ℕ × T → X)
         → xs ≡ map part m.triplets → take (length xs) ys ≡ zs
         → take (length (map (value_triplet f) m.triplets)) ys ≡ zs

@@ -1,4 +1,4 @@
--- Compressed matrices of scalars and of the integers that mean them have one plain matrix.
+-- Compressed matrices of scalars and of the integers that represent them have the same plain matrix.
 use Rattle.std.proofs.Common.{◌≡◌, ℕ, List, [], ◌∷◌, length, map, ap, sym}
 use Rattle.std.proofs.Common.{◌∙◌, refl, arith}
 use Rattle.std.specs.Prelude.{◌||◌}
@@ -24,7 +24,7 @@ module _ {X Y : Type 0} (h : X → Y) where
   list_any-meant i j (p ∷ ps) (v ∷ vs) =
       ap (λ b. is_at i j (p.0, p.1, v) || b) (list_any-meant i j ps vs)
 
--- ---- the ring elements may be taken first
+-- ---- a matrix of scalars has the plain matrix of the elements that they represent
 
 module _ (R : CommRing) {X : Type 0} (f : X → R.Carrier) where
   sum_by-meant : (i j : ℕ) (ps : List (ℕ × ℕ)) (vs : List X)
@@ -43,7 +43,7 @@ module _ (R : CommRing) {X : Type 0} (f : X → R.Carrier) where
       (plain_of_triplets R (λ x. x) rows cols (zip_values ps (map f vs))) refl refl
       (λ i j. list_any-meant f i j ps vs) (λ i j. sum_by-meant i j ps vs)
 
--- ---- two lists with the same ring elements
+-- ---- two lists of values that represent the same elements
 
 module _ (R : CommRing) {X Y : Type 0} (f : X → R.Carrier) (g : Y → R.Carrier) where
   pub rows-meant : (p : Raw) (xs : List X) (ys : List Y) → map f xs ≡ map g ys

@@ -1,4 +1,4 @@
--- The sum of multiples of two matrices of numbers.
+-- The sum of two scaled matrices of integers, built row by row in the arrays for the result.
 use Rattle.std.proofs.Common.{◌≡◌, ℕ, ℤ, pos, ◌+◌, ◌-◌, ◌<◌, ◌≤◌, ◌⊎◌, false, List, [], ◌∷◌, ◌++◌}
 use Rattle.std.proofs.Common.{length, map, take, drop, set, slice_range, Contains, ap, sym, subst}
 use Rattle.std.proofs.Common.{◌∙◌, arith}
@@ -21,7 +21,7 @@ use Rattle.sparse_c_arrays.proofs.Meanings.{places_of-rows, rows-meant}
 use Rattle.sparse_c_arrays.specs.InnerFilling.{front_meant, times_meant}
 
 module _ (R : CommRing) (s : R.Carrier) (m : Compressed ℤ) where
-  -- the matrix of s times the elements that the numbers mean
+  -- the matrix of the elements that the integers represent, multiplied by s
   abbrev pub multiple : Compressed R.Carrier
   multiple = compressed_of m.pattern (times_meant R s m.values)
 
@@ -57,7 +57,7 @@ module _ (R : CommRing) (s : R.Carrier) (m : Compressed ℤ) where
       (map-id meant))
 
 module _ (R : CommRing) (s t : R.Carrier) (a b : Compressed ℤ) where
-  -- the first n rows of the sum stand at the front of the arrays
+  -- the arrays begin with the first n rows of the sum
   abbrev pub HasRows : ℕ → ℕ → List ℕ → List ℕ → List ℤ → Type 0
   HasRows n at offsets indices numbers = IsSumBelow R (λ x. x) false (multiple R s a)
       (multiple R t b) n (take (n + 1) offsets) (take at indices) (front_meant R at numbers)

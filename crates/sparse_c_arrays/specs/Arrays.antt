@@ -1,4 +1,4 @@
--- Matrices as arrays of integers, as C has them: an integer means that many times one.
+-- Matrices as arrays of C. An integer represents that many times the one of the ring.
 use Rattle.std.specs.Prelude.{◌≡◌, ◌≤◌, ℕ, ℤ, ◌+◌, ◌*◌, List, length, take}
 use Rattle.std.specs.Int.{w64}
 use Rattle.sparse_algebra.specs.Algebra.{CommRing}
@@ -12,7 +12,7 @@ use Rattle.sparse_compressed.specs.Compressed.{Compressed, arrays_of, IsSound}
 use Rattle.sparse_compressed.specs.PlainOfLanes.{plain_of_rows, plain_of_cols}
 use Rattle.sparse_algebra.specs.Integers.{element_of}
 
--- the arrays that C lends for a matrix, and the variable for its number of places
+-- the arrays that C passes for a matrix, and the variable for its number of entries
 pub record Room : Type 0 where
   pub offsets : List ℕ
   pub indices : List ℕ
@@ -23,12 +23,12 @@ abbrev pub room_of : List ℕ → List ℕ → List ℤ → ℕ → Room
 room_of offsets indices values places =
     record { offsets = offsets; indices = indices; values = values; places = places }
 
--- the matrix of this shape at the front of the arrays
+-- the matrix of this shape at the beginning of the arrays
 abbrev pub written_in : ℕ → ℕ → Room → Compressed ℤ
 written_in rows cols r = arrays_of rows cols (take (rows + 1) r.offsets) (take r.places r.indices)
     (take r.places r.values)
 
--- how many places a plain matrix has
+-- the number of places of a plain matrix
 abbrev pub places_of : {R : CommRing} → Plain R → ℕ
 places_of {R} a = length (row_order R a)
 
@@ -45,7 +45,7 @@ module _ (R : CommRing) where
   abbrev pub plain_by_values : ℕ → ℕ → List ℤ → Plain R
   plain_by_values rows cols values = plain_of_dense R (element_of R) (dense_of rows cols values)
 
-  -- the plain matrix of lists of rows, columns and values: repeated triplets of a place are added
+  -- the plain matrix of arrays of rows, columns and values, with triplets at the same row and column added
   abbrev pub plain_of_lists : ℕ → ℕ → List ℕ → List ℕ → List ℤ → Plain R
   plain_of_lists rows cols is js vs =
       plain_of_triplets R (element_of R) rows cols (zip_triplets is js vs)
@@ -56,7 +56,7 @@ pub record HoldsRows {R : CommRing} (a : Plain R) (r : Room) : Type 0 where
   pub plain : plain_by_rows R (written_in a.rows a.cols r) ≡ a
   pub places : r.places ≡ places_of a
 
--- the same by columns: they are the rows of the transpose
+-- the same by columns, which are the rows of the transpose
 abbrev pub HoldsCols : {R : CommRing} → Plain R → Room → Type 0
 HoldsCols {R} a r = HoldsRows (plain_transpose R a) r
 
@@ -65,7 +65,7 @@ pub record HoldsDense {R : CommRing} (a : Plain R) (values : List ℤ) : Type 0 
   pub plain : plain_by_values R a.rows a.cols (take (a.rows * a.cols) values) ≡ a
   pub room : a.rows * a.cols ≤ length values
 
--- the arrays that C lends for a pattern, and the variable for its number of places
+-- the arrays that C passes for a pattern, and the variable for its number of entries
 pub record PatternRoom : Type 0 where
   pub offsets : List ℕ
   pub indices : List ℕ

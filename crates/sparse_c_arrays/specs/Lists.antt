@@ -1,8 +1,8 @@
--- Coordinate lists and texts as arrays, as C has them.
+-- Coordinate lists and texts as arrays of C.
 use Rattle.std.specs.Prelude.{◌≡◌, ◌⊎◌, ℕ, ℤ, ◌<◌, List, length, map, take}
 use Rattle.sparse_coo_dense.specs.Coo.{Coo}
 
--- the arrays that C lends for a coordinate list, and the variable for its number of triplets
+-- the arrays that C passes for a coordinate list, and the variable for its number of triplets
 pub record ListRoom : Type 0 where
   pub rows : List ℕ
   pub cols : List ℕ
@@ -20,12 +20,12 @@ pub record HoldsList (m : Coo ℤ) (r : ListRoom) : Type 0 where
   pub values : take (length m.triplets) r.values ≡ map (λ t. t.2) m.triplets
   pub count : r.count ≡ length m.triplets
 
--- an array has no room for the triplets of the list
+-- an array is too small for the triplets of the list
 abbrev pub IsListTooSmall : Coo ℤ → ListRoom → Type 0
 IsListTooSmall m r = (length r.rows < length m.triplets)
     ⊎ ((length r.cols < length m.triplets) ⊎ (length r.values < length m.triplets))
 
--- the buffer begins with the text, which has this length
+-- the buffer begins with the text, whose length is size
 pub record HoldsText (text buffer : List ℕ) (size : ℕ) : Type 0 where
   pub bytes : take (length text) buffer ≡ text
   pub size_is : size ≡ length text

@@ -1,4 +1,4 @@
--- When a call is refused, and with which status.
+-- When a call fails, and with which status.
 use Rattle.std.specs.Prelude.{◌≡◌, ◌≢◌, ◌⊎◌, ℕ, ℤ, ◌+◌, ◌*◌, ◌<◌, List, length}
 use Rattle.sparse_algebra.specs.Algebra.{CommRing}
 use Rattle.sparse_algebra.specs.Plain.{Plain}
@@ -15,49 +15,49 @@ use Rattle.sparse_c_arrays.specs.declared.refusal.Refusal.{Refusal}
 use Rattle.sparse_c_arrays.specs.declared.refusal.Refusal.TheVariants.{InvalidStructure}
 use Rattle.sparse_c_arrays.specs.declared.refusal.Refusal.TheVariants.{OutOfMemory, TooSmall}
 
--- an array has no room for the matrix by rows
+-- an array is too small for the matrix by rows
 abbrev pub IsTooSmall : {R : CommRing} → Plain R → Room → Type 0
 IsTooSmall a r = (length r.offsets < a.rows + 1)
     ⊎ ((length r.indices < places_of a) ⊎ (length r.values < places_of a))
 
--- an array has no room for the pattern
+-- an array is too small for the pattern
 abbrev pub IsPatternTooSmall : Raw → PatternRoom → Type 0
 IsPatternTooSmall d r =
     (length r.offsets < length d.offsets) ⊎ (length r.indices < length d.indices)
 
--- the first fault of the arrays by lanes gives this refusal
+-- the first fault of the arrays of a compressed matrix gives this error
 pub record IsFaultOf (m : Compressed ℤ) (refusal : Refusal) : Type 0 where
   pub kind : SparseFormatErrorKind
   pub first : IsSortedRefusal m kind
   pub is : refusal ≡ refusal_of kind
 
--- the first fault of the arrays of a pattern gives this refusal
+-- the first fault of the arrays of a pattern gives this error
 pub record IsFaultOfPattern (d : Raw) (refusal : Refusal) : Type 0 where
   pub error : SparsityPatternFormatError
   pub first : IsFirstFault d error
   pub is : refusal ≡ refusal_of (kind_of error)
 
--- the first fault of the lists of triplets gives this refusal
+-- the first fault of the arrays of a coordinate list gives this error
 pub record IsFaultOfList (rows cols : ℕ) (row_indices col_indices : List ℕ) (values : List ℤ)
     (refusal : Refusal) : Type 0 where
   pub kind : SparseFormatErrorKind
   pub first : IsFirstTripletFault rows cols row_indices col_indices (length values) kind
   pub is : refusal ≡ refusal_of kind
 
--- the values of a dense matrix are not as many as its shape says
+-- the number of values of a dense matrix is not that of its shape, and this is the error
 abbrev pub IsMissized : ℕ → ℕ → List ℤ → Refusal → Type 0
 IsMissized rows cols values refusal =
     (refusal ≡ InvalidStructure) × (length values ≢ rows * cols)
 
--- memory was refused, or the data has a fault
+-- an allocation failed, or the data has a fault
 abbrev pub IsMemoryOr : (Refusal → Type 0) → Refusal → Type 0
 IsMemoryOr Fault refusal = (refusal ≡ OutOfMemory) ⊎ Fault refusal
 
--- the first matrix has a fault, or it has none and the second has one
+-- the first matrix has a fault, or else the second one has
 abbrev pub IsFaultOfPair : Compressed ℤ → Compressed ℤ → Refusal → Type 0
 IsFaultOfPair m n refusal = IsFaultOf m refusal ⊎ (IsSound m × IsFaultOf n refusal)
 
--- the same for a matrix and the values of a dense matrix
+-- the matrix has a fault, or else the values of the dense matrix have
 abbrev pub IsFaultOfSystem : Compressed ℤ → ℕ → ℕ → List ℤ → Refusal → Type 0
 IsFaultOfSystem m rows cols values refusal =
     IsFaultOf m refusal ⊎ (IsSound m × IsMissized rows cols values refusal)
@@ -66,12 +66,12 @@ IsFaultOfSystem m rows cols values refusal =
 abbrev pub IsSystemSound : Compressed ℤ → ℕ → ℕ → List ℤ → Type 0
 IsSystemSound m rows cols values = IsSound m × (length values ≡ rows * cols)
 
--- the status of a call that is refused: memory was refused, the operands have a fault, or an array is
--- too small for the result
+-- the status of a call that fails: an allocation failed, the operands have a fault, or an array is too small for the
+-- result
 abbrev pub IsRefusedFor : (Refusal → Type 0) → Type 0 → ℤ → Type 0
 IsRefusedFor Fault Small status = (refusal : Refusal) × (status ≡ number_of refusal)
     × (IsMemoryOr Fault refusal ⊎ ((refusal ≡ TooSmall) × Small))
 
--- the same of a call that writes a matrix by rows
+-- the same for a call that writes a matrix by rows
 abbrev pub IsRefused : {R : CommRing} → (Refusal → Type 0) → Plain R → Room → ℤ → Type 0
 IsRefused Fault a r status = IsRefusedFor Fault (IsTooSmall a r) status

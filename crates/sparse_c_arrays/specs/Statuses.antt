@@ -11,7 +11,7 @@ use Rattle.sparse_parser.specs.declared.error.MatrixMarketErrorKind.TheVariants 
 use Rattle.sparse_c_arrays.specs.declared.refusal.Refusal.{Refusal}
 use Rattle.sparse_c_arrays.specs.declared.refusal.Refusal.TheVariants as refusals
 
--- the status of a refusal; 0 is the status of a call that is not refused
+-- the status of an error; the status of a call without an error is 0
 abbrev pub number_of : Refusal → ℤ
 number_of refusals.OutOfMemory = pos 1
 number_of refusals.InvalidStructure = pos 2
@@ -32,19 +32,19 @@ number_of refusals.Unreadable = pos 16
 number_of refusals.EmptyHandle = pos 17
 number_of refusals.ShapeMismatch = pos 18
 
--- the status of a call whose operands have no fault: 0, or that of TooSmall or of Singular
+-- a status from which it follows that the operands have no fault: 0, TooSmall or Singular
 abbrev pub FindsNoFault : ℤ → Type 0
 FindsNoFault status = (status ≡ pos 0)
     ⊎ ((status ≡ number_of refusals.TooSmall) ⊎ (status ≡ number_of refusals.Singular))
 
--- the refusal of data with an error of this kind
+-- the error of a call whose arrays have a fault of this kind
 abbrev pub refusal_of : SparseFormatErrorKind → Refusal
 refusal_of kinds.IndexOutOfBounds = refusals.IndexOutOfBounds
 refusal_of kinds.DuplicateEntry = refusals.DuplicateEntry
 refusal_of kinds.InvalidStructure = refusals.InvalidStructure
 refusal_of kinds.OutOfMemory = refusals.OutOfMemory
 
--- the refusal of an operation with an error of this kind
+-- the error of a call whose operation fails with an error of this kind
 abbrev pub refusal_of_operation : OperationErrorKind → Refusal
 refusal_of_operation operations.Singular = refusals.Singular
 refusal_of_operation operations.InvalidPattern = refusals.InvalidStructure
@@ -54,7 +54,7 @@ refusal_of_operation operations.OutOfMemory = refusals.OutOfMemory
 abbrev pub kind_of_text : MatrixMarketError → MatrixMarketErrorKind
 kind_of_text error = kind_of error
 
--- the refusal of a text with an error of this kind
+-- the error of a call whose text has an error of this kind
 abbrev pub refusal_of_text : MatrixMarketErrorKind → Refusal
 refusal_of_text texts.ParsingError = refusals.InvalidText
 refusal_of_text texts.InvalidHeader = refusals.InvalidHeader

@@ -1,26 +1,26 @@
--- What a refused call leaves of the arrays for its result: all but the size, which tells what is needed
--- where an array is too small.
+-- A call that fails leaves the arrays for its result unchanged. It writes only the size of the result, if an array is
+-- too small.
 use Rattle.std.specs.Prelude.{◌≡◌, ◌≢◌, ℕ, ℤ}
 use Rattle.sparse_c_arrays.specs.Arrays.{pattern_room_of, room_of, PatternRoom, Room}
 use Rattle.sparse_c_arrays.specs.Lists.{list_room_of, ListRoom}
 use Rattle.sparse_c_arrays.specs.Statuses.{number_of}
 use Rattle.sparse_c_arrays.specs.declared.refusal.Refusal.TheVariants.{TooSmall}
 
--- a size is as it was before a call with this status, unless it tells what is needed
+-- the size is unchanged by a call with this status, except at TooSmall, where it is the size that is needed
 abbrev pub KeepsSize : ℤ → ℕ → ℕ → Type 0
 KeepsSize status old new = status ≢ number_of TooSmall → new ≡ old
 
--- the arrays for a matrix are as they were, and so is the number of places
+-- the arrays for a matrix are unchanged, and so is the number of entries but at TooSmall
 abbrev pub IsUntouched : ℤ → Room → Room → Type 0
 IsUntouched status old new = (room_of new.offsets new.indices new.values old.places ≡ old)
     × KeepsSize status old.places new.places
 
--- the arrays for a pattern are as they were, and so is the number of places
+-- the arrays for a pattern are unchanged, and so is the number of entries but at TooSmall
 abbrev pub IsPatternUntouched : ℤ → PatternRoom → PatternRoom → Type 0
 IsPatternUntouched status old new = (pattern_room_of new.offsets new.indices old.places ≡ old)
     × KeepsSize status old.places new.places
 
--- the arrays for triplets are as they were, and so is their number
+-- the arrays for triplets are unchanged, and so is their number but at TooSmall
 abbrev pub IsListUntouched : ℤ → ListRoom → ListRoom → Type 0
 IsListUntouched status old new = (list_room_of new.rows new.cols new.values old.count ≡ old)
     × KeepsSize status old.count new.count

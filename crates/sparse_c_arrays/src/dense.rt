@@ -1,4 +1,4 @@
-//! Dense matrices out of arrays from outside.
+//! Dense matrices from arrays that C passes.
 
 ghost use Rattle.std.specs.Prelude.{◌≡◌, ◌*◌, length, IfOk, IfErr, OnOk};
 ghost use Rattle.sparse_coo_dense.specs.DensePlain.{plain_of_dense};

@@ -1,4 +1,4 @@
-//! Compressed matrices out of arrays from outside.
+//! Compressed matrices from arrays that C passes.
 
 ghost use Rattle.std.specs.Prelude.{◌≡◌, IfOk, IfErr, OnOk};
 ghost use Rattle.sparse_pattern.specs.Raw.{IsValid, raw_of};
@@ -16,7 +16,7 @@ use sparse_pattern::pattern::SparsityPattern;
 use std::alloc::Global;
 use std::marker::Model;
 
-/// The arrays of a matrix by rows, or by columns, as they come from outside: nothing is known of them.
+/// The arrays of a matrix by rows, or by columns, as C passes them. They may violate any rule of the format.
 #[derive(Drop)]
 pub struct Lanes<'a> {
     /// The number of rows, or of columns.
@@ -45,7 +45,7 @@ impl<'a> Lanes<'a> {
     ///
     /// # Errors
     ///
-    /// Returns the first fault of the arrays. Otherwise fails only if an allocation fails.
+    /// Returns the error for the first fault of the arrays. Otherwise fails only if an allocation fails.
     pub fn rows<T: Number>(self, alloc: Global) -> Result<CsrMatrix<T>, Refusal>
         ensures pattern { IfOk result (λ m. m.pattern ≡ self.entry.pattern) }
         ensures plain { IfOk result (λ m. plain_of_rows T.ring T.value m
@@ -61,7 +61,7 @@ impl<'a> Lanes<'a> {
     ///
     /// # Errors
     ///
-    /// Returns the first fault of the arrays. Otherwise fails only if an allocation fails.
+    /// Returns the error for the first fault of the arrays. Otherwise fails only if an allocation fails.
     pub fn columns<T: Number>(self, alloc: Global) -> Result<CscMatrix<T>, Refusal>
         ensures pattern { IfOk result (λ m. m.pattern ≡ self.entry.pattern) }
         ensures plain { IfOk result (λ m. plain_of_cols T.ring T.value m
@@ -74,7 +74,7 @@ impl<'a> Lanes<'a> {
     }
 }
 
-// The matrix of arrays by rows.
+// Returns the matrix with these arrays by rows, which are copied.
 fn rows_of<T: Number>(
     alloc: Global,
     shape: (usize, usize),
@@ -98,11 +98,11 @@ fn rows_of<T: Number>(
     Ok(CsrMatrix::try_from_csr_data(rows, cols, offsets, indices, values)?)
 }
 
-/// Returns the pattern with these arrays.
+/// Returns the pattern with these arrays, which are copied.
 ///
 /// # Errors
 ///
-/// Returns the first fault of the arrays. Otherwise fails only if an allocation fails.
+/// Returns the error for the first fault of the arrays. Otherwise fails only if an allocation fails.
 pub fn pattern_of(
     alloc: Global,
     major_dim: usize,

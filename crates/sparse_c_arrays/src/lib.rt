@@ -1,4 +1,5 @@
-//! What the calls for C share: arrays from outside, statuses, results written into arrays, and sums of arrays.
+//! What the functions for C share: matrices and lists in arrays that C passes, statuses, results written into arrays of
+//! C, and sums of matrices in such arrays.
 #![tactic(auto)]
 
 pub mod dense;

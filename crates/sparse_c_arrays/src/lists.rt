@@ -1,4 +1,4 @@
-//! Coordinate lists written into arrays that C lends.
+//! Coordinate lists written into arrays that C passes.
 
 ghost use Rattle.std.specs.Prelude.{◌≡◌, ◌≢◌, length, pos, IfOk, MatchResult, OnErr};
 ghost use Rattle.sparse_algebra.specs.Numbers.{w64_number};
@@ -13,8 +13,8 @@ use crate::scalars::{put_items, put_numbers};
 use sparse_algebra::scalar::W64;
 use sparse_coo_dense::coo::CooMatrix;
 
-/// Writes the triplets of an answer into arrays, and their number. Returns the status of the call: 0, or that of the
-/// refusal; the arrays are then unchanged. Where they are too small, the number of triplets is written alone.
+/// Writes the triplets of an answer into arrays, and their number into `count`. Returns the status of the call: 0, or
+/// the status of the error; the arrays are then unchanged. If an array is too small, only the number is written.
 ///
 /// An array may be longer than the list needs.
 pub fn finish_list(
@@ -44,7 +44,8 @@ pub fn finish_list(
     }
 }
 
-// Writes triplets into arrays that have room for them, and their number in any case.
+// Writes the number of triplets, and the triplets if no array is too small. Returns 0, or the status of arrays that are
+// too small.
 fn write_list(
     list: &CooMatrix<W64>,
     rows: &mut [usize],

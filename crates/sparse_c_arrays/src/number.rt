@@ -1,4 +1,4 @@
-//! Scalars that C shows as 64-bit integers.
+//! Scalars that are 64-bit integers in the arrays of C.
 
 ghost use Rattle.std.specs.Prelude.{◌≡◌, ◌≤◌, ℤ};
 ghost use Rattle.sparse_algebra.specs.Integers.{element_of};
@@ -6,16 +6,16 @@ ghost use Rattle.sparse_c_arrays.specs.Reduced.{IsReduced};
 
 use sparse_algebra::scalar::{Mod, Ring, Units, W64};
 
-/// Scalars that are shown as integers of 64 bits.
+/// A scalar that the arrays of C represent by a 64-bit integer.
 pub trait Number: Units {
-    // Which integers show scalars.
+    // The integers that `number` may return.
     ghost is_shown: { ℤ → Type 0 };
 
-    /// Returns the scalar that an integer means: that many times one.
+    /// Returns the scalar that an integer represents: that many times one.
     fn from_number(number: i64) -> Self
         ensures { Self.value result ≡ element_of Self.ring number };
 
-    /// Returns an integer that means the scalar.
+    /// Returns an integer that represents the scalar.
     fn number(self) -> i64
         ensures means { element_of Self.ring result ≡ Self.value self }
         ensures shown { is_shown result };
@@ -33,7 +33,7 @@ impl Number for W64 {
     }
 }
 
-// A residue is shown by the number from 0 to `M - 1`, less `M` if that has 64 bits.
+// The integer of a residue is its representative from 0 to `M - 1`, less `M` if that representative needs 64 bits.
 impl<const M: u64> Number for Mod<M> {
     ghost is_shown = { λ z. M ≤ 9223372036854775808 → IsReduced M z };
 

@@ -1,4 +1,4 @@
-//! Patterns written into arrays that C lends.
+//! Patterns written into arrays that C passes.
 
 ghost use Rattle.std.specs.Prelude.{◌≡◌, ◌≢◌, length, pos, IfOk, MatchResult, OnErr};
 ghost use Rattle.sparse_c_arrays.specs.Arrays.{pattern_room_of, HoldsPattern};
@@ -11,8 +11,9 @@ use crate::refusal::Refusal;
 use crate::scalars::put_items;
 use sparse_pattern::pattern::SparsityPattern;
 
-/// Writes the pattern of an answer into arrays, and its number of places. Returns the status of the call: 0, or that of
-/// the refusal; the arrays are then unchanged. Where they are too small, the number of places is written alone.
+/// Writes the pattern of an answer into arrays, and its number of entries into `places`. Returns the status of the
+/// call: 0, or the status of the error; the arrays are then unchanged. If an array is too small, only `places` is
+/// written.
 ///
 /// An array may be longer than the pattern needs.
 pub fn finish_pattern(
@@ -41,7 +42,8 @@ pub fn finish_pattern(
     }
 }
 
-// Writes a pattern into arrays that have room for it, and its number of places in any case.
+// Writes the number of entries of a pattern, and the pattern if no array is too small. Returns 0, or the status of
+// arrays that are too small.
 fn write_pattern(
     pattern: &SparsityPattern,
     offsets: &mut [usize],

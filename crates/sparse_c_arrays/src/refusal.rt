@@ -1,4 +1,4 @@
-//! Why a call is refused, and the status that C sees.
+//! The errors of calls from C, and the status of each.
 
 ghost use Rattle.std.specs.Prelude.{◌≡◌};
 ghost use Rattle.sparse_pattern.specs.PatternFaults.{kind_of};
@@ -12,32 +12,32 @@ use sparse_pattern::error::{SparseFormatError, SparseFormatErrorKind};
 use sparse_pattern::pattern::SparsityPatternFormatError;
 use std::alloc::AllocError;
 
-/// Why a call is refused. Each reason has a status of its own, which the header lists.
+/// The error of a call. Each one has a status, an integer that the header lists.
 #[derive(Clone, Copy, Debug, PartialEq, Eq)]
 pub enum Refusal {
     /// An allocation failed.
     OutOfMemory,
-    /// The arrays have lengths, offsets or an order that the format does not allow.
+    /// The lengths, the offsets or the order of the arrays violate a rule of the format.
     InvalidStructure,
     /// A row or a column index is out of bounds.
     IndexOutOfBounds,
-    /// The same place is given more than once.
+    /// Two entries have the same row and column.
     DuplicateEntry,
     /// An array for the result is too small.
     TooSmall,
-    /// A value that must have an inverse has none.
+    /// A value that must have a multiplicative inverse has none.
     Singular,
-    /// A number that chooses among cases is none of those that the call knows.
+    /// An argument that selects a case has an unknown value.
     UnknownChoice,
     /// A text does not match the grammar, or a number in it is out of range.
     InvalidText,
-    /// The format, the field and the symmetry of a text's header do not go together.
+    /// The header of a text has a combination of format, field and symmetry that is not allowed.
     InvalidHeader,
-    /// The number of entries of a text is not the one of its size line.
+    /// The number of entries of a text is not that of its size line.
     EntryMismatch,
-    /// A text has an entry that is no integer of 64 bits.
+    /// A text has an entry that is not a 64-bit integer.
     TypeMismatch,
-    /// An index of a text is zero.
+    /// A row or column index of a text is zero.
     ZeroIndex,
     /// A skew-symmetric matrix has an entry on its diagonal.
     DiagonalEntry,
@@ -49,12 +49,12 @@ pub enum Refusal {
     Unreadable,
     /// A handle has no matrix.
     EmptyHandle,
-    /// The shapes of the matrices behind handles do not fit.
+    /// The shapes of the matrices behind handles do not match.
     ShapeMismatch,
 }
 
 impl Refusal {
-    /// Returns the status of the refusal, which is not 0.
+    /// Returns the status of the error, which is not 0.
     pub fn status(self) -> i32
         ensures { result ≡ number_of self }
     {
@@ -80,7 +80,7 @@ impl Refusal {
         }
     }
 
-    /// Returns the refusal of data with an error of this kind.
+    /// Returns the error of a call whose arrays have a fault of this kind.
     pub fn of_format(kind: SparseFormatErrorKind) -> Refusal
         ensures { result ≡ refusal_of kind }
     {
@@ -92,7 +92,7 @@ impl Refusal {
         }
     }
 
-    /// Returns the refusal of an operation with an error of this kind.
+    /// Returns the error of a call whose operation fails with an error of this kind.
     pub fn of_operation(kind: OperationErrorKind) -> Refusal
         ensures { result ≡ refusal_of_operation kind }
     {
@@ -103,7 +103,7 @@ impl Refusal {
         }
     }
 
-    /// Returns the refusal of a text with an error of this kind.
+    /// Returns the error of a call whose text has an error of this kind.
     pub fn of_text(kind: MatrixMarketErrorKind) -> Refusal
         ensures { result ≡ refusal_of_text kind }
     {

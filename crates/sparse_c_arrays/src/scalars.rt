@@ -1,4 +1,4 @@
-//! Lists of scalars out of integers and into integers.
+//! Conversions between scalars and the integers that represent them.
 
 ghost use Rattle.std.specs.Prelude.{◌≡◌, ◌≤◌, length, map, take, drop, IfOk};
 ghost use Rattle.sparse_algebra.specs.Numbers.{w64_number};
@@ -9,7 +9,7 @@ use crate::number::Number;
 use sparse_algebra::scalar::W64;
 use std::alloc::{AllocError, Global};
 
-/// Returns the scalars that integers mean. Fails only if an allocation fails.
+/// Returns the scalars that integers represent. Fails only if an allocation fails.
 pub fn scalars_of<T: Number>(alloc: Global, numbers: &[i64]) -> Result<Vec<T>, AllocError>
     ensures { IfOk result (λ scalars. map T.value scalars.items ≡ map (element_of T.ring) numbers.now) }
 {
@@ -20,7 +20,7 @@ pub fn scalars_of<T: Number>(alloc: Global, numbers: &[i64]) -> Result<Vec<T>, A
     Ok(scalars)
 }
 
-/// Writes integers that mean the scalars to the front of a slice, which must have room for them.
+/// Writes integers that represent the scalars to the beginning of a slice, which must have room for them.
 pub fn put_scalars<T: Number>(target: &mut [i64], source: &[T])
     requires room { length source.now ≤ length target.old }
     ensures written { map (element_of T.ring) (take (length source.now) target.new) ≡ map T.value source.now }
@@ -32,7 +32,7 @@ pub fn put_scalars<T: Number>(target: &mut [i64], source: &[T])
     }
 }
 
-/// Writes the representatives of wrapping integers to the front of a slice, which must have room for them.
+/// Writes the representatives of wrapping integers to the beginning of a slice, which must have room for them.
 pub fn put_numbers(target: &mut [i64], source: &[W64])
     requires room { length source.now ≤ length target.old }
     ensures written { take (length source.now) target.new ≡ map w64_number source.now }
@@ -43,7 +43,7 @@ pub fn put_numbers(target: &mut [i64], source: &[W64])
     }
 }
 
-/// Copies items to the front of a slice, which must have room for them.
+/// Copies items to the beginning of a slice, which must have room for them.
 pub fn put_items<T: Copy>(target: &mut [T], source: &[T])
     requires room { length source.now ≤ length target.old }
     ensures written { take (length source.now) target.new ≡ source.now }

@@ -1,4 +1,4 @@
-//! Sums of matrices from outside, merged straight into the arrays of their result.
+//! Sums of matrices in arrays that C passes, merged straight into the arrays for the result.
 
 mod merge;
 mod parts;

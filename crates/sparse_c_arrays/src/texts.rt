@@ -1,4 +1,4 @@
-//! Texts written into buffers that C lends.
+//! Texts written into buffers that C passes.
 
 ghost use Rattle.std.specs.Prelude.{◌≡◌, ◌≢◌, ◌<◌, length, pos};
 ghost use Rattle.std.specs.Prelude.{string_bytes, IfOk, MatchResult, OnErr};
@@ -10,8 +10,8 @@ ghost use Rattle.sparse_c_arrays.specs.declared.refusal.Refusal.TheVariants.{Too
 use crate::refusal::Refusal;
 use crate::scalars::put_items;
 
-/// Writes the text of an answer into a buffer, and its length. Returns the status of the call: 0, or that of the
-/// refusal; the buffer is then unchanged. Where it is too small, the length is written alone.
+/// Writes the text of an answer into a buffer, and its length in bytes into `size`. Returns the status of the call: 0,
+/// or the status of the error; the buffer is then unchanged. If the buffer is too small, only the length is written.
 ///
 /// The buffer may be longer than the text.
 pub fn finish_text(answer: Result<String, Refusal>, buffer: &mut [u8], size: &mut usize) -> i32
@@ -31,7 +31,8 @@ pub fn finish_text(answer: Result<String, Refusal>, buffer: &mut [u8], size: &mu
     }
 }
 
-// Writes bytes into a buffer that has room for them, and their number in any case.
+// Writes the number of bytes, and the bytes if the buffer is not too small. Returns 0, or the status of a buffer that
+// is too small.
 fn write_bytes(bytes: &[u8], buffer: &mut [u8], size: &mut usize) -> i32
     ensures written { result ≡ pos 0 → HoldsText bytes.now buffer.new size.new }
     ensures rest { result ≡ pos 0 → KeepsBehind size.new buffer.old buffer.new }

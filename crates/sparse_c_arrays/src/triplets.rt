@@ -1,4 +1,4 @@
-//! Coordinate lists out of arrays from outside.
+//! Coordinate lists from arrays that C passes.
 
 ghost use Rattle.std.specs.Prelude.{◌≡◌, IfOk, IfErr, OnOk};
 ghost use Rattle.sparse_coo_dense.specs.Coo.{AreParts};
@@ -12,11 +12,11 @@ use crate::scalars::scalars_of;
 use sparse_coo_dense::coo::CooMatrix;
 use std::alloc::Global;
 
-/// Returns the coordinate list of rows, columns and values.
+/// Returns the coordinate list with these rows, columns and values, which are copied.
 ///
 /// # Errors
 ///
-/// Returns the first fault of the lists. Otherwise fails only if an allocation fails.
+/// Returns the error for the first fault of the arrays. Otherwise fails only if an allocation fails.
 pub fn list_of<T: Number>(
     alloc: Global,
     rows: usize,

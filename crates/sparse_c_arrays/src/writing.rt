@@ -1,4 +1,4 @@
-//! Results written into arrays that C lends, with the status of the call.
+//! Results written into arrays that C passes, and the status of the call.
 
 ghost use Rattle.std.specs.Prelude.{◌≡◌, ◌≢◌, ◌*◌, ◌<◌, length, pos, IfOk, MatchResult, OnErr};
 ghost use Rattle.sparse_compressed.specs.PlainOfLanes.{plain_of_rows};
@@ -16,8 +16,9 @@ use crate::scalars::{put_items, put_scalars};
 use sparse_coo_dense::dense::DMatrix;
 use sparse_csr_csc::csr::CsrMatrix;
 
-/// Writes the matrix of an answer into arrays by rows, and its number of places. Returns the status of the call: 0, or
-/// that of the refusal; the arrays are then unchanged. Where they are too small, the number of places is written alone.
+/// Writes the matrix of an answer into arrays by rows, and its number of entries into `places`. Returns the status of
+/// the call: 0, or the status of the error; the arrays are then unchanged. If an array is too small, only `places` is
+/// written.
 ///
 /// An array may be longer than the matrix needs.
 pub fn finish_rows<T: Number>(
@@ -50,8 +51,8 @@ pub fn finish_rows<T: Number>(
     }
 }
 
-/// Writes a matrix by rows into arrays, and its number of places. Returns 0, or the status of arrays that are too
-/// small; they are then unchanged.
+/// Writes a matrix into arrays by rows, and its number of entries into `places`. Returns 0, or the status of
+/// [`Refusal::TooSmall`] if an array is too small; the arrays and `places` are then unchanged.
 pub fn write_rows<T: Number>(
     matrix: &CsrMatrix<T>,
     offsets: &mut [usize],
@@ -90,8 +91,8 @@ pub fn write_rows<T: Number>(
     0
 }
 
-/// Writes a matrix by rows as [`write_rows`] does. Where an array is too small, writes the number of places alone, the
-/// size that is needed.
+/// Writes a matrix by rows as [`write_rows`] does. If an array is too small, writes only the number of entries, from
+/// which the caller knows the size that is needed.
 pub fn write_rows_or_count<T: Number>(
     matrix: &CsrMatrix<T>,
     offsets: &mut [usize],
@@ -121,8 +122,8 @@ pub fn write_rows_or_count<T: Number>(
     status
 }
 
-/// Writes the dense matrix of an answer into an array, column by column. Returns the status of the call: 0, or that of
-/// the refusal; the array is then unchanged.
+/// Writes the dense matrix of an answer into an array, column by column. Returns the status of the call: 0, or the
+/// status of the error; the array is then unchanged.
 ///
 /// The array may be longer than the matrix needs.
 pub fn finish_dense<T: Number>(answer: Result<DMatrix<T>, Refusal>, values: &mut [i64]) -> i32
@@ -143,7 +144,7 @@ pub fn finish_dense<T: Number>(answer: Result<DMatrix<T>, Refusal>, values: &mut
     }
 }
 
-// Writes a dense matrix into an array.
+// Writes a dense matrix into an array, column by column. Returns 0, or the status of an array that is too small.
 fn write_dense<T: Number>(matrix: &DMatrix<T>, values: &mut [i64]) -> i32
     ensures written { result ≡ pos 0
         → HoldsDense (plain_of_dense T.ring T.value matrix.now) values.new }

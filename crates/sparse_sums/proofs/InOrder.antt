@@ -1,4 +1,4 @@
--- A lane that is traversed beside a target lane that has its indices.
+-- One pass over a sorted target lane that finds each index of a sorted lane.
 use Rattle.std.proofs.Common.{◌≡◌, ◌≢◌, ℕ, ◌+◌, ◌<◌, ◌≤◌, ◌⊎◌, inl, inr, ◌↔◌, List, length}
 use Rattle.std.proofs.Common.{get_or, set, take, Contains, ap, sym, subst, ◌∙◌, refl, arith}
 use Rattle.std.specs.Prelude.{nat_eq}
@@ -25,7 +25,7 @@ use Rattle.sparse_sums.proofs.Adding.{lane_value_more}
 use Rattle.sparse_sums.proofs.Merging.{more, front_less}
 use Rattle.sparse_sums.proofs.UpdatedLanes.{HasUpdatedLanes, lanes_more, at_position, off_lane}
 
--- the first k indices of the lane are among the first p of the target, and the next one is not
+-- after p indices of the target, the first k indices of the lane are found, and the next one is not among those p
 pub record IsPassed (target lane : List ℕ) (p k : ℕ) : Type 0 where
   pub most : k ≤ length lane
   pub passed : (j : ℕ) → Contains (take k lane) j → Contains (take p target) j
@@ -70,7 +70,7 @@ module _ {target lane : List ℕ} {p k : ℕ} (so_far : IsPassed target lane p k
         [ inl old ↦ so_far.missed left old | inr is ↦ differs left is ];
   }
 
--- at the end all are passed if the target has them all
+-- at the end of the target all indices of the lane are found if and only if the target has them all
 pub all_passed : {target lane : List ℕ} {p k : ℕ} → IsPassed target lane p k → p ≡ length target
     → (k ≡ length lane) ↔ HasIndicesOf target lane
 all_passed {target} {lane} {p} {k} end whole =
@@ -84,9 +84,9 @@ all_passed {target} {lane} {p} {k} end whole =
       ],
     )
 
--- ---- values that are added beside it
+-- ---- adding the values of the lane
 
--- the values while the first k entries of the lane are added
+-- the values of the target after p of its indices and k entries of the lane, which begin at the offset start
 pub record IsAddingLane (R : CommRing) {T : Type 0} (f : T → R.Carrier) (z : T)
     (alpha : R.Carrier) (target lane : List ℕ) (us : List T) (start : ℕ) (old now : List T)
     (p k : ℕ) : Type 0 where
@@ -179,7 +179,7 @@ module _ {R : CommRing} {T : Type 0} {f : T → R.Carrier} {z : T} {alpha : R.Ca
 
 -- ---- all lanes
 
--- a lane has the indices of another where it has its places
+-- lane i of d has the indices of lane i of a if and only if d has an entry wherever a has one in lane i
 pub lane_covered : (d a : Raw) → IsValid d → IsValid a → a.major_dim ≡ d.major_dim → (i : ℕ)
     → i < a.major_dim
     → HasIndicesOf (lane_of d i) (lane_of a i) ↔ ((j : ℕ) → IsPlace a i j → IsPlace d i j)

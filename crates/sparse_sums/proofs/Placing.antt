@@ -1,4 +1,4 @@
--- Entries of an operand that go to their places in a target.
+-- Looking up the entries of an operand, or of its transpose, in the pattern of a target.
 use Rattle.std.proofs.Common.{◌≡◌, ◌≢◌, ℕ, ◌⊎◌, inl, inr, true, false, List, []}
 use Rattle.std.proofs.Common.{◌∷◌, Some, None, length, get_or, set, suc, All, Contains, ap, sym}
 use Rattle.std.proofs.Common.{subst, ◌∙◌, refl, arith}
@@ -24,7 +24,7 @@ use Rattle.sparse_compressed.proofs.LaneSearch.{place_of_is_position}
 use Rattle.sparse_sums.specs.InnerPlacing.{HasPlacesOf}
 
 module _ (d : Raw) (valid : IsValid d) where
-  -- a place that a look-up misses isn't there
+  -- if the look-up of (i, j) finds nothing, the pattern has no entry there
   pub missed : (i j : ℕ) → place_of d i j ≡ None → IsPlace d i j → ⊥
   missed i j none place = none-some place.at
       (sym none ∙ (place_of_is_position d valid i j place.at).1 (place.in_lane, place.index))
@@ -33,9 +33,9 @@ module _ (d : Raw) (valid : IsValid d) where
   found_place i j p is = let at = (place_of_is_position d valid i j p).0 is in record
       { at = p; in_lane = at.0; index = at.1 }
 
--- ---- the places of a transpose
+-- ---- whether the target covers a transpose
 
--- the pairs to come are places of the operand, and each other place has its mirror in the target
+-- the operand has an entry at each (i, j) of `rest`, and for each other entry of it the target has one at (j, i)
 pub record AreCovered (d a : Raw) (rest : List (ℕ × ℕ)) : Type 0 where
   pub places : (i j : ℕ) → Contains rest (i, j) → IsPlace a i j
   pub covered : (i j : ℕ) → IsPlace a i j → Contains rest (i, j) ⊎ IsPlace d j i
@@ -73,9 +73,9 @@ all_covered end so_far i j place = elim (so_far.covered i j place) [
   | inr there ↦ there
 ]
 
--- ---- the values of a transpose
+-- ---- adding the values of a transpose
 
--- the values while the triplets of `rest` are still to be added, each at the mirror of its pair
+-- the values of the target before the triplets of `rest` are added, each with row and column exchanged
 pub record AreAdding (R : CommRing) {T : Type 0} (f : T → R.Carrier) (z : T) (d : Raw)
     (alpha : R.Carrier) (all rest : List (ℕ × ℕ × T)) (start now : List T) : Type 0 where
   pub count : length now ≡ length start
@@ -146,7 +146,7 @@ module _ {R : CommRing} {T : Type 0} {f : T → R.Carrier} {z : T} {d : Raw} {al
             ];
       }
 
--- nothing is left to add
+-- once `rest` is empty, the whole operand has been added
 pub all_added : {R : CommRing} {T : Type 0} {f : T → R.Carrier} {z : T} {d : Raw}
     {alpha : R.Carrier} (a : Compressed T) {rest : List (ℕ × ℕ × T)} {start now : List T}
     → AreAdding R f z d alpha (lane_triplets a) rest start now → rest ≡ [] → (i j p : ℕ)

@@ -1,4 +1,4 @@
--- A sum or a difference of matrices, lane after lane.
+-- The sum or the difference of two matrices, built lane by lane.
 use Rattle.std.proofs.Common.{◌≡◌, ℕ, ◌+◌, ◌<◌, ◌⊎◌, inl, inr, ◌↔◌, Bool, true, false, List, []}
 use Rattle.std.proofs.Common.{◌∷◌, ◌++◌, length, Contains, ap, sym, subst, ◌∙◌, refl, arith}
 use Rattle.std.specs.Prelude.{nat_eq}
@@ -35,7 +35,7 @@ module _ (R : CommRing) where
   signed_add true a b = neg_add R a b
   signed_add false a b = refl
 
-  -- the value in a lane of signed values
+  -- the value at an index of a lane whose values have a sign is the value of the lane with that sign
   lane_value_signed : {T : Type 0} (f : T → R.Carrier) (negate : Bool) (ks : List ℕ) (vs : List T)
       (j : ℕ)
       → lane_value R (λ x. signed R negate (f x)) ks vs j ≡ signed R negate (lane_value R f ks vs j)
@@ -52,7 +52,7 @@ module _ (R : CommRing) {T : Type 0} (f : T → R.Carrier) (negate : Bool) (a b 
   abbrev pub signed_sum : Plain R
   signed_sum = plain_sum R (plain_of_rows R f a) (plain_signed R negate (plain_of_rows R f b))
 
-  -- the first n lanes of the sum
+  -- the arrays are those of the first n lanes of the sum or the difference
   abbrev pub IsSumBelow : ℕ → List ℕ → List ℕ → List T → Type 0
   IsSumBelow n offsets indices values = IsBuiltMatrix R f a.pattern.minor_dim
       (IsEither a.pattern b.pattern) signed_sum.value n offsets indices values

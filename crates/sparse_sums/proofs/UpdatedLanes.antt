@@ -1,4 +1,4 @@
--- The values of a pattern that are updated lane after lane.
+-- The values of a pattern, updated lane by lane.
 use Rattle.std.proofs.Common.{◌≡◌, ℕ, ◌+◌, ◌-◌, ◌<◌, ◌≤◌, ◌⊎◌, inl, inr, List, length, get_or, ap}
 use Rattle.std.proofs.Common.{sym, subst, ◌∙◌, refl, arith}
 use Rattle.sparse_algebra.proofs.Cases.{lt_or_ge, lt_add_one_cases}
@@ -8,7 +8,7 @@ use Rattle.sparse_pattern.proofs.PatternLanes.{length-lane, get_or-lane}
 use Rattle.sparse_pattern.proofs.Positions.{one_lane}
 use Rattle.sparse_compressed.specs.Compressed.{IsPosition}
 
--- where a position of a lane stands in the lane
+-- the entry of lane i at the offset p is the k-th of the lane
 pub record IsAt (d : Raw) (i j p k : ℕ) : Type 0 where
   pub within : k < length (lane_of d i)
   pub back : start_of d i + k ≡ p
@@ -36,8 +36,7 @@ off_lane d i p lane none = elim (lt_or_ge p (start_of d i)) [
   ]
 ]
 
--- the lanes below n have their new values, base c + alpha * x where c was before, and those from n
--- on are as they were
+-- in the lanes below n each value c has become base c + alpha * x, and the values from lane n on are unchanged
 pub record HasUpdatedLanes (R : CommRing) {T : Type 0} (f : T → R.Carrier) (z : T) (d : Raw)
     (base : T → R.Carrier) (alpha : R.Carrier) (x : ℕ → ℕ → R.Carrier) (start now : List T)
     (n : ℕ) : Type 0 where
@@ -53,7 +52,7 @@ module _ {R : CommRing} {T : Type 0} {f : T → R.Carrier} {z : T} {d : Raw} {ba
     rest = λ p from. refl;
   }
 
-  -- a lane more
+  -- updating lane n
   pub lanes_more : {old : List T} {n : ℕ} → HasUpdatedLanes R f z d base alpha x start old n
       → IsValid d → n < d.major_dim → (new : List T)
       → ((p : ℕ) → (IsInLane d n p → ⊥) → get_or new p z ≡ get_or old p z)

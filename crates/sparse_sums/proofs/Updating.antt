@@ -1,4 +1,4 @@
--- A sum into a given matrix, in plain matrices.
+-- Sums into the pattern of a given matrix, stated by plain matrices.
 use Rattle.std.proofs.Common.{◌≡◌, ℕ, ◌↔◌, Bool, true, false, inl, inr, List, length, ap, ◌∙◌}
 use Rattle.std.proofs.Common.{refl, subst}
 use Rattle.std.specs.Prelude.{Result, Ok, Err, IsOk, OnOk, OnErr}
@@ -20,7 +20,7 @@ use Rattle.sparse_sums.specs.InnerPlacing.{HasPlacesOf}
 use Rattle.sparse_compressed.specs.InnerUpdates.{AreUpdated}
 use Rattle.sparse_algebra.specs.Prealloc.{plain_transpose_if}
 
--- the values at the places of m, updated by a matrix that has no other places
+-- values updated by x at each entry of m give the updated plain matrix, if m has an entry at each place of x
 pub update_is : (R : CommRing) {T : Type 0} (f : T → R.Carrier) (z : T) {m : Compressed T}
     (x : Plain R) (beta alpha : R.Carrier) (ws : List T) → IsSound m
     → length ws ≡ length m.values → IsProper x → IsCovered x (plain_of_rows R f m)
@@ -42,7 +42,7 @@ update_is R f z {m} x beta alpha ws sound long proper covered values =
     (λ i j p at. values i j p at
     ∙ ap (λ c. R.add (R.mul beta c) (R.mul alpha (x.value i j))) (was.values i j p z at))
 
--- the target has the places of the operand
+-- the pattern of m contains that of a, transposed or not, if and only if its plain matrix covers that of a
 covered_is : (R : CommRing) {T : Type 0} (f : T → R.Carrier) {m a : Compressed T} → IsSound m
     → IsSound a → (transposed : Bool)
     → HasPlacesOf m.pattern transposed a.pattern
@@ -71,18 +71,18 @@ transposed_proper : (R : CommRing) {T : Type 0} (f : T → R.Carrier) (a : Compr
 transposed_proper R f a true = proper_transpose R (plain_of_rows R f a) (proper_rows R f a)
 transposed_proper R f a false = proper_rows R f a
 
--- what holds at Ok, from what is known there
+-- P at Ok gives Q at Ok, if P implies Q there
 pub on_ok_also : {X E : Type 0} (r : Result X E) {P Q : Type 0} → (IsOk r → P → Q) → OnOk r P
     → OnOk r Q
 on_ok_also (Ok x) h p = h refl p
 on_ok_also (Err e) h p = tt
 
--- values that are written back whole
+-- writing all values replaces the values of the matrix
 pub written_back : {T : Type 0} (m : Compressed T) (ws : List T) → length ws ≡ length m.values
     → with_values m ws ≡ compressed_of m.pattern ws
 written_back m ws long = ap (compressed_of m.pattern) (take_at ws _ _ long)
 
--- values that are as they were leave the matrix as it was
+-- writing back equal values leaves the matrix unchanged
 unchanged_at_err : {T X E : Type 0} (r : Result X E) (m : Compressed T) (ws vs : List T)
     → vs ≡ m.values
     → length ws ≡ length m.values → OnErr r (ws ≡ vs) → OnErr r (with_values m ws ≡ m)
@@ -90,14 +90,14 @@ unchanged_at_err (Ok x) m ws vs is long same = tt
 unchanged_at_err (Err e) m ws vs is long same = written_back m ws long
     ∙ ap (compressed_of m.pattern) (same ∙ is)
 
--- what a sum of x into the matrix leaves, whose plain matrix `see` reads
+-- the contract of a sum of x into a matrix, where `see` gives the plain matrix of a matrix
 pub record IsSummed (R : CommRing) {M E : Type 0} (see : M → Plain R) (old new : M)
     (r : Result (Unit {0}) E) (beta alpha : R.Carrier) (x : Plain R) : Type 0 where
   pub covered : IsOk r ↔ IsCovered x (see old)
   pub unchanged : OnErr r (new ≡ old)
   pub updated : OnOk r (see new ≡ plain_update R beta (see old) alpha x)
 
--- a sum into m, whose pattern and values are borrowed as d and vs
+-- a sum into m, whose pattern is borrowed as d and whose values as vs
 module _ (R : CommRing) {T : Type 0} (f : T → R.Carrier) (z : T) {m a x : Compressed T}
     (sm : IsSound m) (sx : IsSound x) (x_is : x ≡ a) {d : Raw} (d_is : d ≡ m.pattern)
     {vs : List T} (vs_is : vs ≡ m.values) (transposed : Bool) {E : Type 0}

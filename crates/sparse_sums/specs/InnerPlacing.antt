@@ -1,8 +1,8 @@
--- Where the entries of an operand go in the target.
+-- To which entries of the target those of an operand are added.
 use Rattle.std.specs.Prelude.{ℕ, Bool, true, false, List, Contains}
 use Rattle.sparse_pattern.specs.Raw.{Raw, IsPlace}
 
--- the lane and the index of the pair (i, j), which are exchanged where the operand is transposed
+-- the major and the minor index in the target of the operand's (i, j), exchanged if the operand is transposed
 abbrev pub lane_in : Bool → ℕ → ℕ → ℕ
 lane_in true i j = j
 lane_in false i j = i
@@ -11,11 +11,11 @@ abbrev pub index_in : Bool → ℕ → ℕ → ℕ
 index_in true i j = i
 index_in false i j = j
 
--- the number of lanes of the operand, transposed or not
+-- the number of lanes of the operand, or of its transpose
 abbrev pub lanes_of_op : Bool → Raw → ℕ
 lanes_of_op transposed d = lane_in transposed d.major_dim d.minor_dim
 
--- the target has each place of the operand
+-- the pattern of the target contains that of the operand, or of its transpose
 abbrev pub HasPlacesOf : Raw → Bool → Raw → Type 0
 HasPlacesOf d transposed a = (i j : ℕ) → IsPlace a i j
     → IsPlace d (lane_in transposed i j) (index_in transposed i j)

@@ -1,5 +1,5 @@
-//! A sum into a given matrix, lane after lane: both lanes are in order, so one pass over the
-//! target's finds each place of the operand's.
+//! Sums into the pattern of a given matrix, lane by lane, without a transpose. Both lanes are sorted, so one pass over
+//! the lane of the target finds each entry of the operand's lane.
 
 ghost use Rattle.std.specs.Prelude.{◌≡◌, ℕ, ◌+◌, ◌<◌, ◌≤◌, ◌⊎◌, ◌↔◌, false, IsTrue, length};
 ghost use Rattle.std.specs.Prelude.{slice_index, slice_index_or};
@@ -14,7 +14,7 @@ use sparse_algebra::scalar::Ring;
 use sparse_compressed::CsMatrix;
 use sparse_pattern::pattern::SparsityPattern;
 
-// Whether the target has each place of the operand.
+// Returns whether the pattern of the target contains that of the operand.
 pub(crate) fn covers_lanes(target: &SparsityPattern, a: &SparsityPattern) -> bool
     requires { a.now.major_dim ≡ target.now.major_dim }
     ensures { IsTrue result ↔ HasPlacesOf target.now false a.now }
@@ -29,7 +29,7 @@ pub(crate) fn covers_lanes(target: &SparsityPattern, a: &SparsityPattern) -> boo
     true
 }
 
-// Whether the target has each index of the lane.
+// Returns whether the target lane has each index of the lane.
 fn covers_lane(target: &[usize], lane: &[usize]) -> bool
     requires target_rising { IsStrictlyIncreasing target.now }
     requires rising { IsStrictlyIncreasing lane.now }
@@ -44,7 +44,7 @@ fn covers_lane(target: &[usize], lane: &[usize]) -> bool
     k == lane.len()
 }
 
-// Adds `alpha` times the operand's values at their places.
+// Adds `alpha` times each entry of the operand to the entry of the target with the same row and column.
 pub(crate) fn add_in_order<T: Ring>(
     target: &SparsityPattern,
     values: &mut [T],
@@ -74,7 +74,8 @@ pub(crate) fn add_in_order<T: Ring>(
     }
 }
 
-// Adds `alpha` times the lane's values to those of the target lane, which begin at `start`.
+// Adds `alpha` times the values of a lane to those of the target lane with the same indices. The values of the target
+// lane begin at the offset `start`.
 fn add_lane<T: Ring>(
     target: &[usize],
     start: usize,

@@ -1,9 +1,10 @@
-//! Sums of sparse matrices and of their patterns.
+//! Sums, differences, multiples and negatives of sparse matrices, and sums of their patterns.
 #![tactic(auto)]
 
 mod add;
 mod in_order;
 mod merge;
+mod no_value;
 mod pattern;
 mod prealloc;
 mod room;

@@ -1,4 +1,4 @@
-//! A sum into a given matrix.
+//! Sums into the pattern of a given matrix.
 
 ghost use Rattle.std.specs.Prelude.{◌≡◌, ℕ, ◌↔◌, true, false, IsTrue, IsOk, IfErr, OnOk};
 ghost use Rattle.std.specs.Prelude.{OnErr, length, slice_index_or};
@@ -22,15 +22,15 @@ use sparse_csr_csc::csc::CscMatrix;
 use sparse_csr_csc::csr::CsrMatrix;
 use sparse_pattern::pattern::SparsityPattern;
 
-/// Replaces `c` by `beta * c + alpha * op(a)` on the places of `c`.
+/// Replaces `c` by `beta * c + alpha * op(a)`, and keeps the pattern of `c`.
 ///
-/// `op(a)` must have the shape of `c`. Refuses with
-/// [`InvalidPattern`](sparse_algebra::error::OperationErrorKind::InvalidPattern) exactly where `op(a)` has a place that
-/// `c` lacks, whatever its value is; `c` is then unchanged.
+/// `op(a)` must have the shape of `c`.
 ///
-/// Without a transpose two passes over the rows of `c` and of `a` side by side; with one, two
-/// binary searches in a row of `c` for each place of `a`; then one more pass over the values of
-/// `c`. Takes no memory.
+/// Fails with [`InvalidPattern`](sparse_algebra::error::OperationErrorKind::InvalidPattern) if and only if `op(a)` has
+/// an entry at a row and column where `c` has none, whatever its value is; `c` is then unchanged.
+///
+/// Without a transpose it makes two passes over the rows of `c` and of `a` side by side; with one, two binary searches
+/// in a row of `c` for each entry of `a`; in both cases one more pass over the values of `c`. Allocates nothing.
 pub fn spadd_csr_prealloc<T: Ring>(
     beta: T,
     c: &mut CsrMatrix<T>,
@@ -59,15 +59,16 @@ pub fn spadd_csr_prealloc<T: Ring>(
     }
 }
 
-/// Replaces `c` by `beta * c + alpha * op(a)` on the places of `c`.
+/// Replaces `c` by `beta * c + alpha * op(a)`, and keeps the pattern of `c`.
 ///
-/// `op(a)` must have the shape of `c`. Refuses with
-/// [`InvalidPattern`](sparse_algebra::error::OperationErrorKind::InvalidPattern) exactly where `op(a)` has a place that
-/// `c` lacks, whatever its value is; `c` is then unchanged.
+/// `op(a)` must have the shape of `c`.
 ///
-/// Without a transpose two passes over the columns of `c` and of `a` side by side; with one, two
-/// binary searches in a column of `c` for each place of `a`; then one more pass over the values of
-/// `c`. Takes no memory.
+/// Fails with [`InvalidPattern`](sparse_algebra::error::OperationErrorKind::InvalidPattern) if and only if `op(a)` has
+/// an entry at a row and column where `c` has none, whatever its value is; `c` is then unchanged.
+///
+/// Without a transpose it makes two passes over the columns of `c` and of `a` side by side; with one, two binary
+/// searches in a column of `c` for each entry of `a`; in both cases one more pass over the values of `c`. Allocates
+/// nothing.
 pub fn spadd_csc_prealloc<T: Ring>(
     beta: T,
     c: &mut CscMatrix<T>,
@@ -96,8 +97,8 @@ pub fn spadd_csc_prealloc<T: Ring>(
     }
 }
 
-// Multiplies the values by `beta` and adds `alpha` times the operand's, or its transpose's, or refuses before any value
-// is written.
+// Multiplies the values of the target by `beta` and adds `alpha` times those of the operand, or of its transpose.
+// Returns an error, before any value is written, if the target lacks an entry of the operand.
 fn add_into<T: Ring>(
     beta: T,
     pattern: &SparsityPattern,
@@ -127,7 +128,7 @@ fn add_into<T: Ring>(
     Ok(())
 }
 
-// Whether the target has each place of the operand, or of its transpose.
+// Returns whether the pattern of the target contains that of the operand, or of its transpose.
 fn covers(target: &SparsityPattern, transposed: bool, a: &SparsityPattern) -> bool
     requires { lanes_of_op transposed a.now ≡ target.now.major_dim }
     ensures { IsTrue result ↔ HasPlacesOf target.now transposed a.now }
@@ -139,7 +140,8 @@ fn covers(target: &SparsityPattern, transposed: bool, a: &SparsityPattern) -> bo
     }
 }
 
-// Adds `alpha` times the values of the operand, or of its transpose, at their places.
+// Adds `alpha` times each entry of the operand, or of its transpose, to the entry of the target with the same row and
+// column.
 fn add_entries<T: Ring>(
     target: &SparsityPattern,
     values: &mut [T],
@@ -164,7 +166,7 @@ fn add_entries<T: Ring>(
     }
 }
 
-// Whether the target has each place of the operand's transpose.
+// Returns whether the pattern of the target contains that of the operand's transpose.
 fn covers_transposed(target: &SparsityPattern, a: &SparsityPattern) -> bool
     requires { a.now.minor_dim ≡ target.now.major_dim }
     ensures { IsTrue result ↔ HasPlacesOf target.now true a.now }
@@ -180,7 +182,7 @@ fn covers_transposed(target: &SparsityPattern, a: &SparsityPattern) -> bool
     true
 }
 
-// Adds `alpha` times the values of the operand's transpose at their places.
+// Adds `alpha` times each entry of the operand's transpose to the entry of the target with the same row and column.
 fn add_transposed<T: Ring>(target: &SparsityPattern, values: &mut [T], alpha: T, a: &CsMatrix<T>)
     requires count { length values.old ≡ length target.now.indices }
     requires covered { HasPlacesOf target.now true a.now.pattern }

@@ -1,4 +1,4 @@
-//! Two lanes, merged at a position of the arrays of the result.
+//! The merge of two scaled lanes, written into the arrays for the result.
 
 ghost use Rattle.std.specs.Prelude.{◌≡◌, ◌+◌, ◌≤◌, ◌⊎◌, length, take, Contains};
 ghost use Rattle.sparse_compressed.specs.InnerRows.{lane_value};
@@ -9,8 +9,8 @@ use crate::number::Number;
 use crate::sums::parts::{Part, put_entry, put_part, times};
 use sparse_sums::front_value;
 
-// Writes the entries of both lanes from a position on, in increasing order of index, and returns
-// the position behind them. Two of one index are added.
+// Writes the sum of two scaled lanes at the offset `from`: one entry for each index that either lane has, in increasing
+// order of index. Values with the same index are added. Returns the offset after the last entry.
 #[inline(always)]
 pub(crate) fn merge_parts<T: Number>(
     a: &Part<'_, T>,
@@ -42,8 +42,8 @@ pub(crate) fn merge_parts<T: Number>(
     put_part(&b.rest(q), indices, values, at)
 }
 
-// Merges until one of the lanes is traversed. Returns the positions that were reached, in the lanes
-// and in the arrays. No branch within the lanes depends on an index.
+// Merges both lanes until one of them ends. Returns how many entries of each were merged, and the offset after the last
+// entry written. The only branch is the test of the loop: one that depends on indices would be mispredicted.
 #[inline(always)]
 fn merge_fronts<T: Number>(
     a: &Part<'_, T>,

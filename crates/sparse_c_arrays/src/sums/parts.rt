@@ -1,4 +1,4 @@
-//! Lanes whose values are taken times a factor, and the entries that are written.
+//! Lanes of integers with a scale, and the entries that are written into the arrays for the result.
 
 ghost use Rattle.std.specs.Prelude.{◌≡◌, ◌+◌, ◌<◌, ◌≤◌, [], ◌∷◌, ◌++◌, length, take, drop};
 ghost use Rattle.sparse_algebra.specs.Integers.{element_of};
@@ -6,7 +6,7 @@ ghost use Rattle.sparse_c_arrays.specs.InnerFilling.{front_meant, times_meant, I
 
 use crate::number::Number;
 
-// A lane of numbers, or the end of one. Its values are taken times the factor.
+// A lane of integers, or the rest of one, whose values are multiplied by a scale.
 #[derive(Drop)]
 pub(crate) struct Part<'a, T> {
     pub(crate) factor: T,
@@ -15,7 +15,7 @@ pub(crate) struct Part<'a, T> {
 }
 
 impl<'a, T: Number> Part<'a, T> {
-    // Returns what is left from a position on.
+    // Returns the rest of the lane from its entry `from` on.
     #[inline(always)]
     pub(crate) fn rest(&self, from: usize) -> Part<'a, T>
         requires within { from ≤ length self.now.indices.now }
@@ -33,7 +33,7 @@ impl<'a, T: Number> Part<'a, T> {
     }
 }
 
-// Returns the multiple of what a number means.
+// Returns the scalar that an integer represents, times the scale.
 #[inline(always)]
 pub(crate) fn times<T: Number>(factor: T, number: i64) -> T
     ensures { T.value result ≡ T.ring.mul (T.value factor) (element_of T.ring number) }
@@ -41,7 +41,7 @@ pub(crate) fn times<T: Number>(factor: T, number: i64) -> T
     factor.mul(T::from_number(number))
 }
 
-// Writes an entry at a position of both arrays.
+// Writes an entry at the offset `at` of both arrays.
 #[inline(always)]
 pub(crate) fn put_entry<T: Number>(
     indices: &mut [usize],
@@ -62,7 +62,7 @@ pub(crate) fn put_entry<T: Number>(
     values[at] = value.number();
 }
 
-// Writes the entries of a lane from a position on, and returns the position behind them.
+// Writes the entries of a lane, scaled, from the offset `from` on. Returns the offset after the last one.
 #[inline(always)]
 pub(crate) fn put_part<T: Number>(
     part: &Part<'_, T>,

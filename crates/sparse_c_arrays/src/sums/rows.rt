@@ -1,4 +1,4 @@
-//! The rows of a sum of two terms.
+//! The rows of a sum of two scaled matrices.
 
 ghost use Rattle.std.specs.Prelude.{◌≡◌, ◌+◌, ◌<◌, ◌≤◌, length, slice_range};
 ghost use Rattle.sparse_algebra.specs.Plain.{plain_sum, plain_scaled};
@@ -14,7 +14,7 @@ use crate::sums::merge::merge_parts;
 use crate::sums::parts::Part;
 use sparse_compressed::CsView;
 
-// A matrix by rows, and a factor of its values.
+// A matrix by rows and the scale of its values: a term of the sum.
 #[derive(Drop)]
 pub(crate) struct Term<'a, T> {
     pub(crate) factor: T,
@@ -39,8 +39,8 @@ fn row<'a, T: Number>(term: &Term<'a, T>, i: usize) -> Part<'a, T>
     }
 }
 
-// Writes the sum of two terms into arrays, on the union of their places. Returns its number of
-// places.
+// Writes the sum of two terms into arrays. The sum has an entry wherever either matrix has one. Returns the number of
+// its entries.
 pub(crate) fn write_rows<T: Number>(
     a: &Term<'_, T>,
     b: &Term<'_, T>,

@@ -1,4 +1,4 @@
-//! The sum of multiples of two matrices from outside.
+//! The sum of multiples of two matrices in arrays that C passes.
 
 ghost use Rattle.std.specs.Prelude.{◌≡◌, ◌≢◌, ◌+◌, ◌<◌, ◌≤◌, length, pos, IfOk, IfErr, OnOk};
 ghost use Rattle.sparse_algebra.specs.Plain.{plain_sum, plain_scaled};
@@ -16,24 +16,27 @@ use crate::refusal::Refusal;
 use crate::sums::rows::{Term, write_rows};
 use sparse_compressed::CsView;
 
-/// Two matrices by rows, and the factors of their values.
+/// Two matrices by rows, and the scales of their values.
 #[derive(Drop)]
 pub struct Multiples<'a, T> {
-    /// The factor of the first matrix.
+    /// The scale of the first matrix.
     pub alpha: T,
     /// The arrays of the first matrix.
     pub a: Lanes<'a>,
-    /// The factor of the second matrix.
+    /// The scale of the second matrix.
     pub beta: T,
     /// The arrays of the second matrix.
     pub b: Lanes<'a>,
 }
 
-/// Writes the sum of two multiples into arrays by rows, on the union of their places, and its number of places. Returns
-/// the status of the call: 0, or that of the first fault of the operands; the arrays are then unchanged.
+/// Writes the sum of two scaled matrices into arrays by rows, and its number of entries into `places`. Returns the
+/// status of the call: 0, or the status of the first fault of the operands; the arrays and `places` are then unchanged.
 ///
-/// Both matrices must have the same shape, and the arrays room for the places of both. One pass over each operand tests
-/// it, and one merge of two sorted rows for each row writes the sum. Allocates nothing.
+/// The sum has an entry wherever either matrix has one, even if its value is zero. Both matrices must have the same
+/// shape, and the arrays must have room for the entries of both.
+///
+/// One pass over each operand validates it, and a merge of two sorted rows for each row writes the sum. Allocates
+/// nothing.
 pub fn write_sum<T: Number>(
     multiples: Multiples<'_, T>,
     offsets: &mut [usize],
@@ -77,7 +80,7 @@ pub fn write_sum<T: Number>(
     0
 }
 
-// Returns the term with these arrays, which are tested where they are, or their first fault.
+// Returns the matrix in these arrays with its scale, or the error for their first fault. The arrays are not copied.
 fn term<'a, T: Number>(factor: T, lanes: Lanes<'a>) -> Result<Term<'a, T>, Refusal>
     ensures factor { IfOk result (λ t. t.factor ≡ factor) }
     ensures matrix { IfOk result (λ t. t.matrix ≡ lanes.entry) }

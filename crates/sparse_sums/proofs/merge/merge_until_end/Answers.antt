@@ -1,8 +1,8 @@
 use Rattle.std.proofs.Common.{◌≡◌, ◌<◌, not, eqb, get_or, refl, ap, ◌∙◌, arith}
 use Rattle.sparse_sums.specs.InnerSigns.{signed}
 use Rattle.sparse_sums.proofs.Adding.{none_added, adding_first, adding_second, adding_both}
-use Rattle.sparse_sums.proofs.merge.add_fronts.Goals as goal
-use Rattle.sparse_sums.proofs.merge.add_fronts.Goals.{then-j-k, else-j-k}
+use Rattle.sparse_sums.proofs.merge.merge_until_end.Goals as goal
+use Rattle.sparse_sums.proofs.merge.merge_until_end.Goals.{then-j-k, else-j-k}
 
 pub loop-p-init : goal.loop-p-init
 loop-p-init g c =

@@ -1,6 +1,6 @@
 use Rattle.std.proofs.Common.{not, eqb, ◌≡◌, vec_len}
 use Rattle.sparse_sums.proofs.SumLanes.{IsSumBelow}
-use Rattle.sparse_sums.proofs.add.merge_lanes.Given as goal
+use Rattle.sparse_sums.proofs.add.append_lanes.Given as goal
 
 abbrev pub invariant-loop-i : goal.invariant-loop-i
 invariant-loop-i g l = record {

@@ -1,4 +1,4 @@
-use Rattle.sparse_sums.proofs.add.merge.Goals as goal
+use Rattle.sparse_sums.proofs.add.sum_or_difference.Goals as goal
 
 pub returns : goal.returns
 returns g c = rw (
@@ -7,4 +7,4 @@ returns g c = rw (
   c.major_dim.ensures,
   c.minor_dim.ensures,
   c.pattern-first.ensures.pattern,
-) c.in_ok-merge_lanes.ensures.sum
+) c.in_ok-append_lanes.ensures.sum

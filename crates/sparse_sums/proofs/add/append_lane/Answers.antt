@@ -1,4 +1,4 @@
-use Rattle.sparse_sums.proofs.add.merge_lane.Goals as goal
+use Rattle.sparse_sums.proofs.add.append_lane.Goals as goal
 
 pub returns : goal.returns
 returns g c = record {
@@ -9,5 +9,5 @@ returns g c = record {
     c.values-2.ensures.values,
     c.lane-first.ensures,
     c.lane-second.ensures,
-  ) at c.add_lanes.ensures.gained;
+  ) at c.merge_lanes.ensures.gained;
 }

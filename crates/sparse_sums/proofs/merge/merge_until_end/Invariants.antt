@@ -1,7 +1,7 @@
 use Rattle.std.proofs.Common.{not, eqb, ◌≡◌, ◌+◌, ◌-◌, ◌≤◌, length, vec_len, vec_capacity}
 use Rattle.sparse_sums.specs.InnerSigns.{signed}
 use Rattle.sparse_sums.specs.InnerAdding.{IsAdding}
-use Rattle.sparse_sums.proofs.merge.add_fronts.Given as goal
+use Rattle.sparse_sums.proofs.merge.merge_until_end.Given as goal
 
 abbrev pub invariant-loop-p : goal.invariant-loop-p
 invariant-loop-p g l = record {

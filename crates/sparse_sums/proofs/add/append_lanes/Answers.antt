@@ -2,7 +2,7 @@ use Rattle.std.proofs.Common.{◌≡◌, ◌<◌, not, eqb, ◌++◌, ◌∷◌,
 use Rattle.sparse_pattern.specs.Raw.{Raw}
 use Rattle.sparse_sums.proofs.BuiltSums.{none_built, gained_count}
 use Rattle.sparse_sums.proofs.SumLanes.{sum_more, sum_is, sum_sound}
-use Rattle.sparse_sums.proofs.add.merge_lanes.Goals as goal
+use Rattle.sparse_sums.proofs.add.append_lanes.Goals as goal
 
 pub loop-i-init : goal.loop-i-init
 loop-i-init g c =
@@ -24,9 +24,9 @@ loop-i-preserved g c =
     in
     let lt : c.loop-i.i < c.args.a.now.pattern.major_dim =
     omega (arith, c.loop-i-test.true, lanes) in
-    let gained = c.in_ok-merge_lane.ensures.gained in
+    let gained = c.in_ok-append_lane.ensures.gained in
     let was = c.loop-i in
-    let now = c.merge_lane.new in
+    let now = c.append_lane.new in
     record {
       values_count = now.values.ok.0 ∙ gained_count (sym was.values.ok.0
           ∙ was.invariant.values_count ∙ was.indices.ok.0) gained ∙ sym now.indices.ok.0;
