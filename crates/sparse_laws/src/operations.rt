@@ -19,8 +19,9 @@ use sparse_algebra::learn;
 use sparse_algebra::scalar::Ring;
 use sparse_compressed::laws::stands_law;
 use sparse_csr_csc::csr::CsrMatrix;
-use sparse_products::serial::{add_csr, mul_csr, neg_csr, sub_csr};
+use sparse_products::serial::mul_csr;
 use sparse_products::transposes::transposed_csr;
+use sparse_sums::{add_csr, neg_csr, sub_csr};
 use std::alloc::{AllocError, Global};
 
 /// Returns `a * (b + c)` and `a * b + a * c`, which are equal. Fails only if an allocation fails.

@@ -9,8 +9,9 @@ use sparse_algebra::learn;
 use sparse_algebra::scalar::Ring;
 use sparse_compressed::laws::stands_law;
 use sparse_csr_csc::csc::CscMatrix;
-use sparse_products::serial::{add_csc, mul_csc, neg_csc, sub_csc};
+use sparse_products::serial::mul_csc;
 use sparse_products::transposes::transposed_csc;
+use sparse_sums::{add_csc, neg_csc, sub_csc};
 use std::alloc::{AllocError, Global};
 
 /// Returns `a * (b + c)` and `a * b + a * c`, which are equal. Fails only if an allocation fails.
