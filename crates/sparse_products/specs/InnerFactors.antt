@@ -7,13 +7,13 @@ use Rattle.sparse_compressed.specs.Compressed.{Compressed}
 use Rattle.sparse_compressed.specs.PlainOfLanes.{plain_of_rows}
 use Rattle.sparse_products.specs.declared.serial.factor.Factors.{Factors}
 use Rattle.sparse_products.specs.declared.serial.factor.Multiplicand.{Multiplicand}
-use Rattle.sparse_products.specs.declared.serial.factor.Multiplicand.TheVariants.{Given, Made}
+use Rattle.sparse_products.specs.declared.serial.factor.Multiplicand.TheVariants.{Borrowed, Owned}
 use Rattle.sparse_products.specs.declared.serial.factor.Operands.{Operands}
 
 -- the matrix of a factor
 abbrev pub matrix_of : {T : Type 0} → Multiplicand T → Compressed T
-matrix_of (Given m) = m.now
-matrix_of (Made m) = m
+matrix_of (Borrowed m) = m.now
+matrix_of (Owned m) = m
 
 -- the inner sizes of the factors are equal
 abbrev pub CanMultiply : {T : Type 0} → Factors T → Type 0

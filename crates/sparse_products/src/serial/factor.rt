@@ -26,8 +26,8 @@ pub(super) struct Factors<'a, T> {
 // A matrix that an operand lends, or the transpose that was made of one.
 #[derive(Drop)]
 enum Multiplicand<'a, T> {
-    Given(&'a CsMatrix<T>),
-    Made(CsMatrix<T>),
+    Borrowed(&'a CsMatrix<T>),
+    Owned(CsMatrix<T>),
 }
 
 impl<'a, T> Multiplicand<'a, T> {
@@ -36,8 +36,8 @@ impl<'a, T> Multiplicand<'a, T> {
         ensures { result.now ≡ matrix_of self.now }
     {
         match self {
-            Multiplicand::Given(matrix) => matrix,
-            Multiplicand::Made(matrix) => matrix,
+            Multiplicand::Borrowed(matrix) => matrix,
+            Multiplicand::Owned(matrix) => matrix,
         }
     }
 }
@@ -111,8 +111,8 @@ fn csr_factor<T: Ring>(
     ensures free { MatchOp operand.entry (λ _. IsOk result) (λ _. ⊤) }
 {
     match operand {
-        Op::NoOp(rows) => Ok(Multiplicand::Given(rows.cs())),
-        Op::Transpose(rows) => Ok(Multiplicand::Made(transposed(alloc, rows.cs())?)),
+        Op::NoOp(rows) => Ok(Multiplicand::Borrowed(rows.cs())),
+        Op::Transpose(rows) => Ok(Multiplicand::Owned(transposed(alloc, rows.cs())?)),
     }
 }
 
@@ -126,8 +126,8 @@ fn csc_factor<T: Ring>(
     ensures free { MatchOp operand.entry (λ _. IsOk result) (λ _. ⊤) }
 {
     match operand {
-        Op::NoOp(cols) => Ok(Multiplicand::Given(cols.cs())),
-        Op::Transpose(cols) => Ok(Multiplicand::Made(transposed(alloc, cols.cs())?)),
+        Op::NoOp(cols) => Ok(Multiplicand::Borrowed(cols.cs())),
+        Op::Transpose(cols) => Ok(Multiplicand::Owned(transposed(alloc, cols.cs())?)),
     }
 }
 

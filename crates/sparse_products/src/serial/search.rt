@@ -123,14 +123,14 @@ pub(super) fn search_rows<T: Ring>(
     }
 }
 
-// Multiplies each value by `factor`.
-fn scale_values<T: Ring>(factor: T, values: &mut [T], steps: &mut Steps)
-    ensures scaled { AreChanged T.value (T.ring.mul (T.value factor)) T.zero_value values.old
+// Multiplies each value by `scale`.
+fn scale_values<T: Ring>(scale: T, values: &mut [T], steps: &mut Steps)
+    ensures scaled { AreChanged T.value (T.ring.mul (T.value scale)) T.zero_value values.old
         values.new }
     ensures counted { steps.new ≡ steps.old + length values.old }
 {
     for value in values.iter_mut() {
         steps.tick();
-        *value = factor.mul(*value);
+        *value = scale.mul(*value);
     }
 }
