@@ -1,4 +1,4 @@
-//! Matrix operations in one thread.
+//! Products of sparse matrices, computed in one thread.
 
 pub(crate) mod factor;
 mod lane_set;
