@@ -1,4 +1,4 @@
--- Vectors whose elements are `step` apart in a list, and lists of which one element is written.
+-- Vectors of every `step`-th element of a list, and lists of which one element is written.
 use Rattle.std.specs.Prelude.{◌≡◌, ℕ, ◌*◌, List, slice_index_or, slice_set}
 use Rattle.sparse_algebra.specs.Algebra.{CommRing}
 
