@@ -15,7 +15,7 @@ module _ (R : CommRing) {T : Type 0} (f : T → R.Carrier) {a b : Compressed T} 
   abbrev pub product : Plain R
   product = plain_product R (plain_of_rows R f a) (plain_of_rows R f b)
 
-  -- (i, j) is a place of the product if and only if, for some k, (i, k) is in a and (k, j) in b
+  -- (i, j) is a place of the product if and only if some k has (i, k) in a and (k, j) in b
   pub joined_places : (i j : ℕ) → IsJoined a.pattern b.pattern i j ↔ (product.has i j ≡ true)
   joined_places i j =
       let left = (rows_have R f a sa).places i in

@@ -23,7 +23,7 @@ CanMultiply x = x.a.now.pattern.minor_dim ≡ x.b.now.pattern.major_dim
 abbrev pub product_of : (R : CommRing) {T : Type 0} → (T → R.Carrier) → Factors T → Plain R
 product_of R f x = plain_product R (plain_of_rows R f x.a.now) (plain_of_rows R f x.b.now)
 
--- x are the matrices of the operands o
+-- x has the matrices of the operands o
 abbrev pub AreMatricesOf : {T : Type 0} → Operands T → Factors T → Type 0
 AreMatricesOf o x = (x.a.now ≡ matrix_of o.a) × (x.b.now ≡ matrix_of o.b)
 

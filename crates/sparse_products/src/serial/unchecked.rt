@@ -27,8 +27,8 @@ use std::alloc::Global;
 ///
 /// Gustavson's algorithm (1978): one multiplication for each triple (i, k, j) with (i, k) in `op(a)` and (k, j) in
 /// `op(b)`, and one for each entry of `op(a)` and of `c`. Scratch memory for one row of `c`; none if the row is longer
-/// than the number of entries of `c` and `op(b)` together: then each triple is added by a binary search. The transpose
-/// of an operand is computed first.
+/// than the number of entries of `c` and `op(b)` together: then each triple is added by a binary search. If an operand
+/// is transposed, its transpose is computed first.
 pub fn spmm_csr_prealloc_unchecked<T: Ring>(
     alloc: Global,
     beta: T,
@@ -129,8 +129,8 @@ pub fn spmm_csr_prealloc_unchecked_counted<T: Ring>(
 ///
 /// Gustavson's algorithm (1978): one multiplication for each triple (i, k, j) with (i, k) in `op(a)` and (k, j) in
 /// `op(b)`, and one for each entry of `op(a)` and of `c`. Scratch memory for one column of `c`; none if the column is
-/// longer than the number of entries of `c` and `op(a)` together: then each triple is added by a binary search. The
-/// transpose of an operand is computed first.
+/// longer than the number of entries of `c` and `op(a)` together: then each triple is added by a binary search. If an
+/// operand is transposed, its transpose is computed first.
 #[tactic(auto, using(crate::proofs::Refusals::refused))]
 pub fn spmm_csc_prealloc_unchecked<T: Ring>(
     alloc: Global,
