@@ -48,7 +48,7 @@ module _ {R : CommRing} {T : Type 0} {f : T → R.Carrier} {ks : List ℕ} {vs :
         term.in_values (term.index k) (term.value v));
   }
 
-  -- after the last entry
+  -- the dot product after the last entry is that of the lane
   pub dot_all : {x : ℕ → R.Carrier} {s : R.Carrier} → IsDot R f ks vs x n s
       → length vs ≡ length ks → n ≡ min (length ks) (length vs) → s ≡ dot_of R f ks vs x
   dot_all {x} so_far fits end = so_far.is
@@ -69,7 +69,7 @@ module _ {R : CommRing} {T : Type 0} {f : T → R.Carrier} {ks : List ℕ} {vs :
       (λ i i_lt. so_far.is i (omega (arith, same, i_lt))) j (omega (arith, same, j_lt)) in
       record { is = rw one.written more }
 
-  -- after the last entry
+  -- the multiple that is added after the last entry is that of the lane
   pub added_all : {z : T} {scale : R.Carrier} {start row : List T}
       → HasAdded R f z scale ks vs n start row → length vs ≡ length ks
       → n ≡ min (length ks) (length vs)
@@ -78,7 +78,7 @@ module _ {R : CommRing} {T : Type 0} {f : T → R.Carrier} {ks : List ℕ} {vs :
       rw (take_all n vs (omega (arith, fits, end)), take_all n ks (omega (arith, fits, end))) at
       so_far.is
 
--- before the first entry
+-- before the first entry nothing is added
 pub added_none : {R : CommRing} {T : Type 0} {f : T → R.Carrier} {z : T} {scale : R.Carrier}
     {ks : List ℕ} {vs row : List T} → HasAdded R f z scale ks vs 0 row row
 added_none {R} {f = f} {z = z} {scale} {row = row} = record {

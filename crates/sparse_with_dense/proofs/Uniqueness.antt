@@ -28,8 +28,8 @@ module _ (R : CommRing) where
       (sym (sum_below-split R n i _ rest lt none (λ k _ ne. other k ne)) ∙ sums
       ∙ sum_below-split R n i _ rest lt none (λ k l ne. sym (same k l ne) ∙ other k ne)))
 
-  -- in each row i, a coefficient other than that of i is zero unless its rank is less than that of
-  -- i
+  -- in each row i, the coefficient of an index k other than i is zero unless the rank of k is less
+  -- than that of i
   module _ (n : ℕ) (t : ℕ → ℕ → R.Carrier) (rank : ℕ → ℕ)
       (order : (i k : ℕ) → i < n → k ≢ i → (rank k < rank i) ⊎ (t i k ≡ R.zero))
       (inverse : (k : ℕ) → k < n → (e : R.Carrier) × (R.mul (t k k) e ≡ R.one))
