@@ -70,8 +70,8 @@ module _ (R : CommRing) where
       (h.1.0, ap (λ c. R.mul c (f h.1.0)) (lower_is R a proper k k (omega arith)) ∙ h.1.1),
     )
 
-  -- the same for an operand: x and y are equal if x solves op(T) and y solves op of an equal
-  -- triangle
+  -- the same for an operand: x and y are equal if y solves op(T) and x solves op of a triangle
+  -- equal to T
   pub op_one_solution : {X : Type 0} (cols : X → Plain R) (l : Op X) (lower x y b : Plain R) (m : ℕ)
       → IsProper (cols (inner_of l)) → (cols (inner_of l)).cols ≡ (cols (inner_of l)).rows
       → ((k : ℕ) → k < (cols (inner_of l)).rows → (e : R.Carrier)
