@@ -1,8 +1,8 @@
 //! Laws of sums and products of matrices, over every ring.
 //!
-//! Each function computes both sides of an equation by the public calls, and its contract says that they stand for one
-//! plain matrix, with the same places and values. The functions here take matrices by rows, those of [`columns`]
-//! matrices by columns.
+//! Each function computes both sides of an equation with the public functions, and its contract says that both results
+//! are the same plain matrix: the same places and the same values. The functions here take CSR matrices, those of
+//! [`columns`] CSC matrices.
 
 ghost use Rattle.std.specs.Prelude.{◌≡◌, ◌↔◌, ℕ, true, IfOk};
 ghost use Rattle.sparse_algebra.specs.Plain.{plain_product, plain_sum, plain_transpose};
@@ -19,8 +19,9 @@ use sparse_algebra::learn;
 use sparse_algebra::scalar::Ring;
 use sparse_compressed::laws::stands_law;
 use sparse_csr_csc::csr::CsrMatrix;
-use sparse_products::serial::{add_csr, mul_csr, neg_csr, sub_csr};
+use sparse_products::serial::mul_csr;
 use sparse_products::transposes::transposed_csr;
+use sparse_sums::{add_csr, neg_csr, sub_csr};
 use std::alloc::{AllocError, Global};
 
 /// Returns `a * (b + c)` and `a * b + a * c`, which are equal. Fails only if an allocation fails.
@@ -220,7 +221,7 @@ fn sum_of_products<T: Ring>(
     add_csr(alloc, &first, &second)
 }
 
-/// The places of the product of two patterns are those of the plain product.
+/// The pattern of the product of two matrices has the places of their plain product.
 pub fn product_places_law<T: Ring>()
     ensures { (d : Raw) (a b : Compressed T) → IsSound a → IsSound b
         → a.pattern.minor_dim ≡ b.pattern.major_dim → IsProductOf d a.pattern b.pattern
@@ -231,7 +232,7 @@ pub fn product_places_law<T: Ring>()
     stands_law::<T>();
 }
 
-/// The places of the union of two patterns are those of the plain sum.
+/// The union of the patterns of two matrices has the places of their plain sum.
 pub fn union_places_law<T: Ring>()
     ensures { (d : Raw) (a b : Compressed T) → IsSound a → IsSound b
         → IsUnionOf d a.pattern b.pattern

@@ -1,4 +1,4 @@
--- The places of a product that a pattern has, lane after lane.
+-- Whether a pattern contains that of a product, lane by lane.
 use Rattle.std.proofs.Common.{ℕ, ◌+◌, ◌<◌, inl, inr, List, length, take, get_or, Contains, subst}
 use Rattle.std.proofs.lemmas.List.{take_more}
 use Rattle.std.proofs.lemmas.List.Elements.{Contains-push_cases}
@@ -7,7 +7,7 @@ use Rattle.sparse_pattern.proofs.LaneLists.{lane_has}
 use Rattle.sparse_products.specs.InnerProducts.{IsInLanes}
 use Rattle.sparse_products.specs.InnerUpdates.{HasProductPlaces}
 
--- what holds of the first n elements and of the next holds of the first n + 1
+-- what holds of the first n elements and of the next one holds of the first n + 1
 pub element_more : (P : ℕ → Type 0) (xs : List ℕ) (n : ℕ) → n < length xs → P (get_or xs n 0)
     → ((j : ℕ) → Contains (take n xs) j → P j) → (j : ℕ) → Contains (take (n + 1) xs) j → P j
 element_more P xs n lt here before j h =
@@ -18,7 +18,7 @@ element_more P xs n lt here before j h =
     ]
 
 module _ (d a b : Raw) (va : IsValid a) where
-  -- lane i of d has the indices of the lanes of b that lane i of a names
+  -- lane i of d contains lane k of b for each k in lane i of a
   abbrev pub HasLanes : ℕ → Type 0
   HasLanes i = (j : ℕ) → IsInLanes b (lane_of a i) j → IsPlace d i j
 

@@ -1,4 +1,4 @@
--- A product whose pattern is made first, and its values then from zero.
+-- A product whose pattern is computed first, and whose terms are then added to zeros.
 use Rattle.std.proofs.Common.{◌≡◌, ap, ◌∙◌}
 use Rattle.sparse_algebra.specs.Algebra.{CommRing}
 use Rattle.sparse_algebra.specs.Prealloc.{plain_update}
@@ -15,7 +15,7 @@ use Rattle.sparse_products.proofs.ProductPlaces.{product, joined_places}
 pub has_places : (d a b : Raw) → IsProductOf d a b → HasProductPlaces d a b
 has_places d a b is i j k left right = (is i j).1 (k, left, right)
 
--- an update of a matrix with the product's places, by nothing of it and the product once
+-- updating a matrix with the product's pattern, with beta = 0 and alpha = 1, gives the product
 pub product_made : (R : CommRing) {T : Type 0} (f : T → R.Carrier) {a b m : Compressed T}
     (sa : IsSound a) (sb : IsSound b) (fits : a.pattern.minor_dim ≡ b.pattern.major_dim)
     → IsSound m → m.pattern.major_dim ≡ a.pattern.major_dim

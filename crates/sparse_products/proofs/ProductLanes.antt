@@ -1,4 +1,4 @@
--- The pattern of a product, lane after lane.
+-- The pattern of a product, lane by lane.
 use Rattle.std.proofs.Common.{◌≡◌, ℕ, ◌+◌, ◌<◌, ◌↔◌, ◌⊎◌, inl, inr, List, [], ◌∷◌, ◌++◌, length}
 use Rattle.std.proofs.Common.{take, get_or, All, Contains, subst, sym, refl}
 use Rattle.std.proofs.lemmas.List.Elements.{Contains-get_or}
@@ -11,15 +11,15 @@ use Rattle.sparse_products.specs.Products.{IsProductOf}
 use Rattle.sparse_products.specs.InnerProducts.{IsInLanes}
 use Rattle.sparse_sums.proofs.GainedLanes.{gains_same}
 
--- (i, j) is a place of the product
+-- the pattern of the product of a and b has (i, j)
 abbrev pub IsJoined : Raw → Raw → ℕ → ℕ → Type 0
 IsJoined a b i j = (k : ℕ) × IsPlace a i k × IsPlace b k j
 
--- the first n lanes of the product of a and b
+-- offsets and indices are those of the first n lanes of the product of a and b
 abbrev pub IsProductBelow : ℕ → Raw → Raw → List ℕ → List ℕ → Type 0
 IsProductBelow n a b offsets indices = IsBuilt b.minor_dim (IsJoined a b) n offsets indices
 
--- the lanes that lane i of a names have the indices of lane i of the product
+-- the union of lane k of b for each k in lane i of a is lane i of the product
 pub in_lanes_is : (a b : Raw) → IsValid a → (i j : ℕ) → i < a.major_dim
     → IsInLanes b (lane_of a i) j ↔ IsJoined a b i j
 in_lanes_is a b valid i j lt = (
@@ -35,7 +35,7 @@ lane_more {n} {offsets} {indices} {indices'} a b offsets' va vb lt below gains i
     lane_gained b.minor_dim (IsJoined a b) n offsets offsets' indices indices' below
     (λ j h. place_within b vb h.0 j h.2) (gains_same (λ j. in_lanes_is a b va n j lt) gains) is
 
--- all lanes make the product
+-- the pattern of all lanes is that of the product
 pub all_lanes : {n : ℕ} {offsets indices : List ℕ} (a b d : Raw) → n ≡ a.major_dim
     → d ≡ raw_of a.major_dim b.minor_dim offsets indices → IsProductBelow n a b offsets indices
     → IsProductOf d a b
@@ -49,7 +49,7 @@ lane_below d valid i lt k z inside = place_within d valid i (get_or (lane_of d i
     ((lane_has d valid i (get_or (lane_of d i) k z) lt).0
     (Contains-get_or (lane_of d i) k z inside))
 
--- the lanes that a list names, with one name more
+-- the union of the lanes of p + 1 elements of a list is that of the first p and lane k
 pub in_lanes_then : (d : Raw) (lanes : List ℕ) (p k : ℕ) → p < length lanes → k ≡ get_or lanes p 0
     → (j : ℕ)
     → IsInLanes d (take (p + 1) lanes) j ↔ (IsInLanes d (take p lanes) j ⊎ IsPlace d k j)
@@ -65,7 +65,7 @@ in_lanes_then d lanes p k lt is j =
       ],
     )
 
--- what holds of the indices of the first p lanes, and then of those of one lane more
+-- adding lane k to a set of the indices of the first p lanes gives those of the first p + 1
 pub in_lanes_more : (d : Raw) → IsValid d → {Old New : ℕ → Type 0} (lanes : List ℕ) (p k : ℕ)
     → p < length lanes → k ≡ get_or lanes p 0 → k < d.major_dim
     → ((j : ℕ) → New j ↔ (Old j ⊎ Contains (lane_of d k) j))

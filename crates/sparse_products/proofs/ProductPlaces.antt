@@ -1,4 +1,4 @@
--- The places of a product, in plain matrices.
+-- The places of the product of plain matrices.
 use Rattle.std.proofs.Common.{◌≡◌, ℕ, ◌↔◌, true, ◌&&◌, arith}
 use Rattle.sparse_algebra.proofs.Cases.{and_both, and_parts}
 use Rattle.sparse_algebra.specs.Algebra.{CommRing}
@@ -15,7 +15,7 @@ module _ (R : CommRing) {T : Type 0} (f : T → R.Carrier) {a b : Compressed T} 
   abbrev pub product : Plain R
   product = plain_product R (plain_of_rows R f a) (plain_of_rows R f b)
 
-  -- the places of the product are the pairs that some k joins
+  -- (i, j) is a place of the product if and only if some k has (i, k) in a and (k, j) in b
   pub joined_places : (i j : ℕ) → IsJoined a.pattern b.pattern i j ↔ (product.has i j ≡ true)
   joined_places i j =
       let left = (rows_have R f a sa).places i in

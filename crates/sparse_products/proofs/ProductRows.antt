@@ -1,4 +1,4 @@
--- The product of two matrices, row after row: the indices of a row, and its values from a scratch
+-- The product of two matrices, row by row: the indices of a row, and its values, from a scratch
 -- row.
 use Rattle.std.proofs.Common.{◌≡◌, ℕ, ◌+◌, ◌<◌, inl, inr, List, [], ◌∷◌, ◌++◌, length}
 use Rattle.std.proofs.Common.{get_or, drop, Contains, ap, sym, subst, ◌∙◌, refl}
@@ -22,7 +22,7 @@ use Rattle.sparse_products.specs.InnerProducts.{IsInLanes, GainsTaken}
 use Rattle.sparse_products.proofs.ProductLanes.{IsJoined, in_lanes_is}
 use Rattle.sparse_products.proofs.ProductPlaces.{product, joined_places, product_is_proper}
 
--- the first n rows of the product
+-- offsets, indices and values are those of the first n rows of the product
 abbrev pub IsMultipliedBelow : (R : CommRing) {T : Type 0} → (T → R.Carrier) → Compressed T
     → Compressed T → ℕ → List ℕ → List ℕ → List T → Type 0
 IsMultipliedBelow R f a b n offsets indices values = IsBuiltMatrix R f b.pattern.minor_dim
@@ -37,7 +37,7 @@ module _ (R : CommRing) {T : Type 0} (f : T → R.Carrier) {a b : Compressed T} 
   abbrev Below : ℕ → List ℕ → List ℕ → List T → Type 0
   Below n offsets indices values = IsMultipliedBelow R f a b n offsets indices values
 
-  -- zero where no lane has the index
+  -- the product is zero at each index of row n that the lane does not have
   pub zero_off : (n : ℕ) → n < a.pattern.major_dim → (lane : List ℕ)
       → ((j : ℕ) → IsInLanes b.pattern (lane_of a.pattern n) j → Contains lane j) → (j : ℕ)
       → (Contains lane j → ⊥) → P.value n j ≡ R.zero
@@ -48,7 +48,7 @@ module _ (R : CommRing) {T : Type 0} (f : T → R.Carrier) {a b : Compressed T} 
         | inr miss ↦ miss
       ])
 
-  -- one row more
+  -- appending row n to the first n rows
   pub row_more : (z : T) {n : ℕ} {offsets offsets' indices indices' : List ℕ}
       {values values' : List T} → n < a.pattern.major_dim → Below n offsets indices values
       → GainsLane indices indices' (IsInLanes b.pattern (lane_of a.pattern n))

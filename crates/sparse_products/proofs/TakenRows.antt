@@ -1,4 +1,5 @@
--- The values of a scratch row, taken at the indices of a rising lane.
+-- Values of a scratch row, read at the indices of a strictly increasing lane and then set to zero
+-- there.
 use Rattle.std.proofs.Common.{◌≡◌, ℕ, ◌+◌, ◌<◌, inl, inr, List}
 use Rattle.std.proofs.Common.{◌++◌, length, take, get_or, map, set}
 use Rattle.std.proofs.Common.{Contains, ap, sym, ◌∙◌, refl, arith}
@@ -11,12 +12,12 @@ use Rattle.sparse_algebra.specs.Algebra.{CommRing}
 use Rattle.sparse_sums.proofs.Merging.{more, front_less}
 use Rattle.sparse_products.specs.InnerProducts.{GainsTaken, IsTaken}
 
--- an index of a rising lane is not one of those before it
+-- an index of a strictly increasing lane does not occur before itself
 pub not_before : (js : List ℕ) (p : ℕ) → IsStrictlyIncreasing js → p < length js
     → Contains (take p js) (get_or js p 0) → ⊥
 not_before js p rising lt h = omega (arith, front_less js p (get_or js p 0) rising lt h)
 
--- one index more is taken
+-- clearing the row at the first p + 1 indices, from the first p
 pub taken_more : {T : Type 0} {z : T} {start row : List T} (js : List ℕ) (p : ℕ) → p < length js
     → get_or js p 0 < length row → IsTaken z (take p js) start row
     → IsTaken z (take (p + 1) js) start (set row (get_or js p 0) z)
@@ -39,7 +40,7 @@ taken_more {z = z} {row = row} js p lt within was =
           ∙ was.kept k (λ h. none ((front k).1 (inl h)));
     }
 
--- the values of a row at the indices of a lane are those of x
+-- appending the values of a row at the indices of a lane, where they represent x
 pub values_taken : {R : CommRing} {T : Type 0} {f : T → R.Carrier} {z : T} {x : ℕ → R.Carrier}
     (row : List T) {old new : List T} {js : List ℕ} → new ≡ old ++ map (λ j. get_or row j z) js
     → ((q : ℕ) → q < length js → f (get_or row (get_or js q 0) z) ≡ x (get_or js q 0))
@@ -51,7 +52,8 @@ values_taken {f = f} {z} row {js = js} is same = record {
   values = λ q lt. ap f (get_or-map (λ j. get_or row j z) js q 0 z lt) ∙ same q lt;
 }
 
--- what is left in the scratch row, which is zero but for the indices of a lane
+-- a scratch row that is zero outside a lane is zero everywhere once it is cleared at the lane's
+-- indices
 pub left_zero : (R : CommRing) {T : Type 0} (f : T → R.Carrier) {z : T} {lane : List ℕ}
     (x : ℕ → R.Carrier) {row left : List T} → f z ≡ R.zero
     → ((j : ℕ) → (Contains lane j → ⊥) → x j ≡ R.zero)

@@ -1,4 +1,4 @@
--- A product into a given matrix, in plain matrices.
+-- Updates of a given matrix by a product, as plain matrices.
 use denote.Ref.{Bor}
 use Rattle.std.proofs.Common.{◌≡◌, ℕ, ◌+◌, ◌≤◌, ◌↔◌, ◌⊎◌, inr, Bool, true, false, List, length}
 use Rattle.std.proofs.Common.{ap, sym, subst, ◌∙◌, refl, arith}
@@ -23,28 +23,29 @@ use Rattle.sparse_products.specs.InnerUpdates.{CanUpdate, HasProductPlaces, step
 use Rattle.sparse_products.specs.ScalarProducts.{IfNotTransposed, triples_of}
 use Rattle.sparse_products.proofs.ProductPlaces.{product, joined_places, product_is_proper}
 
--- a refusal of one kind, which comes exactly where the places lack
+-- if each error is of one kind, and there is none where P holds, then an error is of that kind and
+-- P does not hold
 pub refused_is : {X E : Type 0} (r : Result X E) (kind memory : E) {P : Type 0}
     → IfErr r (λ e. e ≡ kind)
     → (P → IsOk r) → IfErr r (λ e. (e ≡ memory) ⊎ ((e ≡ kind) × (P → ⊥)))
 refused_is (Ok x) kind memory is covered = tt
 refused_is (Err e) kind memory is covered = inr (is, λ p. let no = covered p in cc)
 
--- Q of both matrices, where it follows from P
+-- P of both matrices gives Q of both, where P implies Q
 pub if_also : {X Y : Type 0} (a : Op X) (b : Op Y) {P Q : X → Y → Type 0}
     → ((m : X) (n : Y) → P m n → Q m n) → IfNotTransposed a b P → IfNotTransposed a b Q
 if_also (NoOp m) (NoOp n) also p = also m n p
 if_also (NoOp m) (Transpose n) also p = tt
 if_also (Transpose m) b also p = tt
 
--- P of both matrices, where P holds of all
+-- P holds of both matrices, where it holds of all
 pub if_of_all : {X Y : Type 0} (a : Op X) (b : Op Y) {P : X → Y → Type 0}
     → ((m : X) (n : Y) → P m n) → IfNotTransposed a b P
 if_of_all (NoOp m) (NoOp n) all = all m n
 if_of_all (NoOp m) (Transpose n) all = tt
 if_of_all (Transpose m) b all = tt
 
--- both of what is known of each matrix
+-- P of the first matrix and Q of the second give both of both
 pub if_both : {X Y : Type 0} (a : Op X) (b : Op Y) (P : X → Type 0) (Q : Y → Type 0)
     → MatchOp a P (λ _. ⊤) → MatchOp b Q (λ _. ⊤) → IfNotTransposed a b (λ m n. P m × Q n)
 if_both (NoOp m) (NoOp n) P Q p q = (p, q)
@@ -94,8 +95,8 @@ module _ (R : CommRing) where
   update_through true beta alpha c p = refl
   update_through false beta alpha c p = refl
 
--- the update of the pattern d and the values vs by the factors x is one of the matrix m by the
--- product p, of matrices by rows, or by columns where the test is true
+-- updating the values vs of the pattern d by the product of the matrices x updates the matrix m by
+-- the product p; lanes are rows, or columns if t is true
 pub record IsUpdateOf (R : CommRing) {T : Type 0} (f : T → R.Carrier) (t : Bool) (m : Compressed T)
     (p : Plain R) (x : Factors T) (d : Raw) (vs : List T) : Type 0 where
   pub sizes : CanUpdate x d vs
@@ -138,7 +139,7 @@ update_of {R} {f = f} {t} x {m} {p} {d} {vs} same are d_is vs_is sound lanes wid
           ∙ update_through R t beta alpha old p;
     }
 
--- the steps of an update by the factors x, where they are the matrices of two operands
+-- the bounds of the steps of an update, for the matrices x of two operands
 pub no_more_as : {T : Type 0} (a b : Op (Bor (Compressed T))) (o : Operands T) (x : Factors T)
     (old : ℕ) {c d : Raw} {new : ℕ} → AreMatricesOf o x → d ≡ c
     → IfNotTransposed a b (λ m n. (matrix_of o.a ≡ m.now) × (matrix_of o.b ≡ n.now))

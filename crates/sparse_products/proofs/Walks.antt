@@ -1,4 +1,5 @@
--- What the walk through the terms of a row adds and notes, one part after another.
+-- What adding the terms of a row changes, one part after another: the accumulators, and the columns
+-- that are noted.
 use Rattle.std.proofs.Common.{◌≡◌, ◌≢◌, ℕ, ◌↔◌, ◌⊎◌, inl, inr, List, length, get_or, set}
 use Rattle.std.proofs.Common.{ap, sym, subst, ◌∙◌, refl, arith}
 use Rattle.std.specs.Prelude.{nat_eq}
@@ -23,7 +24,7 @@ module _ {R : CommRing} {T : Type 0} {f : T → R.Carrier} {z : T} {slot : ℕ �
     others = λ p none. refl;
   }
 
-  -- one sum after another
+  -- adding x and then x' adds their sum
   pub added_then : {slot' : ℕ → ℕ → Type 0} {scale' : R.Carrier} {x x' sum : ℕ → R.Carrier}
       {start now new : List T} → AreAdded R f z slot scale x start now
       → AreAdded R f z slot' scale' x' now new → length now ≡ length start
@@ -48,7 +49,7 @@ module _ {R : CommRing} {T : Type 0} {f : T → R.Carrier} {z : T} {slot : ℕ �
     others = was.others;
   }
 
-  -- one entry, at the slot of its column
+  -- adding the term of one entry to the accumulator of its column
   pub entry_added : ((j p q : ℕ) → slot j p → slot j q → p ≡ q)
       → ((i j p : ℕ) → slot i p → slot j p → i ≡ j) → (old : List T) (k q : ℕ) (v w : T)
       → slot k q → f w ≡ R.add (f (get_or old q z)) (R.mul scale (f v))

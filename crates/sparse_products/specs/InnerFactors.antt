@@ -1,4 +1,4 @@
--- The factors of a product, borrowed or made.
+-- The matrices of a product's operands, borrowed or owned.
 use Rattle.std.specs.Prelude.{◌≡◌, Bool}
 use Rattle.sparse_algebra.specs.Algebra.{CommRing}
 use Rattle.sparse_algebra.specs.Plain.{Plain, plain_product}
@@ -7,27 +7,27 @@ use Rattle.sparse_compressed.specs.Compressed.{Compressed}
 use Rattle.sparse_compressed.specs.PlainOfLanes.{plain_of_rows}
 use Rattle.sparse_products.specs.declared.serial.factor.Factors.{Factors}
 use Rattle.sparse_products.specs.declared.serial.factor.Multiplicand.{Multiplicand}
-use Rattle.sparse_products.specs.declared.serial.factor.Multiplicand.TheVariants.{Given, Made}
+use Rattle.sparse_products.specs.declared.serial.factor.Multiplicand.TheVariants.{Borrowed, Owned}
 use Rattle.sparse_products.specs.declared.serial.factor.Operands.{Operands}
 
--- the matrix of a factor
+-- the matrix of an operand
 abbrev pub matrix_of : {T : Type 0} → Multiplicand T → Compressed T
-matrix_of (Given m) = m.now
-matrix_of (Made m) = m
+matrix_of (Borrowed m) = m.now
+matrix_of (Owned m) = m
 
--- the inner sizes of the factors are equal
+-- the inner dimensions are equal
 abbrev pub CanMultiply : {T : Type 0} → Factors T → Type 0
 CanMultiply x = x.a.now.pattern.minor_dim ≡ x.b.now.pattern.major_dim
 
--- the plain matrix of the product
+-- the product as a plain matrix
 abbrev pub product_of : (R : CommRing) {T : Type 0} → (T → R.Carrier) → Factors T → Plain R
 product_of R f x = plain_product R (plain_of_rows R f x.a.now) (plain_of_rows R f x.b.now)
 
--- the factors are the matrices of the operands
+-- x has the matrices of the operands o
 abbrev pub AreMatricesOf : {T : Type 0} → Operands T → Factors T → Type 0
 AreMatricesOf o x = (x.a.now ≡ matrix_of o.a) × (x.b.now ≡ matrix_of o.b)
 
--- the product of the operands by rows is p, or its transpose
+-- the product of the operands' matrices by rows is p, or its transpose if `transposed` is true
 pub record AreFactors (R : CommRing) {T : Type 0} (f : T → R.Carrier) (transposed : Bool)
     (p : Plain R) (o : Operands T) : Type 0 where
   pub inner : (matrix_of o.a).pattern.minor_dim ≡ (matrix_of o.b).pattern.major_dim

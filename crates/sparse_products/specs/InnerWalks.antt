@@ -1,10 +1,10 @@
--- What the walk through the terms of a row leaves.
+-- What adding the terms of a row changes: the accumulators, and the columns that are noted.
 use Rattle.std.specs.Prelude.{◌≡◌, ℕ, ◌<◌, ◌↔◌, ◌⊎◌, List, length, slice_index_or}
 use Rattle.sparse_algebra.specs.Algebra.{CommRing}
 use Rattle.sparse_pattern.specs.Raw.{Raw, IsValid}
 use Rattle.sparse_compressed.specs.Compressed.{IsPosition}
 
--- at the slot p of each column j, the target gains scale * x j; elsewhere it stays
+-- scale * x j is added to the accumulator p of each column j; other elements of the target stay
 pub record AreAdded (R : CommRing) {T : Type 0} (f : T → R.Carrier) (z : T)
     (slot : ℕ → ℕ → Type 0) (scale : R.Carrier) (x : ℕ → R.Carrier) (old new : List T) :
     Type 0 where
@@ -13,11 +13,11 @@ pub record AreAdded (R : CommRing) {T : Type 0} (f : T → R.Carrier) (z : T)
   pub others : (p : ℕ) → ((j : ℕ) → slot j p → ⊥)
       → slice_index_or new p z ≡ slice_index_or old p z
 
--- the slots stay, and the columns that P holds of are noted beside those before
+-- the accumulators stay, and the noted columns are those before and the columns for which P holds
 pub record AreNoted (slot slot' : ℕ → ℕ → Type 0) (before after P : ℕ → Type 0) : Type 0 where
   pub kept : (j p : ℕ) → slot' j p ↔ slot j p
   pub noted : (j : ℕ) → after j ↔ (before j ⊎ P j)
 
--- p is the position of the place (i, j) of a valid pattern
+-- p is the offset of the entry (i, j) of a valid pattern
 abbrev pub IsSlotOf : Raw → ℕ → ℕ → ℕ → Type 0
 IsSlotOf d i j p = IsValid d × IsPosition d i j p

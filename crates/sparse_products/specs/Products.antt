@@ -9,7 +9,7 @@ use Rattle.sparse_pattern.specs.Raw.{Raw, IsPlace}
 use Rattle.sparse_compressed.specs.Compressed.{Compressed}
 use Rattle.sparse_compressed.specs.PlainOfLanes.{plain_of_rows, plain_of_cols}
 
--- (i, j) is a place exactly where some k has (i, k) in a and (k, j) in b
+-- d has (i, j) if and only if some k has (i, k) in a and (k, j) in b
 abbrev pub IsProductOf : Raw → Raw → Raw → Type 0
 IsProductOf d a b = (i j : ℕ) → IsPlace d i j ↔ ((k : ℕ) × IsPlace a i k × IsPlace b k j)
 

@@ -21,7 +21,7 @@ use Rattle.sparse_with_dense.specs.InnerColumns.{IsColumnBelow}
 
 module _ (R : CommRing) {T : Type 0} (f : T → R.Carrier) (z : T) (m : Compressed T)
     (sound : IsSound m) (k : ℕ) (lane : k < m.pattern.major_dim) where
-  -- a position of the lane as one of the matrix
+  -- entry q of a lane has the offset start + q in the matrix
   in_matrix : (i q : ℕ) → q < length (lane_of m.pattern k) → get_or (lane_of m.pattern k) q 0 ≡ i
       → IsPosition m.pattern k i (start_of m.pattern k + q)
   in_matrix i q lt is =
@@ -57,7 +57,7 @@ module _ (R : CommRing) {T : Type 0} (f : T → R.Carrier) (z : T) (m : Compress
   not_stored i none hit = none ((lane_has m.pattern sound.valid k i lane).1
       ((has_is_place R f m.pattern sound.valid m.values sound.count k i).0 hit))
 
-  -- after the diagonal position q stand the entries below the diagonal
+  -- the entries of a lane after the diagonal, which is entry q, are those below the diagonal
   column_is : (q : ℕ) (e : T) → q < length (lane_of m.pattern k)
       → get_or (lane_of m.pattern k) q 0 ≡ k → R.mul (f (get_or (values_of m k) q z)) (f e) ≡ R.one
       → IsColumnBelow R f (plain_of_cols R f m) k (drop (q + 1) (lane_of m.pattern k))
@@ -98,7 +98,7 @@ module _ (R : CommRing) {T : Type 0} (f : T → R.Carrier) (z : T) (m : Compress
         | inr same ↦ omega (arith, ap (λ s. get_or (lane_of m.pattern k) s 0) same, is)
       ]
 
-  -- a value that was read in a lane's slice
+  -- a value that was read in a slice of the lane's values is the value of entry q
   pub value_read : (values : List T) → values ≡ values_of m k → (q : ℕ)
       → q < length (lane_of m.pattern k) → (v : T) → v ≡ get_or values q v
       → v ≡ get_or (values_of m k) q z
@@ -106,7 +106,7 @@ module _ (R : CommRing) {T : Type 0} (f : T → R.Carrier) (z : T) (m : Compress
       read ∙ ap (λ vs. get_or vs q v) are
       ∙ get_or_default (values_of m k) q v z (omega (arith, lt, length-values R f z m sound k lane))
 
-  -- the rest of the lane's slices after the diagonal
+  -- the rest of a lane's slices after the diagonal are the column below the diagonal
   pub column_found : (rows : List ℕ) (values : List T) → rows ≡ lane_of m.pattern k
       → values ≡ values_of m k → (q : ℕ) → q < length rows → get_or rows q 0 ≡ k → (e v : T)
       → v ≡ get_or values q v → R.mul (f v) (f e) ≡ R.one

@@ -1,4 +1,5 @@
--- Columns in a list that are changed block after block: parts of a list hold whole columns.
+-- Columns in a list that are changed block by block, where a block is a part of the list with whole
+-- columns.
 use Rattle.std.proofs.Common.{◌≡◌, ℕ, ◌+◌, ◌-◌, ◌*◌, ◌<◌, ◌≤◌, inl, inr, List, ◌++◌, length}
 use Rattle.std.proofs.Common.{get_or, take, drop, slice_range, ap, sym, subst, ◌∙◌, arith}
 use Rattle.std.proofs.Common.{length-append, length-drop, refl}
@@ -11,7 +12,7 @@ use borrow.Rule.Slice.PartMut.{put_mid, post_of, mid_len, same_len_mid}
 use Rattle.sparse_with_dense.specs.InnerBlocks.{AreChanged, AreChangedBelow, column_at}
 
 module _ {T : Type 0} (n : ℕ) (xs : List T) where
-  -- the columns of a part of the list
+  -- a column of a prefix of the list is that column of the list
   column_at-take : (m j size : ℕ) → size ≡ m * n → j < m
       → column_at n (take size xs) j ≡ column_at n xs j
   column_at-take m j size is lt =
@@ -31,7 +32,7 @@ module _ {T : Type 0} (n : ℕ) (xs : List T) where
       let none : 0 * n ≡ 0 = omega arith in
       ap (λ p. take n (drop p xs)) none ∙ take_all n xs (omega (arith, long))
 
-  -- an entry of a column
+  -- entry i of column j is element j * n + i of the list
   pub column_at-entry : (i j : ℕ) (z : T) → i < n
       → get_or (column_at n xs j) i z ≡ get_or xs (j * n + i) z
   column_at-entry i j z lt = get_or-take n (drop (j * n) xs) i z lt ∙ get_or-drop (j * n) xs i z
@@ -68,7 +69,7 @@ module _ {T : Type 0} {n : ℕ} {P : ℕ → List T → List T → Type 0} where
         rw (here, first_column n old long, first_column n new (same ∙ long)) h;
   }
 
-  -- columns, and those after them
+  -- if the first m columns and the w columns after them are changed, all m + w are
   pub appended : {m w : ℕ} {a b u v : List T} → length a ≡ m * n → AreChanged n m P a u
       → AreChanged n w (λ k. P (m + k)) b v → AreChanged n (m + w) P (a ++ b) (u ++ v)
   appended {m} {w} {a} {b} {u} {v} long h g = record {
@@ -87,7 +88,7 @@ module _ {T : Type 0} {n : ℕ} {P : ℕ → List T → List T → Type 0} where
     ];
   }
 
-  -- a block of columns more
+  -- if the first j columns and the next block of w are changed, the first j + w are
   pub block_more : {m j w : ℕ} {old now new : List T} → length old ≡ m * n → j + w ≤ m
       → AreChangedBelow n j P old now
       → AreChanged n w (λ k. P (j + k)) (slice_range now (j * n) ((j + w) * n)) new
@@ -146,7 +147,7 @@ module _ {T : Type 0} {n : ℕ} {P : ℕ → List T → List T → Type 0} where
           ∙ ap (λ p. drop p xs) (sym parts) in
           sym (later now) ∙ ap (drop (w * n)) h.behind ∙ later old
 
--- four columns side by side
+-- four columns that are changed, concatenated
 pub four_columns : {T : Type 0} {n : ℕ} {P : ℕ → List T → List T → Type 0}
     {a b c d u v w x : List T}
     → IsChanged n (P 0) a u → IsChanged n (P 1) b v → IsChanged n (P 2) c w

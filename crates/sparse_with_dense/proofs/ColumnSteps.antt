@@ -14,7 +14,7 @@ use Rattle.sparse_with_dense.specs.InnerColumns.{IsColumnBelow, lower}
 use Rattle.sparse_with_dense.proofs.Substitutions.{IsLower, IsPivotColumn}
 
 module _ (R : CommRing) where
-  -- a value that is zero where the first test fails, kept where the second one holds
+  -- `b && c` keeps a value that is zero if b is false, where c is true
   pub by_test : (b c : Bool) (v : R.Carrier) → c ≡ true → (b ≡ false → v ≡ R.zero)
       → where_true R (b && c) v ≡ v
   by_test true true v h off = refl
@@ -37,7 +37,7 @@ module _ (R : CommRing) (a : Plain R) where
       let test : nat_le j i ≡ false = grind (arith, nat_tests) in
       off_test R (a.has i j) (nat_le j i) (a.value i j) test
 
--- what stands below the diagonal in a matrix does so in its triangle
+-- the entries of a column below the diagonal of a matrix are those of its lower triangle
 pub pivot_column : {R : CommRing} {T : Type 0} {f : T → R.Carrier} (m : Compressed T) {n k : ℕ}
     {rows : List ℕ} {values : List T} {e : T}
     → IsColumnBelow R f (plain_of_cols R f m) k rows values e → m.pattern.minor_dim ≡ n → k < n

@@ -1,4 +1,4 @@
--- One entry of a list written, and a column updated entry after entry.
+-- Writing one element of a list, and updating a column entry by entry.
 use Rattle.std.proofs.Common.{◌≡◌, ◌≢◌, ℕ, ◌+◌, ◌<◌, inl, inr, List, length, get_or, set, ap, sym}
 use Rattle.std.proofs.Common.{subst, ◌∙◌, arith, get_or-set_same, get_or-set_other}
 use Rattle.std.proofs.lemmas.List.{length-set}
@@ -22,7 +22,7 @@ module _ {R : CommRing} {T : Type 0} {f : T → R.Carrier} {z : T} {n : ℕ} {v 
     written_others i ne = ap (λ l. get_or l i z) h.written
         ∙ get_or-set_other old n i (get_or new n z) z ne
 
--- one entry more
+-- writing entry n updates the first n + 1 entries, where the first n were updated
 pub updated_more : {R : CommRing} {T : Type 0} {f : T → R.Carrier} {z : T} {beta alpha : R.Carrier}
     {x : ℕ → R.Carrier} {n : ℕ} {old now new : List T} {sum : R.Carrier}
     → IsUpdatedBelow R f z beta alpha n x old now

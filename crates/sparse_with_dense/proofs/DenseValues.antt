@@ -1,4 +1,4 @@
--- Where dense matrices and matrices by lanes have values, as plain matrices.
+-- Dense and compressed matrices as plain matrices: where their values are and where they are zero.
 use Rattle.std.proofs.Common.{◌≡◌, ℕ, ◌+◌, ◌*◌, ◌<◌, ◌≤◌, Bool, true, false, get_or, map, ap, sym}
 use Rattle.std.proofs.Common.{◌∙◌, refl, arith}
 use Rattle.std.specs.Prelude.{nat_lt}
@@ -39,7 +39,7 @@ module _ (R : CommRing) {T : Type 0} (f : T → R.Carrier) where
       (lane_triplets m) (lane_triplets-inside m sound)
 
 module _ (R : CommRing) {T : Type 0} (f : T → R.Carrier) (z : T) (zero : f z ≡ R.zero) where
-  -- the value of a dense matrix inside its sizes, and outside
+  -- the value of a dense matrix inside its shape, and outside
   pub dense_inside : (d : Dense T) (i j : ℕ) → i < d.nrows → j < d.ncols
       → (plain_of_dense R f d).value i j ≡ f (value_at d i j z)
   dense_inside d i j row col = where_yes R (is_inside d i j) _ (inside_both d i j row col)

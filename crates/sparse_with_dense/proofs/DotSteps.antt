@@ -1,4 +1,5 @@
--- Lanes of a sparse matrix times columns of another: an entry of the product, and one column more.
+-- Entries of a product as dot products of a lane and a column, and adding one column of a matrix
+-- more.
 use Rattle.std.proofs.Common.{◌≡◌, ℕ, suc, ◌+◌, ◌<◌, List, ap, sym, ◌∙◌, arith}
 use Rattle.sparse_algebra.specs.Algebra.{CommRing}
 use Rattle.sparse_algebra.specs.Sums.{dot_of, sum_below}
@@ -21,7 +22,7 @@ module _ (R : CommRing) where
       ∙ sum_below-same R m.pattern.minor_dim _ _
       (λ k lt. ap (R.mul ((plain_of_rows R f m).value i k)) (column k (omega arith)))
 
-  -- one column of a matrix more, added to beta c + alpha A x
+  -- adding column n of a matrix A to beta c + alpha A x, computed from the first n columns
   pub term_more : {n : ℕ} (a x : ℕ → R.Carrier) {alpha start now new factor : R.Carrier}
       → now ≡ R.add start (R.mul alpha (sum_below R n (λ k. R.mul (a k) (x k))))
       → new ≡ R.add now (R.mul factor (a n)) → factor ≡ R.mul alpha (x n)

@@ -28,7 +28,7 @@ module _ (R : CommRing) {T : Type 0} (f : T → R.Carrier) (z : T) (zero : f z �
   module _ (t : Plain R) (x b : Dense T) (rows : t.rows ≡ b.nrows) (cols : t.cols ≡ b.nrows)
       (proper : IsProper t) (within : 0 < b.ncols → IsWithin t)
       (solves : SolvesColumns R f z t.value x b) where
-    -- rows past the size are zero
+    -- rows past the number of rows are zero
     row_off : (i k : ℕ) → b.nrows ≤ i → 0 < b.ncols → t.value i k ≡ R.zero
     row_off i k le some =
         proper i k (miss (t.has i k) (λ hit. omega (arith, (within some i k hit).0, rows, le)))
@@ -69,7 +69,7 @@ module _ (R : CommRing) {T : Type 0} (f : T → R.Carrier) (m : Compressed T) wh
   lower_within sound = within_kept R (λ i j. nat_le j i) (plain_of_cols R f m)
       (within_transpose R (plain_of_rows R f m) (rows_within R f m sound))
 
--- the solution of an operand, as plain matrices
+-- columns that solve the system of an operand are a solution of plain matrices
 pub op_solution : (R : CommRing) {T X : Type 0} (f : T → R.Carrier) (z : T) (zero : f z ≡ R.zero)
     (see : X → Compressed T) (l : Op X) (x b : Dense T)
     → (see (inner_of l)).pattern.minor_dim ≡ (see (inner_of l)).pattern.major_dim

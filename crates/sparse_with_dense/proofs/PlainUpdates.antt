@@ -46,7 +46,7 @@ module _ (R : CommRing) {T : Type 0} (f : T → R.Carrier) where
       within_transpose R (plain_of_rows R f m) (rows_within R f m sound)
   transposed_within false m sound = rows_within R f m sound
 
-  -- the product of an operand that is transposed or not, and op(B)
+  -- the product of an operand that may be transposed and op(B)
   module _ (transposed : Bool) (m : Compressed T) (b : Op (Bor (Dense T))) where
     pub operands_proper : IsProper (plain_product R (plain_transpose_if R transposed
         (plain_of_rows R f m)) (op_dense R f b))
@@ -103,7 +103,7 @@ module _ (R : CommRing) {T : Type 0} (f : T → R.Carrier) (z : T) (zero_law : f
           | inr miss ↦ dense_proper R f e i j miss ∙ outside i j miss
         ]
 
-    -- where there is no row, nothing changes
+    -- an update of a matrix without rows changes nothing
     pub no_rows : d.nrows ≡ 0 → plain_of_dense R f d ≡ plain_update R beta (plain_of_dense R f d)
         alpha x
     no_rows none = same_plain _ _ refl refl (λ i j. refl)
@@ -112,7 +112,7 @@ module _ (R : CommRing) {T : Type 0} (f : T → R.Carrier) (z : T) (zero_law : f
           | inr miss ↦ dense_proper R f d i j miss ∙ outside i j miss
         ])
 
--- zero times a matrix and one times another with its sizes
+-- an update with beta = 0 and alpha = 1 gives the product
 pub fresh_product : (R : CommRing) {T : Type 0} (f : T → R.Carrier) {beta alpha : R.Carrier}
     (d : Dense T) (x : Plain R) → beta ≡ R.zero → alpha ≡ R.one → d.nrows ≡ x.rows
     → d.ncols ≡ x.cols → plain_update R beta (plain_of_dense R f d) alpha x ≡ plain_full R x

@@ -1,4 +1,4 @@
--- Reading a list that was written over, whole or in a part.
+-- Reading a list of which all or a part was overwritten.
 use Rattle.std.proofs.Common.{◌≡◌, ℕ, ◌+◌, ◌<◌, ◌≤◌, List, ◌++◌, length, get_or, take, drop, ap}
 use Rattle.std.proofs.Common.{sym, ◌∙◌, arith}
 use Rattle.std.proofs.lemmas.Grind.{common_steps}
@@ -16,7 +16,7 @@ module _ {X : Type 0} (xs ws : List X) (i : ℕ) (room : i + length ws ≤ lengt
   refill_from-is : refill_from xs i ws ≡ take i xs ++ (ws ++ drop (length ws) (drop i xs))
   refill_from-is = refill_whole xs (take i xs ++ (ws ++ drop (length ws) (drop i xs))) length-parts
 
-  -- inside the part that was written
+  -- an index inside the part reads what was written
   pub refill_from-inside : (q : ℕ) (z : X) → q < length ws
       → get_or (refill_from xs i ws) (i + q) z ≡ get_or ws q z
   refill_from-inside q z lt = ap (λ l. get_or l (i + q) z) refill_from-is

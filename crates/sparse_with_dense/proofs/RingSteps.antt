@@ -1,4 +1,4 @@
--- What the ring laws give of sums, differences and inverses.
+-- Facts about sums, differences and inverses that follow from the ring laws.
 use Rattle.std.proofs.Common.{◌≡◌, ◌≢◌, ℕ, zero, suc, ◌<◌, inl, inr, ap, sym, ◌∙◌, arith}
 use Rattle.sparse_algebra.proofs.Cases.{three}
 use Rattle.sparse_algebra.specs.Algebra.{CommRing}
@@ -7,7 +7,7 @@ use Rattle.sparse_algebra.proofs.RingLemmas.{add_cross, mul_zero}
 use Rattle.sparse_algebra.proofs.SumLemmas.{sum_below-same}
 
 module _ (R : CommRing) where
-  -- a product with zero on the left
+  -- a product whose left operand is zero is zero
   pub mul_off : (a b : R.Carrier) → a ≡ R.zero → R.mul a b ≡ R.zero
   mul_off a b e = ap (λ x. R.mul x b) e ∙ R.laws.mul_comm R.zero b ∙ mul_zero R b
 
@@ -29,7 +29,7 @@ module _ (R : CommRing) where
   divided t e x h = ap (R.mul t) (R.laws.mul_comm x e) ∙ sym (R.laws.mul_assoc t e x)
       ∙ ap (λ c. R.mul c x) h ∙ R.laws.mul_comm R.one x ∙ R.laws.mul_one x
 
-  -- one term, and the others
+  -- a sum is its term k, plus the same sum with that term zero
   pub sum_below-split : (n k : ℕ) (f g : ℕ → R.Carrier) → k < n → g k ≡ R.zero
       → ((c : ℕ) → c < n → c ≢ k → f c ≡ g c) → sum_below R n f ≡ R.add (f k) (sum_below R n g)
   sum_below-split zero k f g lt off same = absurd (omega arith)

@@ -1,4 +1,4 @@
--- A dense matrix with one column written, and one of which each column is solved.
+-- A dense matrix of which one column is written, and one of which each column is solved.
 use Rattle.std.proofs.Common.{◌≡◌, ◌≢◌, ℕ, ◌+◌, ◌*◌, ◌<◌, ◌≤◌, inl, inr, List, length, get_or}
 use Rattle.std.proofs.Common.{ap, sym, subst, ◌∙◌, refl, arith}
 use Rattle.std.proofs.Math.Nat.{add-mul, mul-le-mul_right}
@@ -37,7 +37,7 @@ module _ {T : Type 0} (x : Dense T) (j : ℕ) (ws : List T) (full : length (colu
   ]
 
 module _ {R : CommRing} {T : Type 0} {f : T → R.Carrier} {z : T} {t : ℕ → ℕ → R.Carrier} where
-  -- a matrix without rows is solved
+  -- a matrix without rows is its own solution
   pub solved_empty : {b : Dense T} → b.nrows ≡ 0 → SolvesColumns R f z t b b
   solved_empty none = record {
     rows = refl;
@@ -45,7 +45,7 @@ module _ {R : CommRing} {T : Type 0} {f : T → R.Carrier} {z : T} {t : ℕ → 
     solved = λ j _ i lt. absurd (omega (arith, none, lt));
   }
 
-  -- each column of a list is solved
+  -- if each column of the values is solved, the dense matrix is
   pub solved_columns : {b : Dense T} {ws : List T} → length b.values ≡ b.ncols * b.nrows
       → AreChanged b.nrows b.ncols (SolvesAt R f z t) b.values ws
       → SolvesColumns R f z t (with_values b ws) b

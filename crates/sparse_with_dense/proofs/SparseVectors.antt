@@ -15,7 +15,7 @@ module _ (R : CommRing) {T : Type 0} (f : T → R.Carrier) (i : ℕ) where
   no_values [] = refl
   no_values (k ∷ ks) = refl
 
-  -- dropping entries of other indices keeps the element at i
+  -- dropping entries whose index is not i keeps element i
   pub sparse_elements-drop : (p : ℕ) (ks : List ℕ) (vs : List T)
       → ((q : ℕ) → q < p → q < length ks → get_or ks q 0 ≢ i)
       → sparse_elements R f (drop p ks) (drop p vs) i ≡ sparse_elements R f ks vs i
@@ -28,12 +28,12 @@ module _ (R : CommRing) {T : Type 0} (f : T → R.Carrier) (i : ℕ) where
       (where_no R (nat_eq k i) (f v)
       (nat_eq_no k i (others 0 (omega arith) (omega arith)))) ∙ zero_add R _)
 
-  -- where no entry has the index
+  -- element i is zero if no entry has the index i
   pub sparse_elements-none : (ks : List ℕ) (vs : List T)
       → ((q : ℕ) → q < length ks → get_or ks q 0 ≢ i) → sparse_elements R f ks vs i ≡ R.zero
   sparse_elements-none ks vs none = lane_value_none R f i ks vs none
 
--- the rest of a range
+-- dropping n elements of a range starts the range n later
 pub drop_range : {X : Type 0} (xs : List X) (begin end n : ℕ) → begin + n ≤ end
     → drop n (slice_range xs begin end) ≡ slice_range xs (begin + n) end
 drop_range xs begin end n le =

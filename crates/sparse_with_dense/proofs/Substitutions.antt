@@ -1,4 +1,4 @@
--- Forward and backward substitution, a column of the triangle at a time.
+-- Forward and backward substitution, column by column of the triangle.
 use Rattle.std.proofs.Common.{◌≡◌, ◌≢◌, ℕ, suc, ◌+◌, ◌*◌, ◌<◌, ◌≤◌, inl, inr, List, All, get_or, ap}
 use Rattle.std.proofs.Common.{sym, ◌∙◌, refl, arith, add-one}
 use Rattle.std.specs.Prelude.{zip}
@@ -20,7 +20,7 @@ use Rattle.sparse_with_dense.proofs.RingSteps.{sum_below-split}
 abbrev pub IsLower : (R : CommRing) → (ℕ → ℕ → R.Carrier) → Type 0
 IsLower R t = (i j : ℕ) → i < j → t i j ≡ R.zero
 
--- column k of a lower triangle t with n rows: what stands below its diagonal, as a sparse vector,
+-- column k of a lower triangle t with n rows: the entries below its diagonal, as a sparse vector,
 -- and the inverse of its diagonal entry
 pub record IsPivotColumn (R : CommRing) {T : Type 0} (f : T → R.Carrier) (n : ℕ)
     (t : ℕ → ℕ → R.Carrier) (k : ℕ) (rows : List ℕ) (values : List T) (e : T) : Type 0 where
@@ -31,14 +31,16 @@ pub record IsPivotColumn (R : CommRing) {T : Type 0} (f : T → R.Carrier) (n : 
   pub below : (i : ℕ) → k < i → sparse_elements R f rows values i ≡ t i k
   pub above : (i : ℕ) → i ≤ k → sparse_elements R f rows values i ≡ R.zero
 
--- the columns before k are done: x has the answers before k, and what is left of b from k on
+-- after the first k columns of forward substitution: x has the solution in the rows before k, and
+-- from k on b minus the terms of the columns before k
 pub record IsForward (R : CommRing) (n k : ℕ) (t : ℕ → ℕ → R.Carrier) (x b : ℕ → R.Carrier) :
     Type 0 where
   pub before : (i : ℕ) → i < n → i < k → sum_below R k (λ c. R.mul (t i c) (x c)) ≡ b i
   pub after : (i : ℕ) → i < n → k ≤ i
       → R.add (sum_below R k (λ c. R.mul (t i c) (x c))) (x i) ≡ b i
 
--- the rows from k on are answered, and those before it are as they were
+-- after the rows from k on of backward substitution: they are solved, and the rows before k are
+-- unchanged
 pub record IsBackward (R : CommRing) (n k : ℕ) (t : ℕ → ℕ → R.Carrier) (x b : ℕ → R.Carrier) :
     Type 0 where
   pub solved : (i : ℕ) → i < n → k ≤ i → sum_below R n (λ c. R.mul (t c i) (x c)) ≡ b i
@@ -59,7 +61,8 @@ module _ {R : CommRing} {n k : ℕ} {t : ℕ → ℕ → R.Carrier} where
 
 module _ {R : CommRing} {T : Type 0} {f : T → R.Carrier} {n : ℕ} {t : ℕ → ℕ → R.Carrier} {k : ℕ}
     {rows : List ℕ} {values : List T} {e : T} (column : IsPivotColumn R f n t k rows values e) where
-  -- y k is the answer in row k, and what it adds to the rows below is taken off them
+  -- a step of forward substitution: y k is the solution in row k, and its terms are subtracted in
+  -- the rows below
   pub forward_step : {m : ℕ} {x y b : ℕ → R.Carrier} → IsForward R n k t x b
       → IsTaken R f m k rows values (f e) x y → m ≡ n → IsForward R n (k + 1) t y b
   forward_step {x = x} {y} {b} h taken size = rw add-one (record {
@@ -98,7 +101,7 @@ module _ {R : CommRing} {T : Type 0} {f : T → R.Carrier} {n : ℕ} {t : ℕ �
           ∙ ap (R.add (x i)) (ap (R.mul (R.neg (y k))) (column.below i more)
           ∙ R.laws.mul_comm _ _ ∙ mul_neg R (t i k) (y k))
 
-  -- y has the answer of row k, after the rows that follow it
+  -- a step of backward substitution: y k is the solution in row k, computed from the rows after k
   pub backward_step : {z : T} {j l : ℕ} {x y : List T} {b : ℕ → R.Carrier} {known : R.Carrier}
       → IsBackward R n j t (elements R f z x) b
       → IsWrittenAt R f z k (R.mul (R.add (f (get_or x k z)) (R.neg known)) (f e)) x y
@@ -119,7 +122,7 @@ module _ {R : CommRing} {T : Type 0} {f : T → R.Carrier} {n : ℕ} {t : ℕ �
       u : ℕ → R.Carrier
       u = sparse_elements R f rows values
 
-      -- a dot product with entries that stand side by side is one with all entries
+      -- the dot product with step 1 is that with all entries
       whole : known ≡ sum_below R n (λ c. R.mul (u c) (f (get_or x c z)))
       whole = known_is ∙ sum_by-same R _ _ (λ s.
           let one : s.0 * 1 ≡ s.0 = omega arith in

@@ -1,4 +1,5 @@
--- The answer of a row is taken: it is written, and its multiple added to the rows below.
+-- A step of forward substitution in a list: the solution of row k is written, and its multiple of
+-- the column added to the rows below.
 use Rattle.std.proofs.Common.{◌≡◌, ◌<◌, ℕ, List, length, get_or, set, ap, sym, ◌∙◌, arith}
 use Rattle.std.proofs.Common.{length-set, get_or-set_same, get_or-set_other}
 use Rattle.sparse_algebra.specs.Algebra.{CommRing}

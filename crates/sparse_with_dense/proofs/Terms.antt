@@ -1,4 +1,5 @@
--- Loops over a lane: the index and the value of a turn, and dot products and multiples so far.
+-- Loops over a lane: the index and the value of an iteration, and the dot products and multiples of
+-- the first n entries.
 use Rattle.std.proofs.Common.{◌≡◌, ℕ, ◌+◌, ◌<◌, List, length, get_or, set, take, min, All, ap}
 use Rattle.std.proofs.Common.{sym, subst, ◌∙◌, arith}
 use Rattle.std.proofs.lemmas.List.{get_or_default, take_all}
@@ -16,12 +17,12 @@ pub record IsTerm {T : Type 0} (ks : List ℕ) (vs : List T) (n k : ℕ) (v : T)
   pub index : (d : ℕ) → k ≡ get_or ks n d
   pub value : (d : T) → v ≡ get_or vs n d
 
--- what holds of each index
+-- what holds of each index of a lane holds of that of the n-th entry
 pub at_term : {T : Type 0} {ks : List ℕ} {vs : List T} {n k : ℕ} {v : T} → IsTerm ks vs n k v
     → (P : ℕ → Type 0) → All P ks → P k
 at_term {n = n} term P all = subst P (sym (term.index 0)) (all n 0 term.in_indices)
 
--- what a turn of a loop over indices and values reads
+-- the index and the value that an iteration reads are the n-th
 pub term_of : {T : Type 0} {ks : List ℕ} {vs : List T} {n k : ℕ} {v : T}
     → (n < length ks) × (n < length vs) × ((d : ℕ) → k ≡ get_or ks n d)
     × ((d : T) → v ≡ get_or vs n d) → IsTerm ks vs n k v
@@ -32,13 +33,13 @@ pub record IsDot (R : CommRing) {T : Type 0} (f : T → R.Carrier) (ks : List �
     (x : ℕ → R.Carrier) (n : ℕ) (s : R.Carrier) : Type 0 where
   pub is : s ≡ dot_of R f (take n ks) (take n vs) x
 
--- the multiple of the first n values was added to start
+-- the multiple of the first n values is added to `start`
 pub record HasAdded (R : CommRing) {T : Type 0} (f : T → R.Carrier) (z : T) (scale : R.Carrier)
     (ks : List ℕ) (vs : List T) (n : ℕ) (start row : List T) : Type 0 where
   pub is : AddsMultiple R f z scale (sparse_elements R f (take n ks) (take n vs)) start row
 
 module _ {R : CommRing} {T : Type 0} {f : T → R.Carrier} {ks : List ℕ} {vs : List T} {n : ℕ} where
-  -- one product more
+  -- adding the product of the n-th entry
   pub dot_more : {k : ℕ} {v : T} {x : ℕ → R.Carrier} {s new : R.Carrier} → IsTerm ks vs n k v
       → IsDot R f ks vs x n s → new ≡ R.add s (R.mul (f v) (x k)) → IsDot R f ks vs x (n + 1) new
   dot_more {k} {v} {x} term so_far added = record {
@@ -47,14 +48,14 @@ module _ {R : CommRing} {T : Type 0} {f : T → R.Carrier} {ks : List ℕ} {vs :
         term.in_values (term.index k) (term.value v));
   }
 
-  -- all products
+  -- the dot product after the last entry is that of the lane
   pub dot_all : {x : ℕ → R.Carrier} {s : R.Carrier} → IsDot R f ks vs x n s
       → length vs ≡ length ks → n ≡ min (length ks) (length vs) → s ≡ dot_of R f ks vs x
   dot_all {x} so_far fits end = so_far.is
       ∙ ap (λ l. dot_of R f l (take n vs) x) (take_all n ks (omega (arith, fits, end)))
       ∙ ap (λ l. dot_of R f ks l x) (take_all n vs (omega (arith, fits, end)))
 
-  -- one multiple more
+  -- adding the multiple of the n-th entry
   pub added_more : {k : ℕ} {v z : T} {scale : R.Carrier} {start row new : List T}
       → IsTerm ks vs n k v → HasAdded R f z scale ks vs n start row
       → IsWrittenAt R f z k (R.add (f (get_or row k z)) (R.mul scale (f v))) row new
@@ -68,7 +69,7 @@ module _ {R : CommRing} {T : Type 0} {f : T → R.Carrier} {ks : List ℕ} {vs :
       (λ i i_lt. so_far.is i (omega (arith, same, i_lt))) j (omega (arith, same, j_lt)) in
       record { is = rw one.written more }
 
-  -- all multiples
+  -- the multiple that is added after the last entry is that of the lane
   pub added_all : {z : T} {scale : R.Carrier} {start row : List T}
       → HasAdded R f z scale ks vs n start row → length vs ≡ length ks
       → n ≡ min (length ks) (length vs)
@@ -77,7 +78,7 @@ module _ {R : CommRing} {T : Type 0} {f : T → R.Carrier} {ks : List ℕ} {vs :
       rw (take_all n vs (omega (arith, fits, end)), take_all n ks (omega (arith, fits, end))) at
       so_far.is
 
--- no multiple yet
+-- before the first entry nothing is added
 pub added_none : {R : CommRing} {T : Type 0} {f : T → R.Carrier} {z : T} {scale : R.Carrier}
     {ks : List ℕ} {vs row : List T} → HasAdded R f z scale ks vs 0 row row
 added_none {R} {f = f} {z = z} {scale} {row = row} = record {

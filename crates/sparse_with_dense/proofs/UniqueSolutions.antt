@@ -1,4 +1,4 @@
--- A plain triangular system has one solution.
+-- A triangular system of plain matrices has at most one solution.
 use Rattle.std.proofs.Common.{◌≡◌, ℕ, ◌-◌, ◌<◌, inl, inr, true, ap, sym, subst, ◌∙◌, refl, arith}
 use Rattle.std.specs.Prelude.{nat_le}
 use Rattle.std.proofs.lemmas.Bool.Decides.{nat_tests}
@@ -15,7 +15,7 @@ use Rattle.sparse_with_dense.proofs.ColumnSteps.{lower_is, lower_zero}
 use Rattle.sparse_with_dense.proofs.Uniqueness.{one_column_solution}
 
 module _ (R : CommRing) where
-  -- the columns of a plain solution solve the equations
+  -- each column of a plain solution solves the equations of its column of b
   column_solves : (t x b : Plain R) (n j : ℕ) → t.cols ≡ n → IsSolution R t x b
       → SolvesColumn R n t.value (λ k. x.value k j) (λ i. b.value i j)
   column_solves t x b n j cols h i lt = ap
@@ -70,7 +70,8 @@ module _ (R : CommRing) where
       (h.1.0, ap (λ c. R.mul c (f h.1.0)) (lower_is R a proper k k (omega arith)) ∙ h.1.1),
     )
 
-  -- what op(T) and op of an equal triangle solve is the same
+  -- the same for an operand: x and y are equal if y solves op(T) and x solves op of a triangle
+  -- equal to T
   pub op_one_solution : {X : Type 0} (cols : X → Plain R) (l : Op X) (lower x y b : Plain R) (m : ℕ)
       → IsProper (cols (inner_of l)) → (cols (inner_of l)).cols ≡ (cols (inner_of l)).rows
       → ((k : ℕ) → k < (cols (inner_of l)).rows → (e : R.Carrier)

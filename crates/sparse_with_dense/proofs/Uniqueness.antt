@@ -1,4 +1,5 @@
--- A triangular system has one solution: each equation determines an entry from those before it.
+-- A triangular system has at most one solution: each equation determines an entry from those before
+-- it.
 use Rattle.std.proofs.Common.{◌≡◌, ◌≢◌, ℕ, zero, suc, ◌<◌, ◌⊎◌, inl, inr, ap, sym, ◌∙◌}
 use Rattle.std.proofs.Common.{arith}
 use Rattle.std.specs.Prelude.{nat_eq, not}
@@ -12,8 +13,8 @@ use Rattle.sparse_with_dense.specs.InnerColumns.{SolvesColumn}
 use Rattle.sparse_with_dense.proofs.RingSteps.{mul_off, sum_below-split}
 
 module _ (R : CommRing) where
-  -- equal sums whose other terms are equal: the entries are equal where the coefficient has an
-  -- inverse
+  -- if two sums are equal and all their other terms are, the entries of term i are equal where its
+  -- coefficient has an inverse
   one_entry : (n i : ℕ) (t x y : ℕ → R.Carrier) (e : R.Carrier) → i < n → R.mul (t i) e ≡ R.one
       → ((k : ℕ) → k < n → k ≢ i → R.mul (t k) (x k) ≡ R.mul (t k) (y k))
       → sum_below R n (λ k. R.mul (t k) (x k)) ≡ sum_below R n (λ k. R.mul (t k) (y k))
@@ -27,7 +28,8 @@ module _ (R : CommRing) where
       (sym (sum_below-split R n i _ rest lt none (λ k _ ne. other k ne)) ∙ sums
       ∙ sum_below-split R n i _ rest lt none (λ k l ne. sym (same k l ne) ∙ other k ne)))
 
-  -- of two entries of a row the later one, by rank, has the coefficient zero
+  -- in each row i, the coefficient of an index k other than i is zero unless the rank of k is less
+  -- than that of i
   module _ (n : ℕ) (t : ℕ → ℕ → R.Carrier) (rank : ℕ → ℕ)
       (order : (i k : ℕ) → i < n → k ≢ i → (rank k < rank i) ⊎ (t i k ≡ R.zero))
       (inverse : (k : ℕ) → k < n → (e : R.Carrier) × (R.mul (t k k) e ≡ R.one))

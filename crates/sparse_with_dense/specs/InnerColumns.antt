@@ -12,7 +12,8 @@ use Rattle.sparse_with_dense.specs.SparseVectors.{elements, sparse_elements}
 use Rattle.sparse_with_dense.specs.Solutions.{HasPivot, plain_lower}
 
 module _ (R : CommRing) {T : Type 0} (f : T → R.Carrier) where
-  -- the entries of column k below the diagonal, and the inverse of the stored diagonal entry
+  -- rows and values are the entries of column k below the diagonal, and `inverse` is the inverse of
+  -- the stored diagonal entry
   pub record IsColumnBelow (a : Plain R) (k : ℕ) (rows : List ℕ) (values : List T) (inverse : T) :
       Type 0 where
     pub count : length values ≡ length rows
@@ -36,15 +37,15 @@ module _ (R : CommRing) {T : Type 0} (f : T → R.Carrier) where
   abbrev pub lower : Compressed T → ℕ → ℕ → R.Carrier
   lower m = (plain_lower R (plain_of_cols R f m)).value
 
-  -- those of an operand, as they are or transposed
+  -- the coefficients on and below the diagonal of an operand, transposed if the operand is
   abbrev pub op_lower : {X : Type 0} → (X → Compressed T) → Op X → ℕ → ℕ → R.Carrier
   op_lower see l = (plain_op R (λ x. plain_lower R (plain_of_cols R f (see x))) l).value
 
-  -- the scalars of x solve the equations whose right sides are those of b
+  -- the elements of x solve the equations whose right sides are the elements of b
   abbrev pub SolvesList : T → (ℕ → ℕ → R.Carrier) → List T → List T → Type 0
   SolvesList z t x b = SolvesColumn R (length b) t (elements R f z x) (elements R f z b)
 
-  -- the same of the scalars before and after a solve, whatever the column's number
+  -- the same for the elements before and after a solve, for each number of the column
   abbrev pub SolvesAt : T → (ℕ → ℕ → R.Carrier) → ℕ → List T → List T → Type 0
   SolvesAt z t _ b x = SolvesList z t x b
 
@@ -56,15 +57,15 @@ pub record SolvesColumns (R : CommRing) {T : Type 0} (f : T → R.Carrier) (z : 
   pub solved : (j : ℕ) → j < b.ncols → SolvesColumn R b.nrows t (λ i. f (value_at x i j z))
       (λ i. f (value_at b i j z))
 
--- y is x with the answer of row k, which is x k times e, and its multiple of the values taken off
--- in their rows
+-- a step of forward substitution from x to y: y k is x k times e, and y k times the values is
+-- subtracted in their rows
 pub record IsTaken (R : CommRing) {T : Type 0} (f : T → R.Carrier) (n k : ℕ) (rows : List ℕ)
     (values : List T) (e : R.Carrier) (x y : ℕ → R.Carrier) : Type 0 where
   pub answer : y k ≡ R.mul (x k) e
   pub others : (i : ℕ) → i < n → i ≢ k → y i ≡ R.add (x i)
       (R.mul (R.neg (y k)) (sparse_elements R f rows values i))
 
--- the answer of row k is taken in a list
+-- the step of row k is done in a list, with the inverse e
 abbrev pub TakesAnswer : (R : CommRing) {T : Type 0} → (T → R.Carrier) → T → ℕ → List ℕ → List T → T
     → List T → List T → Type 0
 TakesAnswer R f z k rows values e old new = IsTaken R f (length old) k rows values (f e)

@@ -12,7 +12,7 @@ module _ (R : CommRing) {T : Type 0} (f : T → R.Carrier) (s : T) where
   abbrev pub IsQuotient : Plain R → Plain R → Type 0
   IsQuotient q a = (y : T) × (R.mul (f s) (f y) ≡ R.one) × (q ≡ plain_scaled R (f y) a)
 
-  -- Singular where s has no inverse, and OutOfMemory where it has one
+  -- the error is Singular and s has no inverse, or OutOfMemory and s has one
   abbrev pub IsDivisionRefusal : OperationErrorKind → Type 0
   IsDivisionRefusal e = ((e ≡ Singular) × (HasInverse R f (f s) → ⊥))
       ⊎ ((e ≡ OutOfMemory) × HasInverse R f (f s))

@@ -6,11 +6,11 @@ use Rattle.sparse_coo_dense.specs.DensePlain.{plain_full}
 use Rattle.sparse_algebra.specs.Inverses.{HasInverse}
 
 module _ (R : CommRing) where
-  -- the matrix on the pairs with row at least column
+  -- the part of a matrix on and below the diagonal
   abbrev pub plain_lower : Plain R → Plain R
   plain_lower a = plain_kept R (λ i j. nat_le j i) a
 
-  -- t x has the values of b
+  -- the product t x has the same values as b
   abbrev pub IsSolution : Plain R → Plain R → Plain R → Type 0
   IsSolution t x b = plain_full R (plain_product R t x) ≡ b
 
@@ -18,7 +18,7 @@ module _ (R : CommRing) where
   abbrev pub HasPivot : {T : Type 0} → (T → R.Carrier) → Plain R → ℕ → Type 0
   HasPivot f a k = (a.has k k ≡ true) × HasInverse R f (a.value k k)
 
-  -- some diagonal entry isn't stored or has no inverse
+  -- some diagonal entry is not stored or has no inverse
   abbrev pub IsSingular : {T : Type 0} → (T → R.Carrier) → Plain R → Type 0
   IsSingular f a = (k : ℕ) × (k < a.rows) × ¬ HasPivot f a k
 

@@ -1,11 +1,12 @@
-//! Blocks of columns of a dense matrix, which are changed side by side.
+//! Blocks of columns of a dense matrix, which are updated in one pass over the sparse one.
 
 ghost use Rattle.std.specs.Prelude.{◌≡◌, ◌<◌, ◌≤◌, ◌⊎◌, false};
 
-// How many columns are changed at once.
+// The number of columns of a block.
 pub const BLOCK: usize = 4;
 
-// Returns how many of the columns that are left are changed at once. `alone` says that each is changed alone.
+// Returns the number of columns of the next block, one or four, where `left` columns are left. `alone` says that each
+// block has one.
 pub fn width_of_block(alone: bool, left: usize) -> usize
     requires { 0 < left }
     ensures within { result ≤ left }

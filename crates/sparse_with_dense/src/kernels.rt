@@ -1,4 +1,4 @@
-//! Sparse vectors and dense ones: a multiple added, dot products; of rows and columns of matrices, and of slices.
+//! A sparse and a dense vector: multiples added, and dot products; of rows and columns of matrices, and of slices.
 //!
 //! The loops over one lane that products, solves and factorisations share.
 

@@ -1,4 +1,4 @@
-//! Laws of triangular systems, each the contract of a function that does nothing.
+//! Laws of triangular systems, each stated as the postcondition of an empty function.
 
 ghost use Rattle.std.specs.Prelude.{◌≡◌, ℕ, ◌<◌};
 ghost use Rattle.sparse_algebra.specs.Plain.{Plain, IsProper, plain_transpose};
@@ -6,8 +6,8 @@ ghost use Rattle.sparse_with_dense.specs.Solutions.{plain_lower, IsSolution, Has
 
 use sparse_algebra::scalar::Ring;
 
-/// A system of a square lower triangle whose diagonal values have inverses has at most one solution, as it is and
-/// transposed.
+/// A system with a square lower triangle whose diagonal values have inverses has at most one solution. So has the
+/// transposed system.
 pub fn one_solution_law<T: Ring>()
     ensures lower { (a x y b : Plain T.ring) → IsProper a → a.cols ≡ a.rows
         → ((k : ℕ) → k < a.rows → (e : T.ring.Carrier) × (T.ring.mul (a.value k k) e ≡ T.ring.one))
@@ -21,7 +21,8 @@ pub fn one_solution_law<T: Ring>()
         → HasSameValues T.ring a.rows b.cols x y }
 {}
 
-/// A system of a square lower triangle with ones on the diagonal has at most one solution, as it is and transposed.
+/// A system with a square lower triangle with ones on the diagonal has at most one solution. So has the transposed
+/// system.
 pub fn unit_solution_law<T: Ring>()
     ensures lower { (a x y b : Plain T.ring) → IsProper a → a.cols ≡ a.rows
         → ((k : ℕ) → k < a.rows → a.value k k ≡ T.ring.one)

@@ -1,5 +1,5 @@
-//! Sparse matrices beside dense ones: a row or a column and a dense vector, products with dense matrices, and triangular
-//! solves. Division by a scalar stands here too, since it takes an inverse as the solves do.
+//! Operations on a sparse and a dense operand: a row or a column and a dense vector, products with dense matrices, and
+//! triangular solves; and division by a scalar, which needs an inverse as the solves do.
 #![tactic(auto)]
 
 mod blocks;

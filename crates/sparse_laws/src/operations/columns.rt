@@ -1,4 +1,4 @@
-//! The laws of sums and products of matrices by columns.
+//! Laws of sums and products of CSC matrices, over every ring.
 
 ghost use Rattle.std.specs.Prelude.{◌≡◌, IfOk};
 ghost use Rattle.sparse_algebra.specs.Plain.{plain_product, plain_sum, plain_transpose};
@@ -9,8 +9,9 @@ use sparse_algebra::learn;
 use sparse_algebra::scalar::Ring;
 use sparse_compressed::laws::stands_law;
 use sparse_csr_csc::csc::CscMatrix;
-use sparse_products::serial::{add_csc, mul_csc, neg_csc, sub_csc};
+use sparse_products::serial::mul_csc;
 use sparse_products::transposes::transposed_csc;
+use sparse_sums::{add_csc, neg_csc, sub_csc};
 use std::alloc::{AllocError, Global};
 
 /// Returns `a * (b + c)` and `a * b + a * c`, which are equal. Fails only if an allocation fails.
@@ -77,8 +78,7 @@ pub fn negative_twice<T: Ring>(alloc: Global, a: &CscMatrix<T>) -> Result<CscMat
     neg_csc(alloc, &negative)
 }
 
-/// Returns the product of the identity and `a`, which is equal to `a`. Fails only if an allocation
-/// fails.
+/// Returns the product of the identity and `a`, which is equal to `a`. Fails only if an allocation fails.
 pub fn identity_times<T: Ring>(alloc: Global, a: &CscMatrix<T>) -> Result<CscMatrix<T>, AllocError>
     ensures { IfOk result (λ m. plain_of_cols T.ring T.value m
         ≡ plain_of_cols T.ring T.value a.now) }
@@ -90,8 +90,7 @@ pub fn identity_times<T: Ring>(alloc: Global, a: &CscMatrix<T>) -> Result<CscMat
     mul_csc(alloc, &identity, a)
 }
 
-/// Returns the product of `a` and the identity, which is equal to `a`. Fails only if an allocation
-/// fails.
+/// Returns the product of `a` and the identity, which is equal to `a`. Fails only if an allocation fails.
 pub fn times_identity<T: Ring>(alloc: Global, a: &CscMatrix<T>) -> Result<CscMatrix<T>, AllocError>
     ensures { IfOk result (λ m. plain_of_cols T.ring T.value m
         ≡ plain_of_cols T.ring T.value a.now) }
@@ -103,8 +102,8 @@ pub fn times_identity<T: Ring>(alloc: Global, a: &CscMatrix<T>) -> Result<CscMat
     mul_csc(alloc, a, &identity)
 }
 
-/// Returns the transpose of `a * b`, and the product of the transposes in reverse order, which are
-/// equal. Fails only if an allocation fails.
+/// Returns the transpose of `a * b`, and the product of the transposes in reverse order, which are equal. Fails only if
+/// an allocation fails.
 pub fn transpose_of_product<T: Ring>(
     alloc: Global,
     a: &CscMatrix<T>,

@@ -1,4 +1,4 @@
-//! The factors of a product, transposed where the operand says so.
+//! The matrices of a product's operands, transposed where the operand says so.
 
 ghost use Rattle.std.specs.Prelude.{◌≡◌, IsOk, IfOk, ⊤, true, false};
 ghost use Rattle.sparse_algebra.specs.Plain.{plain_transpose};
@@ -16,18 +16,18 @@ use sparse_csr_csc::csc::CscMatrix;
 use sparse_csr_csc::csr::CsrMatrix;
 use std::alloc::{AllocError, Global};
 
-// The factors of a product `a * b` of two matrices whose lanes are rows.
+// The two matrices of a product `a * b`, whose lanes are rows.
 #[derive(Clone, Copy)]
 pub(super) struct Factors<'a, T> {
     pub(super) a: &'a CsMatrix<T>,
     pub(super) b: &'a CsMatrix<T>,
 }
 
-// A matrix that an operand lends, or the transpose that was made of one.
+// The matrix of an operand, borrowed, or its transpose, owned.
 #[derive(Drop)]
 enum Multiplicand<'a, T> {
-    Given(&'a CsMatrix<T>),
-    Made(CsMatrix<T>),
+    Borrowed(&'a CsMatrix<T>),
+    Owned(CsMatrix<T>),
 }
 
 impl<'a, T> Multiplicand<'a, T> {
@@ -36,13 +36,13 @@ impl<'a, T> Multiplicand<'a, T> {
         ensures { result.now ≡ matrix_of self.now }
     {
         match self {
-            Multiplicand::Given(matrix) => matrix,
-            Multiplicand::Made(matrix) => matrix,
+            Multiplicand::Borrowed(matrix) => matrix,
+            Multiplicand::Owned(matrix) => matrix,
         }
     }
 }
 
-// The factors of a product of two operands.
+// The matrices of the two operands of a product.
 #[derive(Drop)]
 pub(super) struct Operands<'a, T> {
     a: Multiplicand<'a, T>,
@@ -50,7 +50,7 @@ pub(super) struct Operands<'a, T> {
 }
 
 impl<'a, T> Operands<'a, T> {
-    // Returns references to the factors.
+    // Returns references to the matrices.
     pub(super) fn factors(&self) -> Factors<'_, T>
         ensures { AreMatricesOf self.now result }
     {
@@ -61,7 +61,7 @@ impl<'a, T> Operands<'a, T> {
     }
 }
 
-// Returns the factors of a product by rows. Only a transposed operand takes memory.
+// Returns the matrices of a product by rows. Allocates only if an operand is transposed.
 #[tactic(auto, using(crate::proofs::Refusals::refused))]
 pub(super) fn csr_operands<'a, T: Ring>(
     alloc: Global,
@@ -81,8 +81,8 @@ pub(super) fn csr_operands<'a, T: Ring>(
     Ok(Operands { a, b })
 }
 
-// Returns the factors of a product by columns, whose columns are the rows of the product in reverse order. Only a
-// transposed operand takes memory.
+// Returns the matrices of a product by columns, in reverse order: with lanes as rows, `b * a` is the transpose of the
+// product. Allocates only if an operand is transposed.
 #[tactic(auto, using(crate::proofs::Refusals::refused))]
 pub(super) fn csc_operands<'a, T: Ring>(
     alloc: Global,
@@ -100,7 +100,7 @@ pub(super) fn csc_operands<'a, T: Ring>(
     Ok(Operands { a: b, b: a })
 }
 
-// Returns the matrix of an operand. Only a transposed operand takes memory.
+// Returns the matrix of an operand. Allocates only if the operand is transposed.
 fn csr_factor<T: Ring>(
     alloc: Global,
     operand: Op<&CsrMatrix<T>>,
@@ -111,12 +111,12 @@ fn csr_factor<T: Ring>(
     ensures free { MatchOp operand.entry (λ _. IsOk result) (λ _. ⊤) }
 {
     match operand {
-        Op::NoOp(rows) => Ok(Multiplicand::Given(rows.cs())),
-        Op::Transpose(rows) => Ok(Multiplicand::Made(transposed(alloc, rows.cs())?)),
+        Op::NoOp(rows) => Ok(Multiplicand::Borrowed(rows.cs())),
+        Op::Transpose(rows) => Ok(Multiplicand::Owned(transposed(alloc, rows.cs())?)),
     }
 }
 
-// Returns the matrix of an operand. Only a transposed operand takes memory.
+// Returns the matrix of an operand. Allocates only if the operand is transposed.
 fn csc_factor<T: Ring>(
     alloc: Global,
     operand: Op<&CscMatrix<T>>,
@@ -126,8 +126,8 @@ fn csc_factor<T: Ring>(
     ensures free { MatchOp operand.entry (λ _. IsOk result) (λ _. ⊤) }
 {
     match operand {
-        Op::NoOp(cols) => Ok(Multiplicand::Given(cols.cs())),
-        Op::Transpose(cols) => Ok(Multiplicand::Made(transposed(alloc, cols.cs())?)),
+        Op::NoOp(cols) => Ok(Multiplicand::Borrowed(cols.cs())),
+        Op::Transpose(cols) => Ok(Multiplicand::Owned(transposed(alloc, cols.cs())?)),
     }
 }
 
@@ -140,7 +140,7 @@ fn transposed<T: Ring>(alloc: Global, matrix: &CsMatrix<T>) -> Result<CsMatrix<T
     matrix.transpose(alloc)
 }
 
-/// Returns the transpose of a matrix, by rows too. Fails only if an allocation fails.
+/// Returns the transpose of a CSR matrix, by rows. Fails only if an allocation fails.
 pub fn transposed_csr<T: Ring>(alloc: Global, a: &CsrMatrix<T>) -> Result<CsrMatrix<T>, AllocError>
     ensures { IfOk result
         (λ m. plain_of_rows T.ring T.value m
@@ -149,7 +149,7 @@ pub fn transposed_csr<T: Ring>(alloc: Global, a: &CsrMatrix<T>) -> Result<CsrMat
     Ok(CsrMatrix::from_cs(transposed(alloc, a.cs())?))
 }
 
-/// Returns the transpose of a matrix, by columns too. Fails only if an allocation fails.
+/// Returns the transpose of a CSC matrix, by columns. Fails only if an allocation fails.
 pub fn transposed_csc<T: Ring>(alloc: Global, a: &CscMatrix<T>) -> Result<CscMatrix<T>, AllocError>
     ensures { IfOk result
         (λ m. plain_of_cols T.ring T.value m

@@ -1,4 +1,4 @@
-//! A product into a given matrix, which may lack a place.
+//! Products that are added to a given matrix, whose pattern is tested.
 
 ghost use Rattle.std.specs.Prelude.{◌≡◌, ◌⊎◌, IsOk, IfErr, OnOk, OnErr};
 ghost use Rattle.sparse_algebra.specs.declared.error.OperationErrorKind.TheVariants.{InvalidPattern};
@@ -19,16 +19,16 @@ use sparse_csr_csc::csc::CscMatrix;
 use sparse_csr_csc::csr::CsrMatrix;
 use std::alloc::Global;
 
-/// Replaces `c` by `beta * c + alpha * op(a) * op(b)` on the places of `c`.
+/// Replaces `c` by `beta * c + alpha * op(a) * op(b)`, on the pattern of `c`.
 ///
-/// The inner dimensions of `op(a)` and `op(b)` must be equal, and `c` must have the shape of their product. Refuses
-/// with [`InvalidPattern`](sparse_algebra::error::OperationErrorKind::InvalidPattern) only where the product's pattern
-/// has a place that `c` lacks, whatever its value is, and with `OutOfMemory` only if an allocation fails; `c` is then
+/// The inner dimensions of `op(a)` and `op(b)` must be equal, and `c` must have the shape of their product. Returns
+/// [`InvalidPattern`](sparse_algebra::error::OperationErrorKind::InvalidPattern) only if the pattern of the product has
+/// an entry that `c` does not store, whatever its value is, and `OutOfMemory` only if an allocation fails; `c` is then
 /// unchanged.
 ///
 /// Two binary searches in a row of `c` for each triple (i, k, j) with (i, k) in `op(a)` and (k, j) in `op(b)`: the
-/// first pass tests the pattern, the second writes. No memory is asked for where neither operand is transposed; a
-/// transposed operand is transposed first.
+/// first pass tests the pattern, the second adds. Allocates nothing if neither operand is transposed; otherwise the
+/// transposes are computed first.
 #[tactic(auto, using(crate::proofs::Refusals::refused))]
 pub fn spmm_csr_prealloc<T: Ring>(
     alloc: Global,
@@ -67,16 +67,16 @@ pub fn spmm_csr_prealloc<T: Ring>(
     update_checked(update, pattern, values)
 }
 
-/// Replaces `c` by `beta * c + alpha * op(a) * op(b)` on the places of `c`.
+/// Replaces `c` by `beta * c + alpha * op(a) * op(b)`, on the pattern of `c`.
 ///
-/// The inner dimensions of `op(a)` and `op(b)` must be equal, and `c` must have the shape of their product. Refuses
-/// with [`InvalidPattern`](sparse_algebra::error::OperationErrorKind::InvalidPattern) only where the product's pattern
-/// has a place that `c` lacks, whatever its value is, and with `OutOfMemory` only if an allocation fails; `c` is then
+/// The inner dimensions of `op(a)` and `op(b)` must be equal, and `c` must have the shape of their product. Returns
+/// [`InvalidPattern`](sparse_algebra::error::OperationErrorKind::InvalidPattern) only if the pattern of the product has
+/// an entry that `c` does not store, whatever its value is, and `OutOfMemory` only if an allocation fails; `c` is then
 /// unchanged.
 ///
 /// Two binary searches in a column of `c` for each triple (i, k, j) with (i, k) in `op(a)` and (k, j) in `op(b)`: the
-/// first pass tests the pattern, the second writes. No memory is asked for where neither operand is transposed; a
-/// transposed operand is transposed first.
+/// first pass tests the pattern, the second adds. Allocates nothing if neither operand is transposed; otherwise the
+/// transposes are computed first.
 #[tactic(auto, using(crate::proofs::Refusals::refused))]
 pub fn spmm_csc_prealloc<T: Ring>(
     alloc: Global,

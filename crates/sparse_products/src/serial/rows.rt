@@ -1,5 +1,5 @@
-//! The product row by row: one walk adds up a row in a scratch row and notes its indices in a set, which is then read
-//! in order.
+//! The product row by row: the terms of a row are added in a scratch row and its column indices are collected in a bit
+//! set, from which they are read in increasing order.
 
 ghost use Rattle.std.specs.Prelude.{◌≡◌, ℕ, ◌<◌, ◌≤◌, ◌+◌, ◌↔◌, ◌++◌, [], ◌∷◌, length, drop, map};
 ghost use Rattle.std.specs.Prelude.{All, IfOk, OnOk, slice_index_or, vec_len, vec_capacity};
@@ -23,12 +23,12 @@ use sparse_coo_dense::steps::Steps;
 use sparse_pattern::pattern::SparsityPattern;
 use std::alloc::{AllocError, Global};
 
-// The rows that are looked at to guess the places of all: some 64, and at most one of 16.
+// The number of entries of a product is estimated from about 64 rows, and from at most one row in 16.
 const SAMPLED_ROWS: usize = 64;
 
 const ROWS_FOR_A_SAMPLE: usize = 16;
 
-// The rows of a product that are made so far.
+// The first rows of a product, as the arrays of a compressed matrix.
 #[derive(Drop)]
 struct Rows<T> {
     offsets: Vec<usize>,
@@ -57,7 +57,7 @@ pub(super) fn multiply_rows<T: Ring>(
     Ok(into_matrix(rows, first.major_dim(), second.minor_dim()))
 }
 
-// No rows yet, with room for a number of places, or for none if so much memory can't be had.
+// Returns arrays of no rows, with capacity for `room` entries, or without capacity if that memory can't be had.
 #[tactic(auto, using(crate::proofs::Refusals::refused))]
 fn no_rows<T: Ring>(alloc: Global, major_dim: usize, room: usize) -> Result<Rows<T>, AllocError>
     ensures offsets { IfOk result (λ rows. rows.offsets.items ≡ 0 ∷ []) }
@@ -73,7 +73,7 @@ fn no_rows<T: Ring>(alloc: Global, major_dim: usize, room: usize) -> Result<Rows
     })
 }
 
-// An empty vector with this room, or without room if so much memory can't be had.
+// Returns an empty vector with capacity for `room` elements, or without capacity if that memory can't be had.
 fn with_room<T>(alloc: Global, room: usize) -> Vec<T>
     ensures { result.items ≡ [] }
 {
@@ -82,8 +82,8 @@ fn with_room<T>(alloc: Global, room: usize) -> Vec<T>
     vector
 }
 
-// How many places the product may have: an eighth more than if each row had as many for a triple (i, k, j) as a few
-// rows that stand equally far apart, but at most one for each pair (i, j).
+// Estimates the number of entries of the product: extrapolates from about 64 evenly spaced rows by the number of
+// triples (i, k, j), adds an eighth, and returns at most one for each pair (i, j).
 fn guess_places(
     alloc: Global,
     a: &SparsityPattern,
@@ -109,7 +109,7 @@ fn guess_places(
     Ok(guess.min(a.major_dim().saturating_mul(b.minor_dim())))
 }
 
-// How many indices the lanes of `b` that `lane` lists have, repeated ones too.
+// Returns the sum of the lengths of lane k of `b` for each k in `lane`.
 fn count_indices(lane: &[usize], b: &SparsityPattern) -> usize
     requires { All (λ k. k < b.now.major_dim) lane.now }
 {
@@ -121,8 +121,8 @@ fn count_indices(lane: &[usize], b: &SparsityPattern) -> usize
     count
 }
 
-// Appends row i of the product. The scratch set is empty and the scratch row is zero before and after. Inlined: where
-// rows are short, the calls for a row took half of the time.
+// Appends row i of the product. The scratch set is empty and the scratch row is zero before and after. Inlined:
+// otherwise calls take half of the time for short rows.
 #[tactic(auto, using(crate::proofs::Refusals::refused))]
 #[inline(always)]
 fn push_row<T: Ring>(
@@ -160,7 +160,7 @@ fn push_row<T: Ring>(
     Ok(())
 }
 
-// Adds up row i of the product in a scratch row of zeros, and its indices in an empty set.
+// Computes row i of the product in a scratch row of zeros, and collects its column indices in an empty set.
 #[inline(always)]
 fn add_row<T: Ring>(factors: Factors<'_, T>, i: usize, set: &mut LaneSet, row: &mut [T])
     requires inner { CanMultiply factors }
@@ -179,7 +179,8 @@ fn add_row<T: Ring>(factors: Factors<'_, T>, i: usize, set: &mut LaneSet, row: &
     add_product_row(T::one(), factors, i, set, row, &mut Steps::new());
 }
 
-// Appends the row's values at the indices, for which there is room, and sets the row to zero there.
+// Appends the elements of the row at `indices` to `values`, which has capacity for them, and sets them to zero in the
+// row.
 fn push_taken<T: Ring>(indices: &[usize], row: &mut [T], values: &mut Vec<T>)
     requires rising { IsStrictlyIncreasing indices.now }
     requires inside { All (λ j. j < length row.old) indices.now }
@@ -194,7 +195,7 @@ fn push_taken<T: Ring>(indices: &[usize], row: &mut [T], values: &mut Vec<T>)
     }
 }
 
-// Returns the matrix of the rows, and gives back the memory that they do not take.
+// Returns the matrix of the rows, and releases unused capacity.
 fn into_matrix<T: Ring>(rows: Rows<T>, major_dim: usize, minor_dim: usize) -> CsMatrix<T>
     requires { IsSound (arrays_of major_dim minor_dim rows.offsets.items rows.indices.items
         rows.values.items) }

@@ -1,4 +1,4 @@
-//! A product that is added to the values of a pattern, through a scratch row.
+//! Updates the values of a pattern by a product, through a scratch row.
 
 ghost use Rattle.std.specs.Prelude.{◌≡◌, ℕ, ◌<◌, ◌+◌, length, slice_index, slice_index_or};
 ghost use Rattle.std.specs.Prelude.{All, IfOk, OnErr, OnOk, vec_len};
@@ -18,10 +18,11 @@ use sparse_coo_dense::steps::Steps;
 use sparse_pattern::pattern::SparsityPattern;
 use std::alloc::{AllocError, Global};
 
-// Updates the matrix of a pattern and its values, which has the places of the product.
+// Replaces the matrix `c` of a pattern and its values by `beta * c + alpha * a * b`. The pattern contains that of the
+// product.
 //
-// Gustavson's algorithm (1978): each row of the product is added up in a scratch row as wide as the pattern, and
-// gathered at the places.
+// Gustavson's algorithm (1978): the terms of each row of the product are added in a scratch row as wide as the pattern,
+// and the sums are gathered at the indices of the pattern's row.
 #[tactic(auto, using(crate::proofs::Refusals::refused))]
 pub(super) fn scatter_rows<T: Ring>(
     alloc: Global,
@@ -51,7 +52,7 @@ pub(super) fn scatter_rows<T: Ring>(
     Ok(())
 }
 
-// A scratch row of `width` zeros.
+// Returns a scratch row of `width` zeros.
 pub(super) fn zero_row<T: Ring>(alloc: Global, width: usize) -> Result<Vec<T>, AllocError>
     ensures width { IfOk result (λ row. vec_len row ≡ width) }
     ensures zero { IfOk result (λ row. IsZeroRow T.ring T.value T.zero_value row.items) }
@@ -61,7 +62,7 @@ pub(super) fn zero_row<T: Ring>(alloc: Global, width: usize) -> Result<Vec<T>, A
     Ok(row)
 }
 
-// Updates lane i. The scratch row is zero before and after.
+// Updates the values of lane i. The scratch row is zero before and after.
 #[inline(always)]
 fn scatter_row<T: Ring>(
     update: &Update<'_, T>,
@@ -105,7 +106,7 @@ fn scatter_row<T: Ring>(
     );
 }
 
-// Multiplies the values by `beta`, adds to each the row's value at its index, and sets the row to zero there.
+// Multiplies each value by `beta`, adds the element of the row at its index, and sets that element to zero.
 fn gather_row<T: Ring>(
     beta: T,
     indices: &[usize],

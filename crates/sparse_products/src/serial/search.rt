@@ -1,4 +1,4 @@
-//! A product that is added to the values of a pattern by binary search, without memory.
+//! Updates the values of a pattern by a product, by binary searches and without scratch memory.
 
 ghost use Rattle.std.specs.Prelude.{◌≡◌, ℕ, ◌+◌, ◌<◌, ◌↔◌, length, All, IsTrue};
 ghost use Rattle.sparse_pattern.specs.Raw.{IsPlace};
@@ -15,7 +15,7 @@ use sparse_compressed::position_of;
 use sparse_coo_dense::steps::Steps;
 use sparse_pattern::pattern::SparsityPattern;
 
-// Whether the pattern has each place of the product of `a` and `b`.
+// Whether the pattern contains that of the product of `a` and `b`.
 pub(super) fn covers_product(
     pattern: &SparsityPattern,
     a: &SparsityPattern,
@@ -36,7 +36,7 @@ pub(super) fn covers_product(
     true
 }
 
-// Whether lane i of the pattern has the indices of the lanes of `b` that `lanes` lists.
+// Whether lane i of the pattern contains lane k of `b` for each k in `lanes`.
 fn covers_lanes(pattern: &SparsityPattern, i: usize, lanes: &[usize], b: &SparsityPattern) -> bool
     requires lane { i < pattern.now.major_dim }
     requires shared { All (λ k. k < b.now.major_dim) lanes.now }
@@ -50,7 +50,7 @@ fn covers_lanes(pattern: &SparsityPattern, i: usize, lanes: &[usize], b: &Sparsi
     true
 }
 
-// Whether lane i of the pattern has the indices of lane k of `b`.
+// Whether lane i of the pattern contains lane k of `b`.
 fn covers_lane(pattern: &SparsityPattern, i: usize, b: &SparsityPattern, k: usize) -> bool
     requires lane { i < pattern.now.major_dim }
     requires shared { k < b.now.major_dim }
@@ -68,14 +68,14 @@ fn covers_lane(pattern: &SparsityPattern, i: usize, b: &SparsityPattern, k: usiz
     true
 }
 
-// The positions of a lane of a pattern as slots of its columns.
+// The accumulators are the values of a lane of a pattern.
 #[derive(Drop)]
 struct LaneSlots<'a> {
     pattern: &'a SparsityPattern,
     lane: usize,
 }
 
-// The slot of a column is the position of its place, and nothing is noted.
+// The accumulator of a column is the value at the offset of its index in the lane. Nothing is noted.
 impl<'a> Slots for LaneSlots<'a> {
     ghost use Rattle.std.specs.Prelude.{⊤};
     ghost use Rattle.std.proofs.Common.{sym, ◌∙◌};
@@ -100,7 +100,8 @@ impl<'a> Slots for LaneSlots<'a> {
     ghost one_column = { λ s i j p here there. sym here.1.1 ∙ there.1.1 };
 }
 
-// Updates the matrix of a pattern and its values, which has the places of the product.
+// Replaces the matrix `c` of a pattern and its values by `beta * c + alpha * a * b`. The pattern contains that of the
+// product.
 pub(super) fn search_rows<T: Ring>(
     update: Update<'_, T>,
     pattern: &SparsityPattern,
@@ -123,14 +124,14 @@ pub(super) fn search_rows<T: Ring>(
     }
 }
 
-// Multiplies each value by `factor`.
-fn scale_values<T: Ring>(factor: T, values: &mut [T], steps: &mut Steps)
-    ensures scaled { AreChanged T.value (T.ring.mul (T.value factor)) T.zero_value values.old
+// Multiplies each value by `scale`.
+fn scale_values<T: Ring>(scale: T, values: &mut [T], steps: &mut Steps)
+    ensures scaled { AreChanged T.value (T.ring.mul (T.value scale)) T.zero_value values.old
         values.new }
     ensures counted { steps.new ≡ steps.old + length values.old }
 {
     for value in values.iter_mut() {
         steps.tick();
-        *value = factor.mul(*value);
+        *value = scale.mul(*value);
     }
 }

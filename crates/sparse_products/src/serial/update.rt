@@ -1,4 +1,4 @@
-//! A product that is added to the values of a given pattern.
+//! Updates of the values of a given pattern by a product.
 
 ghost use Rattle.std.specs.Prelude.{◌≡◌, ◌+◌, ◌≤◌, ◌↔◌, IsOk, IfErr, OnErr, OnOk};
 ghost use Rattle.sparse_algebra.specs.declared.error.OperationErrorKind.TheVariants.{InvalidPattern};
@@ -19,7 +19,7 @@ use sparse_coo_dense::steps::Steps;
 use sparse_pattern::pattern::SparsityPattern;
 use std::alloc::{AllocError, Global};
 
-// The update `beta * c + alpha * a * b` of a matrix `c`, on the places of `c`.
+// The update of a matrix `c` to `beta * c + alpha * a * b`, on the pattern of `c`.
 #[derive(Clone, Copy)]
 pub(super) struct Update<'a, T> {
     pub(super) beta: T,
@@ -27,7 +27,8 @@ pub(super) struct Update<'a, T> {
     pub(super) factors: Factors<'a, T>,
 }
 
-// Updates the matrix of a pattern and its values, or refuses before any value is written.
+// Updates the matrix of a pattern and its values. Returns an error, before a value is written, if the pattern does not
+// contain that of the product.
 pub(super) fn update_checked<T: Ring>(
     update: Update<'_, T>,
     pattern: &SparsityPattern,
@@ -53,9 +54,9 @@ pub(super) fn update_checked<T: Ring>(
     Ok(())
 }
 
-// Updates the matrix of a pattern and its values, which has the places of the product.
+// Updates the matrix of a pattern and its values. The pattern contains that of the product.
 //
-// Memory for a scratch row is taken only if the row is no longer than `b` and the pattern have places.
+// A scratch row is allocated only if it is not longer than the number of entries of `b` and of the pattern together.
 pub(super) fn update_covered<T: Ring>(
     alloc: Global,
     update: Update<'_, T>,

@@ -1,4 +1,4 @@
-//! The walk through the terms of a row of a product, which all products share (Gustavson 1978).
+//! Adds the terms of a row of a product to accumulators: the loop that all products share (Gustavson 1978).
 
 ghost use Rattle.std.specs.Prelude.{◌≡◌, ℕ, ◌+◌, ◌<◌, length, slice_range};
 ghost use Rattle.sparse_pattern.specs.Raw.{IsPlace, start_of, end_of, lane_of};
@@ -15,17 +15,18 @@ use sparse_algebra::scalar::Ring;
 use sparse_compressed::CsMatrix;
 use sparse_coo_dense::steps::Steps;
 
-// Where the terms of a row are added: a slot for each column, at which each has its own.
+// The accumulators of a row of a product: an element of a target for each column, to which the terms of the column are
+// added.
 pub(super) trait Slots {
     ghost use Rattle.std.specs.Prelude.{◌⊎◌, ◌↔◌};
 
-    // The slot of a column is p.
+    // The accumulator of column j is element p of the target, as `slot self j p`.
     ghost slot: { Self → ℕ → ℕ → Type 0 };
 
-    // The columns that are noted.
+    // Column j was noted. A type that notes nothing says that each column was.
     ghost noted: { Self → ℕ → Type 0 };
 
-    // Returns the slot of a column, and notes the column.
+    // Returns the index of a column's accumulator in the target, and notes the column.
     fn slot_of(&mut self, column: usize) -> usize
         requires { (p : ℕ) × slot self.old column p }
         ensures found { slot self.old column result }
@@ -37,7 +38,7 @@ pub(super) trait Slots {
     ghost one_column: { (s : Self) → (i j p : ℕ) → slot s i p → slot s j p → i ≡ j };
 }
 
-// Each column is its own slot, and nothing is noted.
+// The accumulators are a scratch row: that of column j is element j. Nothing is noted.
 #[derive(Drop)]
 pub(super) struct EachColumn;
 
@@ -59,7 +60,7 @@ impl Slots for EachColumn {
     ghost one_column = { λ s i j p here there. here ∙ sym there };
 }
 
-// Adds `alpha` times row i of the product to the slots of its columns, and notes the columns.
+// Adds `alpha` times row i of the product to the accumulators of its columns, and notes the columns.
 #[inline(always)]
 pub(super) fn add_product_row<T: Ring, S: Slots>(
     alpha: T,
@@ -88,7 +89,7 @@ pub(super) fn add_product_row<T: Ring, S: Slots>(
     }
 }
 
-// Adds a multiple of row k of a matrix to the slots of its columns, and notes the columns.
+// Adds `scale` times row k of `b` to the accumulators of its columns, and notes the columns.
 #[inline(always)]
 fn add_matrix_row<T: Ring, S: Slots>(
     scale: T,

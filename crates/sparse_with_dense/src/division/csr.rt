@@ -14,7 +14,7 @@ use std::alloc::Global;
 
 /// Returns `a` divided by `s`: each stored value is multiplied by the inverse of `s`. The pattern is that of `a`.
 ///
-/// Returns `Singular` if and only if `s` has no inverse, even if `a` has no places; this is tested before memory is
+/// Returns `Singular` if and only if `s` has no inverse, even if `a` stores no entry; this is tested before memory is
 /// allocated. Otherwise fails only if an allocation fails.
 ///
 /// # Examples
@@ -45,7 +45,7 @@ pub fn div_scalar_csr<T: Units>(
 
 /// Divides a matrix by `s` in place: each stored value is multiplied by the inverse of `s`. The pattern is unchanged.
 ///
-/// Returns `Singular` if and only if `s` has no inverse, even if `a` has no places; `a` is then unchanged. Allocates
+/// Returns `Singular` if and only if `s` has no inverse, even if `a` stores no entry; `a` is then unchanged. Allocates
 /// nothing.
 pub fn div_scalar_mut_csr<T: Units>(a: &mut CsrMatrix<T>, s: T) -> Result<(), OperationError>
     ensures quotient { OnOk result (IsQuotient T.ring T.value s

@@ -14,7 +14,7 @@ use sparse_csr_csc::csc::CscMatrix;
 ///
 /// `col_index` must be less than `a.ncols()`, and `y` must have `a.nrows()` elements.
 ///
-/// One multiplication for each place of the column. Allocates nothing.
+/// One multiplication for each entry of the column. Allocates nothing.
 ///
 /// # Examples
 ///
@@ -42,7 +42,7 @@ pub fn axpy_csc_col<T: Ring>(alpha: T, a: &CscMatrix<T>, col_index: usize, y: &m
 ///
 /// `col_index` must be less than `a.ncols()`, and `x` must have `a.nrows()` elements.
 ///
-/// One multiplication for each place of the column. Allocates nothing.
+/// One multiplication for each entry of the column. Allocates nothing.
 ///
 /// # Examples
 ///

@@ -14,7 +14,7 @@ use sparse_csr_csc::csr::CsrMatrix;
 ///
 /// `row_index` must be less than `a.nrows()`, and `y` must have `a.ncols()` elements.
 ///
-/// One multiplication for each place of the row. Allocates nothing.
+/// One multiplication for each entry of the row. Allocates nothing.
 ///
 /// # Examples
 ///
@@ -42,7 +42,7 @@ pub fn axpy_csr_row<T: Ring>(alpha: T, a: &CsrMatrix<T>, row_index: usize, y: &m
 ///
 /// `row_index` must be less than `a.nrows()`, and `x` must have `a.ncols()` elements.
 ///
-/// One multiplication for each place of the row. Allocates nothing.
+/// One multiplication for each entry of the row. Allocates nothing.
 ///
 /// # Examples
 ///

@@ -1,4 +1,4 @@
-//! Dot products of a sparse vector and dense ones.
+//! Dot products of a sparse vector and dense vectors.
 
 ghost use Rattle.std.specs.Prelude.{◌≡◌, ◌<◌, ◌*◌, All, length, slice_index_or};
 ghost use Rattle.sparse_algebra.specs.Sums.{dot_of};
@@ -34,10 +34,11 @@ pub fn usdot<T: Ring>(values: &[T], indices: &[usize], y: &[T]) -> T
     dot(indices, values, y, 1)
 }
 
-/// Returns the sum of a lane's values, each times the entry of a column at its index.
+/// Returns the dot product of a lane and a dense vector: the sum of the values, each times the element of the vector at
+/// its index.
 ///
-/// The entries of the column stand `step` apart in `column`. There must be one value for each index, and indices must
-/// be inside the column.
+/// Element k of the vector is `column[k * step]`. There must be one value for each index, and the elements at the
+/// indices must be inside `column`.
 ///
 /// One multiplication for each index. Allocates nothing.
 ///
@@ -57,7 +58,7 @@ pub fn dot<T: Ring>(indices: &[usize], values: &[T], column: &[T], step: usize) 
     sum
 }
 
-/// Returns the [`dot`] products of one lane and four columns, so that the lane is read once for them.
+/// Returns the [`dot`] products of one lane and four dense vectors. The lane is read once for all four.
 ///
 /// For the crates of this library.
 #[doc(hidden)]
@@ -94,7 +95,7 @@ pub fn dot_four<T: Ring>(
     (a, b, c, d)
 }
 
-// Returns the sum plus the value times an entry of the column.
+// Returns `sum + value * column[at]`.
 #[inline(always)]
 fn add_term<T: Ring>(sum: T, value: T, column: &[T], at: usize) -> T
     requires { at < length column.now }

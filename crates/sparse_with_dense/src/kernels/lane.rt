@@ -1,4 +1,4 @@
-//! Lanes of the core of CSR and CSC.
+//! A lane of the core of CSR and CSC matrices, and a dense vector.
 
 ghost use Rattle.std.specs.Prelude.{◌≡◌, ◌<◌, All, length};
 ghost use Rattle.std.specs.List.Sorted.{IsStrictlyIncreasing};

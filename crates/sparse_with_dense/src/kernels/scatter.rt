@@ -1,4 +1,4 @@
-//! Multiples of a sparse vector, added to dense ones.
+//! Multiples of a sparse vector, added to dense vectors.
 
 ghost use Rattle.std.specs.Prelude.{◌≡◌, ◌<◌, All, length, slice_index_or};
 ghost use Rattle.sparse_with_dense.specs.InnerKernels.{IsWrittenAt};
@@ -35,10 +35,10 @@ pub fn usaxpy<T: Ring>(alpha: T, values: &[T], indices: &[usize], y: &mut [T])
     }
 }
 
-/// Adds multiples of one lane to four dense rows, so that the lane is read once for them.
+/// Adds a multiple of one lane to each of four dense vectors. The lane is read once for all four.
 ///
-/// `lane` is the lane's indices and values. There must be one value for each index, and indices must be inside the
-/// rows, which are equally long.
+/// `lane` has the indices and the values. There must be one value for each index, and the indices must be less than the
+/// length of the vectors, which are equally long.
 ///
 /// Four multiplications for each index. Allocates nothing.
 ///
@@ -70,7 +70,8 @@ pub fn add_multiple_four<T: Ring>(
     let (a, b, c, d) = scales;
     let (indices, values) = lane;
     for (index, value) in indices.iter().zip(values) {
-        // Read once: the compiler cannot tell that a write to a row leaves what is behind the references.
+        // Read once: the compiler cannot tell that a write to a vector does not change the index and the value behind
+        // the references.
         let (index, value) = (*index, *value);
         add_product(first, index, a, value);
         add_product(second, index, b, value);
@@ -79,7 +80,7 @@ pub fn add_multiple_four<T: Ring>(
     }
 }
 
-// Adds a product to the entry at an index.
+// Adds `scale * value` to the element at an index.
 #[inline(always)]
 fn add_product<T: Ring>(row: &mut [T], index: usize, scale: T, value: T)
     requires { index < length row.old }

@@ -1,4 +1,4 @@
-//! Products by rows of the sparse factor: an entry is the dot product of a row with a column.
+//! Products by rows of the sparse operand: an entry of the result is the dot product of a row and a column.
 
 ghost use Rattle.std.specs.Prelude.{◌≡◌, ◌+◌, ◌<◌, ◌≤◌, ◌^◌, length, slice_index_or};
 ghost use Rattle.sparse_algebra.specs.Plain.{plain_product};
@@ -12,7 +12,7 @@ use crate::products::operand::{column_of, step_of};
 use crate::products::update::Change;
 use sparse_algebra::scalar::Ring;
 
-// Updates column j of C by A times column j of op(B).
+// Updates column j of C with the product of A and column j of op(B).
 pub fn gather_column<T: Ring>(change: &Change<'_, T>, j: usize, c: &mut [T])
     requires inner { change.now.a.now.pattern.minor_dim ≡ (op_dense T.ring T.value change.now.b).rows }
     requires rows { length c.old ≡ change.now.a.now.pattern.major_dim }
@@ -31,7 +31,8 @@ pub fn gather_column<T: Ring>(change: &Change<'_, T>, j: usize, c: &mut [T])
     }
 }
 
-// Updates four columns of C, from column j on, by A times those of op(B). Each row of A is read once for them.
+// Updates four columns of C, from column j on, with the products of A and those of op(B). Each row of A is read once
+// for all four.
 pub fn gather_four<T: Ring>(
     change: &Change<'_, T>,
     j: usize,
@@ -78,7 +79,7 @@ pub fn gather_four<T: Ring>(
     }
 }
 
-// Replaces entry i of a column by beta times it plus alpha times a sum.
+// Replaces entry i of a column by beta times the entry plus alpha times a sum.
 fn update_entry<T: Ring>(beta: T, c: &mut [T], i: usize, alpha: T, sum: T)
     requires { i < length c.old }
     ensures { IsWrittenAt T.ring T.value T.zero_value i (updated T.ring T.value (T.value beta)

@@ -9,7 +9,7 @@ use sparse_algebra::operand::Op;
 use sparse_algebra::scalar::Ring;
 use sparse_coo_dense::dense::DMatrix;
 
-// Returns how far apart the entries of a column of op(B) stand.
+// Returns the distance between neighbouring entries of a column of op(B) in the values of B.
 pub fn step_of<T>(b: Op<&DMatrix<T>>) -> usize
     ensures { result ≡ op_step b.entry }
 {

@@ -1,4 +1,4 @@
-//! The products of a sparse and a dense matrix.
+//! Products of a sparse and a dense matrix.
 
 ghost use Rattle.std.specs.Prelude.{◌≡◌, IfOk};
 ghost use Rattle.sparse_algebra.specs.Plain.{plain_product};
@@ -19,9 +19,9 @@ use std::alloc::{AllocError, Global};
 ///
 /// The inner dimensions of `op(a)` and `op(b)` must be equal, and `c` must have the shape of their product.
 ///
-/// One multiplication for each place of `a` and column of `c`, and two for each value of `c` (one more for each value
-/// of `b` where `a` is transposed). Where `a` is not transposed, each of its rows is read once for four columns. Takes
-/// no memory.
+/// One multiplication for each entry of `a` and column of `c`, and two for each value of `c` (one more for each value
+/// of `b` if `a` is transposed). If `a` is not transposed, each of its rows is read once for four columns. Allocates
+/// nothing.
 ///
 /// # Examples
 ///
@@ -60,9 +60,9 @@ pub fn spmm_csr_dense<T: Ring>(
 ///
 /// The inner dimensions of `op(a)` and `op(b)` must be equal, and `c` must have the shape of their product.
 ///
-/// One multiplication for each place of `a` and column of `c`, and two for each value of `c` (one more for each value
-/// of `b` where `a` is not transposed). Where `a` is transposed, each of its columns is read once for four columns of
-/// `c`. Takes no memory.
+/// One multiplication for each entry of `a` and column of `c`, and two for each value of `c` (one more for each value
+/// of `b` if `a` is not transposed). If `a` is transposed, each of its columns is read once for four columns of `c`.
+/// Allocates nothing.
 ///
 /// # Examples
 ///
@@ -99,8 +99,8 @@ pub fn spmm_csc_dense<T: Ring>(
 
 /// Returns the dense product `a * b`.
 ///
-/// `a.ncols()` must equal `b.nrows()`. One multiplication for each place of `a` and column of `b`, and two for each
-/// value of the result. Allocates the result alone, and fails only if that allocation fails or the number of its values
+/// `a.ncols()` must equal `b.nrows()`. One multiplication for each entry of `a` and column of `b`, and two for each
+/// value of the result. Allocates only the result, and fails only if that allocation fails or the number of its values
 /// exceeds `usize::MAX`.
 ///
 /// # Examples
@@ -130,8 +130,8 @@ pub fn mul_csr_dense<T: Ring>(
 
 /// Returns the dense product `a * b`.
 ///
-/// `a.ncols()` must equal `b.nrows()`. One multiplication for each place of `a` and column of `b`, one for each value
-/// of `b`, and one for each value of the result. Allocates the result alone, and fails only if that allocation fails or
+/// `a.ncols()` must equal `b.nrows()`. One multiplication for each entry of `a` and column of `b`, one for each value
+/// of `b`, and one for each value of the result. Allocates only the result, and fails only if that allocation fails or
 /// the number of its values exceeds `usize::MAX`.
 ///
 /// # Examples

@@ -1,4 +1,4 @@
-//! Products by columns of the sparse factor: a column of it is added to a column of the result, times one entry.
+//! Products by columns of the sparse operand: a multiple of each of its columns is added to a column of the result.
 
 ghost use Rattle.std.specs.Prelude.{◌≡◌, ◌<◌, length};
 ghost use Rattle.sparse_algebra.specs.Plain.{plain_product};
@@ -12,7 +12,7 @@ use crate::products::update::Change;
 use sparse_algebra::scalar::Ring;
 use sparse_compressed::scaling::scale_values;
 
-// Updates column j of C by the transpose of A times column j of op(B).
+// Updates column j of C with the product of the transpose of A and column j of op(B).
 pub fn scatter_column<T: Ring>(change: &Change<'_, T>, j: usize, c: &mut [T])
     requires inner { change.now.a.now.pattern.major_dim ≡ (op_dense T.ring T.value change.now.b).rows }
     requires rows { length c.old ≡ change.now.a.now.pattern.minor_dim }

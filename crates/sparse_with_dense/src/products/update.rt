@@ -1,4 +1,4 @@
-//! The update of a dense matrix, some columns at a time.
+//! Updates of a dense matrix, one or four columns at a time.
 
 ghost use Rattle.std.specs.Prelude.{◌≡◌, ◌<◌, ◌≤◌, ◌+◌, ◌*◌, ◌⊎◌, ◌^◌, false, length};
 ghost use Rattle.sparse_algebra.specs.Plain.{plain_product};
@@ -18,7 +18,8 @@ use sparse_algebra::scalar::Ring;
 use sparse_compressed::CsMatrix;
 use sparse_coo_dense::dense::DMatrix;
 
-// What replaces C: beta C + alpha A op(B), where A is transposed or not, and its lanes are rows.
+// The update of C to beta C + alpha A op(B). A is the matrix whose rows are the lanes of `a`, or its transpose if
+// `transposed`.
 #[derive(Clone, Copy)]
 pub struct Change<'a, T> {
     pub beta: T,
@@ -28,7 +29,8 @@ pub struct Change<'a, T> {
     pub b: Op<&'a DMatrix<T>>,
 }
 
-// Replaces C by beta C + alpha A op(B), where A is transposed or not, and its lanes are rows.
+// Replaces C by beta C + alpha A op(B). A is the matrix whose rows are the lanes of `a`, or its transpose if
+// `transposed`.
 pub fn update<T: Ring>(
     beta: T,
     c: &mut DMatrix<T>,
@@ -50,7 +52,7 @@ pub fn update<T: Ring>(
         (op_dense T.ring T.value b.entry)) }
 {
     learn(a.values());
-    // A matrix without rows stores nothing, however many columns it has.
+    // A dense matrix without rows has no values, whatever its number of columns.
     if c.nrows() > 0 {
         let change = Change {
             beta,
@@ -64,7 +66,7 @@ pub fn update<T: Ring>(
     }
 }
 
-// Updates the columns of C, four at a time where each row of A can be read once for them.
+// Updates the columns of C, four at a time if A is not transposed: each row of A is then read once for all four.
 fn update_columns<T: Ring>(change: &Change<'_, T>, size: (usize, usize), c: &mut [T])
     requires inner { (plain_transpose_if T.ring change.now.transposed
         (plain_of_rows T.ring T.value change.now.a.now)).cols
@@ -89,7 +91,7 @@ fn update_columns<T: Ring>(change: &Change<'_, T>, size: (usize, usize), c: &mut
     }
 }
 
-// Updates one column of C, or four, from column j on.
+// Updates one or four columns of C, from column j on.
 fn update_block<T: Ring>(
     change: &Change<'_, T>,
     size: (usize, usize),
@@ -121,7 +123,7 @@ fn update_block<T: Ring>(
     }
 }
 
-// Updates four columns of C, from column j on, by A that is not transposed.
+// Updates four columns of C, from column j on. A is not transposed.
 fn update_four<T: Ring>(change: &Change<'_, T>, nrows: usize, j: usize, c: &mut [T])
     requires inner { change.now.a.now.pattern.minor_dim ≡ (op_dense T.ring T.value change.now.b).rows }
     requires rows { change.now.a.now.pattern.major_dim ≡ nrows }

@@ -1,5 +1,5 @@
-//! Backward substitution with the transpose of a lower triangle: the column below the diagonal is the row of the
-//! transpose after it.
+//! Backward substitution with the transpose of a lower triangle: the entries of a column below its diagonal are those
+//! of a row of the transpose after its diagonal.
 
 ghost use Rattle.std.specs.Prelude.{◌≡◌, ◌<◌, length, slice_index_or};
 ghost use Rattle.sparse_compressed.specs.PlainOfLanes.{plain_of_cols};
@@ -11,7 +11,7 @@ use crate::solve::column::column_below;
 use sparse_algebra::scalar::{Ring, Units};
 use sparse_csr_csc::csc::CscMatrix;
 
-// Solves `T^t x = b` over b, from the last row to the first.
+// Replaces b by the solution x of `T^t x = b`, from the last row to the first.
 pub fn solve_backward<T: Units>(l: &CscMatrix<T>, x: &mut [T])
     requires square { l.now.pattern.minor_dim ≡ l.now.pattern.major_dim }
     requires rows { length x.old ≡ l.now.pattern.major_dim }
@@ -30,7 +30,7 @@ pub fn solve_backward<T: Units>(l: &CscMatrix<T>, x: &mut [T])
     }
 }
 
-// Solves `T^t x = b` over each of four columns, so that each column of T is read once for them.
+// Replaces each of four columns b by the solution x of `T^t x = b`. Each column of T is read once for all four.
 pub fn solve_backward_four<T: Units>(
     l: &CscMatrix<T>,
     first: &mut [T],
@@ -69,7 +69,7 @@ pub fn solve_backward_four<T: Units>(
     }
 }
 
-// Writes the answer of row k: its entry less the sum of the known terms, times the inverse of the diagonal entry.
+// Writes the solution of row k: its entry minus the sum of the known terms, times the inverse of the diagonal entry.
 #[inline(always)]
 fn solve_row<T: Ring>(x: &mut [T], k: usize, known: T, inverse: T)
     requires { k < length x.old }

@@ -10,7 +10,7 @@ use crate::kernels::lane_slices;
 use sparse_algebra::scalar::Units;
 use sparse_csr_csc::csc::CscMatrix;
 
-// A column's entries below its diagonal, and the inverse of its diagonal entry.
+// The entries of a column below its diagonal, and the inverse of its diagonal entry.
 #[derive(Clone, Copy)]
 pub struct Column<'a, T> {
     pub rows: &'a [usize],
@@ -18,8 +18,8 @@ pub struct Column<'a, T> {
     pub inverse: T,
 }
 
-// Returns column k, or `None` where its diagonal entry isn't stored or has no inverse. The entries above the diagonal
-// are passed over.
+// Returns column k, or `None` if its diagonal entry isn't stored or has no inverse. Entries above the diagonal are
+// skipped.
 #[inline(always)]
 pub fn column_below<T: Units>(l: &CscMatrix<T>, k: usize) -> Option<Column<'_, T>>
     requires { k < l.now.pattern.major_dim }
@@ -39,8 +39,8 @@ pub fn column_below<T: Units>(l: &CscMatrix<T>, k: usize) -> Option<Column<'_, T
     })
 }
 
-// Returns the position of a row. In a lower triangle that is the first, so it is looked at before the others are
-// searched.
+// Returns the number of row k in `rows`. The first one is compared before the others are searched: in a lower triangle
+// it is the diagonal.
 #[inline(always)]
 fn position_of(rows: &[usize], k: usize) -> Option<usize>
     ensures { MatchOption result (Contains rows.now k → ⊥)

@@ -10,7 +10,7 @@ use crate::solve::column::{Column, column_below};
 use sparse_algebra::scalar::{Ring, Units};
 use sparse_csr_csc::csc::CscMatrix;
 
-// Solves `T x = b` over b, from the first row to the last.
+// Replaces b by the solution x of `T x = b`, from the first row to the last.
 pub fn solve_forward<T: Units>(l: &CscMatrix<T>, x: &mut [T])
     requires square { l.now.pattern.minor_dim ≡ l.now.pattern.major_dim }
     requires rows { length x.old ≡ l.now.pattern.major_dim }
@@ -25,7 +25,7 @@ pub fn solve_forward<T: Units>(l: &CscMatrix<T>, x: &mut [T])
     }
 }
 
-// Solves `T x = b` over each of four columns, so that each column of T is read once for them.
+// Replaces each of four columns b by the solution x of `T x = b`. Each column of T is read once for all four.
 pub fn solve_forward_four<T: Units>(
     l: &CscMatrix<T>,
     first: &mut [T],
@@ -56,7 +56,7 @@ pub fn solve_forward_four<T: Units>(
     }
 }
 
-// Computes the answer of row k, and subtracts its multiple of the column from the rows below.
+// Computes x k, and subtracts x k times the column from the rows below.
 #[inline(always)]
 fn take_answer<T: Ring>(column: Column<'_, T>, k: usize, x: &mut [T])
     requires row { k < length x.old }
@@ -70,7 +70,7 @@ fn take_answer<T: Ring>(column: Column<'_, T>, k: usize, x: &mut [T])
     usaxpy(scale, column.values, column.rows, x);
 }
 
-// The same in each of four columns.
+// Does the same in each of four columns.
 #[inline(always)]
 fn take_answer_four<T: Ring>(
     column: Column<'_, T>,
@@ -104,7 +104,8 @@ fn take_answer_four<T: Ring>(
     add_multiple_four((a, b, c, d), lane, first, second, third, fourth);
 }
 
-// Multiplies entry k by an inverse, and returns it. A product with one is not computed: most diagonals are ones.
+// Multiplies entry k by an inverse, and returns the product. An inverse that is one is not multiplied by: most
+// diagonals are ones.
 #[inline(always)]
 fn divide_entry<T: Ring>(k: usize, inverse: T, x: &mut [T]) -> T
     requires { k < length x.old }

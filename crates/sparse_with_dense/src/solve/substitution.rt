@@ -1,4 +1,4 @@
-//! Substitution over the columns of B, four side by side.
+//! Substitution in the columns of B, one or four at a time.
 
 ghost use Rattle.std.specs.Prelude.{◌≡◌, ◌*◌, ◌<◌, ◌⊎◌, length};
 ghost use Rattle.sparse_algebra.specs.Operands.{inner_of};
@@ -15,7 +15,7 @@ use sparse_algebra::scalar::Units;
 use sparse_coo_dense::dense::DMatrix;
 use sparse_csr_csc::csc::CscMatrix;
 
-// Solves `op(T) X = B` over B.
+// Replaces B by the solution X of `op(T) X = B`.
 pub fn solve_columns<T: Units>(l: Op<&CscMatrix<T>>, b: &mut DMatrix<T>)
     requires square { (inner_of l).now.pattern.minor_dim ≡ (inner_of l).now.pattern.major_dim }
     requires rows { b.old.nrows ≡ (inner_of l).now.pattern.major_dim }
@@ -24,14 +24,14 @@ pub fn solve_columns<T: Units>(l: Op<&CscMatrix<T>>, b: &mut DMatrix<T>)
     ensures { SolvesColumns T.ring T.value T.zero_value
         (op_lower T.ring T.value (λ m. m.now) l.entry) b.new b.old }
 {
-    // Columns without values take no time.
+    // Columns without rows take no time, however many there are.
     if b.nrows() > 0 {
         let size = (b.nrows(), b.ncols());
         solve_blocks(l, size, b.as_mut_slice());
     }
 }
 
-// Solves `op(T) x = b` over each column, four at a time.
+// Replaces each column b by the solution x of `op(T) x = b`, four at a time.
 fn solve_blocks<T: Units>(l: Op<&CscMatrix<T>>, size: (usize, usize), x: &mut [T])
     requires square { (inner_of l).now.pattern.minor_dim ≡ (inner_of l).now.pattern.major_dim }
     requires rows { size.0 ≡ (inner_of l).now.pattern.major_dim }
@@ -51,7 +51,7 @@ fn solve_blocks<T: Units>(l: Op<&CscMatrix<T>>, size: (usize, usize), x: &mut [T
     }
 }
 
-// Solves `op(T) x = b` over one column, or four.
+// Replaces one or four columns b by the solutions x of `op(T) x = b`.
 fn solve_block<T: Units>(l: Op<&CscMatrix<T>>, nrows: usize, width: usize, x: &mut [T])
     requires square { (inner_of l).now.pattern.minor_dim ≡ (inner_of l).now.pattern.major_dim }
     requires rows { nrows ≡ (inner_of l).now.pattern.major_dim }
@@ -68,7 +68,7 @@ fn solve_block<T: Units>(l: Op<&CscMatrix<T>>, nrows: usize, width: usize, x: &m
     }
 }
 
-// Solves `op(T) x = b` over b.
+// Replaces b by the solution x of `op(T) x = b`.
 fn solve_one<T: Units>(l: Op<&CscMatrix<T>>, x: &mut [T])
     requires square { (inner_of l).now.pattern.minor_dim ≡ (inner_of l).now.pattern.major_dim }
     requires rows { length x.old ≡ (inner_of l).now.pattern.major_dim }
@@ -82,7 +82,7 @@ fn solve_one<T: Units>(l: Op<&CscMatrix<T>>, x: &mut [T])
     }
 }
 
-// Solves `op(T) x = b` over four columns that stand one after the other.
+// Replaces four columns b, stored one after the other, by the solutions x of `op(T) x = b`.
 fn solve_four<T: Units>(l: Op<&CscMatrix<T>>, nrows: usize, x: &mut [T])
     requires square { (inner_of l).now.pattern.minor_dim ≡ (inner_of l).now.pattern.major_dim }
     requires rows { nrows ≡ (inner_of l).now.pattern.major_dim }

@@ -23,11 +23,11 @@ use sparse_csr_csc::csc::CscMatrix;
 /// Solves `op(T) X = B` in place, where `T` is the part of `l` on and below its diagonal. `b` holds B on entry and X on
 /// return.
 ///
-/// `l` must be square, with as many rows as `b`. No value above the diagonal is read; the indices there are, to find the
-/// diagonal.
+/// `l` must be square, with as many rows as `b`. Of the entries above the diagonal only the indices are read, to find
+/// the diagonal.
 ///
 /// Forward substitution, or backward for a transposed operand (Davis 2006, chapter 3): one multiplication for each
-/// place of `T` and column of `b`. Allocates nothing.
+/// entry of `T` and column of `b`. Allocates nothing.
 ///
 /// # Errors
 ///

@@ -6,7 +6,7 @@ use Rattle.sparse_with_dense.proofs.kernels.gather.dot.Goals as goal
 use Rattle.sparse_with_dense.proofs.kernels.gather.dot.Given.{Over}
 use Rattle.sparse_with_dense.proofs.kernels.gather.dot.Goals.{In-Some}
 
--- the index and the value of a turn
+-- the index and the value of an iteration
 term : (g : Over) (c : In-Some g) → IsTerm c.args.indices.now c.args.values.now
     (length c.loop-index.yielded) c.in-Some.index.now c.in-Some.value.now
 term g c = term_of (zip_turn c.args.indices.now c.args.values.now c.loop-index.yielded
@@ -14,7 +14,7 @@ term g c = term_of (zip_turn c.args.indices.now c.args.values.now c.loop-index.y
     (search rules) (search rules) c.loop-index.yielded_by (c.in-Some.index, c.in-Some.value)
     c.in-Some.is c.next.ensures.steps)
 
--- the index of a turn is inside the column
+-- the index of an iteration is inside the column
 within : (g : Over) (c : In-Some g)
     → c.in-Some.index.now * c.args.step < length c.args.column.now
 within g c = at_term (term g c) (λ k. k * c.args.step < length c.args.column.now)

@@ -6,7 +6,7 @@ use Rattle.sparse_with_dense.proofs.kernels.gather.dot_four.Goals as goal
 use Rattle.sparse_with_dense.proofs.kernels.gather.dot_four.Given.{Over}
 use Rattle.sparse_with_dense.proofs.kernels.gather.dot_four.Goals.{In-Some}
 
--- the index and the value of a turn
+-- the index and the value of an iteration
 term : (g : Over) (c : In-Some g) → IsTerm c.args.indices.now c.args.values.now
     (length c.loop-index.yielded) c.in-Some.index.now c.in-Some.value.now
 term g c = term_of (zip_turn c.args.indices.now c.args.values.now c.loop-index.yielded
@@ -14,7 +14,7 @@ term g c = term_of (zip_turn c.args.indices.now c.args.values.now c.loop-index.y
     (search rules) (search rules) c.loop-index.yielded_by (c.in-Some.index, c.in-Some.value)
     c.in-Some.is c.next.ensures.steps)
 
--- the index of a turn is inside a column
+-- the index of an iteration is inside a column
 within : (g : Over) (c : In-Some g) (column : List g.row.T.Denot)
     → All (λ k. k * c.args.step < length column) c.args.indices.now
     → c.in-Some.index.now * c.args.step < length column

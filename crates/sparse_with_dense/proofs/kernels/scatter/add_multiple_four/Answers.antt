@@ -15,7 +15,7 @@ loop-index-init g c = record {
   fourth = added_none;
 }
 
--- the index and the value of a turn
+-- the index and the value of an iteration
 term : (g : Over) (c : In-Some g) → IsTerm c.args.lane.0.now c.args.lane.1.now
     (length c.loop-index.yielded) c.in-Some.index.now c.in-Some.value.now
 term g c = term_of (zip_turn c.args.lane.0.now c.args.lane.1.now c.loop-index.yielded
@@ -23,7 +23,7 @@ term g c = term_of (zip_turn c.args.lane.0.now c.args.lane.1.now c.loop-index.yi
     (search rules) (search rules) c.loop-index.yielded_by (c.in-Some.index, c.in-Some.value)
     c.in-Some.is c.next.ensures.steps)
 
--- the index of a turn is inside the rows
+-- the index of an iteration is inside the vectors
 within : (g : Over) (c : In-Some g) → c.in-Some.index.now < length c.args.first.now
 within g c = at_term (term g c) (λ k. k < length c.args.first.now) c.requires.inside
 

@@ -7,7 +7,7 @@ use Rattle.sparse_with_dense.proofs.kernels.scatter.usaxpy.Goals as goal
 use Rattle.sparse_with_dense.proofs.kernels.scatter.usaxpy.Given.{Over}
 use Rattle.sparse_with_dense.proofs.kernels.scatter.usaxpy.Goals.{In-Some}
 
--- the index and the value of a turn
+-- the index and the value of an iteration
 term : (g : Over) (c : In-Some g) → IsTerm c.args.indices.now c.args.values.now
     (length c.loop-index.yielded) c.in-Some.index.now c.in-Some.value.now
 term g c = term_of (zip_turn c.args.indices.now c.args.values.now c.loop-index.yielded
@@ -15,7 +15,7 @@ term g c = term_of (zip_turn c.args.indices.now c.args.values.now c.loop-index.y
     (search rules) (search rules) c.loop-index.yielded_by (c.in-Some.index, c.in-Some.value)
     c.in-Some.is c.next.ensures.steps)
 
--- the index of a turn is inside the vector
+-- the index of an iteration is inside the vector
 within : (g : Over) (c : In-Some g) → c.in-Some.index.now < length c.args.y.now
 within g c = at_term (term g c) (λ k. k < length c.args.y.now) c.requires.inside
 

@@ -29,7 +29,7 @@ usaxpy-requires-clause-inside g c = λ q d lt.
       c.loop-k.auto.c,
     )
 
--- the lane of a turn
+-- the lane of an iteration exists
 lane : (g : Over) (c : After-lane_slices g)
     → c.loop-k.k < c.args.change.now.a.now.pattern.major_dim
 lane g c = omega (

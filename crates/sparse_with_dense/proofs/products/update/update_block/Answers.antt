@@ -2,13 +2,13 @@ use Rattle.std.proofs.Common.{◌≡◌, ◌+◌, ◌⊎◌, Bool, ℕ, false, i
 use Rattle.sparse_with_dense.proofs.ColumnBlocks.{one_column}
 use Rattle.sparse_with_dense.proofs.products.update.update_block.Goals as goal
 
--- where four columns are updated, the matrix is not transposed
+-- a block of four columns is updated only if the matrix is not transposed
 off_at_four : (width : ℕ) (transposed : Bool)
     → (width ≡ 1) ⊎ ((width ≡ 4) × (transposed ≡ false)) → width ≡ 4 → transposed ≡ false
 off_at_four width transposed (inl one) four = absurd (omega (arith, one, four))
 off_at_four width transposed (inr both) four = both.1
 
--- otherwise one column is
+-- a block that has not four columns has one
 one_unless_four : (width : ℕ) (transposed : Bool)
     → (width ≡ 1) ⊎ ((width ≡ 4) × (transposed ≡ false)) → (width ≡ 4 → ⊥) → width ≡ 1
 one_unless_four width transposed (inl one) other = one

@@ -5,7 +5,7 @@ use Rattle.sparse_with_dense.proofs.solve.substitution.solve_four.Goals as goal
 use Rattle.sparse_with_dense.proofs.solve.substitution.solve_four.Given.{Over}
 use Rattle.sparse_with_dense.proofs.solve.substitution.solve_four.Goals.{After-split_at_mut-third}
 
--- the four columns, of which each was changed
+-- the list of four columns, each of which is changed
 changed : (g : Over) (c : After-split_at_mut-third g)
     {P : ℕ → List g.row.T.Denot → List g.row.T.Denot → Type 0} (u v w x : List g.row.T.Denot)
     → length u ≡ length c.split_at_mut-first.result.0.now
