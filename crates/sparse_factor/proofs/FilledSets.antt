@@ -1,4 +1,4 @@
--- The places of a filled pattern, as a set of pairs.
+-- The entries of a filled pattern, as a set of pairs that is closed under fill.
 use Rattle.std.proofs.Common.{◌≡◌, ℕ, ◌<◌, inl, inr, true, false, arith}
 use Rattle.sparse_algebra.proofs.Cases.{true_or_false}
 use Rattle.sparse_algebra.specs.Algebra.{CommRing}
