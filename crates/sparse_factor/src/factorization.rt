@@ -24,7 +24,7 @@ use columns::merged_columns;
 // The largest number of columns for which scratch arrays use 32-bit numbers.
 const MAX_32_BITS: usize = u32::MAX as usize;
 
-/// The triangle of a square pattern that a symbolic factorisation reads.
+/// The triangle of a square pattern that a symbolic factorisation starts from.
 #[derive(Clone, Copy, Debug, PartialEq, Eq)]
 pub enum Triangle {
     /// The entries on and above the diagonal.
@@ -73,8 +73,8 @@ impl CscSymbolicCholesky {
     ///
     /// Each column is merged from its own entries and from its children in the elimination tree (left-looking; Rose,
     /// Tarjan and Lueker 1976, George and Liu 1981, Davis 2006). Time is linear in the number of columns and in the
-    /// numbers of entries of the pattern and of the factor, except for one sort for each column: of its rows that come
-    /// from the pattern and from all children but the longest, each row once. Scratch memory is one transpose of the
+    /// numbers of entries of the pattern and of the factor, except that in each column the rows that come from the
+    /// pattern and from all children but the longest are sorted, each row once. Scratch memory is one transpose of the
     /// pattern, three counters for each column, and room for at most two columns. Fails only if an allocation fails.
     pub fn factor(alloc: Global, pattern: SparsityPattern) -> Result<Self, AllocError>
         requires square { pattern.major_dim ≡ pattern.minor_dim }

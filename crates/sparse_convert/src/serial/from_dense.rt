@@ -112,8 +112,8 @@ pub fn convert_dense_csr<T: Zero + Copy>(
     Ok(CsrMatrix::from_cs(cs))
 }
 
-// Returns the compressed matrix of the nonzero values. The value of lane i at minor index k is `values[i * lane_step +
-// k * step]`.
+// Returns the compressed matrix of the nonzero values. Lane i has at minor index k the value
+// `values[i * lane_step + k * step]`.
 #[tactic(auto, using(crate::proofs::Refusals::refused))]
 fn compress_lanes<T: Zero + Copy>(
     alloc: Global,
@@ -148,8 +148,8 @@ fn compress_lanes<T: Zero + Copy>(
     Ok(CsMatrix::from_pattern_and_values(pattern, kept))
 }
 
-// Appends the indices and values of the nonzero values of a lane. The value at minor index k is `values[start + k *
-// step]`.
+// Appends the indices and values of the nonzero values of a lane, whose value at minor index k is
+// `values[start + k * step]`.
 #[tactic(auto, using(crate::proofs::Refusals::refused))]
 fn push_lane<T: Zero + Copy>(
     values: &[T],

@@ -92,7 +92,7 @@ pub(super) fn take_others<C: Count>(
         × (children.1 ≢ suc k) × IsInColumn columns.now.offsets.items columns.now.rows.items k i)
         steps.old steps.new }
 {
-    // With at most one child no tail is added, and the base rows are sorted.
+    // With at most one child no tail is added, and the base rows are sorted already.
     if is_single(nexts, children.0) {
         return Ok(());
     }
