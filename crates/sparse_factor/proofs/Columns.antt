@@ -1,5 +1,5 @@
 -- A factorisation is unique, column by column: the equation at (j, j) determines pivot j, and those
--- below it determine column j, since the pivot has an inverse. Nothing else is cancelled.
+-- below it determine column j, since the pivot has an inverse. No other cancellation is needed.
 use Rattle.std.proofs.Common.{◌≡◌, ℕ, zero, suc, ◌<◌, ◌≤◌, inl, inr, ap, sym, subst, ◌∙◌, arith}
 use Rattle.sparse_algebra.proofs.Cases.{lt_or_ge, three}
 use Rattle.sparse_algebra.specs.Algebra.{CommRing}

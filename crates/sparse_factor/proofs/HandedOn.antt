@@ -13,7 +13,7 @@ use Rattle.sparse_factor.proofs.AppendedColumns.{IsAppended}
 use Rattle.sparse_factor.proofs.Merged.{AreMerged}
 use Rattle.sparse_factor.proofs.Alternatives.{both_ways}
 
--- if P fails at k = j, then k < j and k < j + 1 are the same beside it
+-- if P is false at k = j, then k < j and P is the same as k < j + 1 and P
 not_at : {P : Type 0} (j k : ℕ) → (k ≡ j → P → ⊥) → ((k < j) × P) ↔ ((k < j + 1) × P)
 not_at j k fails = (
   λ h. (omega (arith, h.0), h.1),
