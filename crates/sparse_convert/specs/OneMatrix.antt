@@ -48,7 +48,8 @@ module _ {T : Type 0} where
     IsConverted (Cols n) (Rows m) = IsTranspose n m
     IsConverted (Cols m) (Cols n) = ⊥
 
-    -- x converted to the first of the representations, that to the next, and so on, ends with z
+    -- x is converted to the first of the representations, that to the next, and so on; the last one
+    -- is z
     abbrev pub Leads : Representation T → List (Representation T) → Representation T → Type 0
     Leads x [] z = x ≡ z
     Leads x (y ∷ ys) z = IsSoundRepresentation y × IsConverted x y × Leads y ys z

@@ -11,7 +11,7 @@ other_way a = (a.1, a.0)
 pub in_second : {A B C D : Type 0} → A ↔ (B ⊎ C) → C ↔ D → A ↔ (B ⊎ D)
 in_second a c = search rules
 
--- ---- a part M is the part B and E, which is new
+-- ---- M is B or E, which is new
 
 -- nothing is new
 pub none_grown : {A B E M : Type 0} → A ↔ B → M ↔ (B ⊎ E) → (E → ⊥) → A ↔ M
@@ -33,6 +33,6 @@ first_grown whole before part = search rules
 pub second_grown : {W A B C E M : Type 0} → W ↔ (A ⊎ E) → A ↔ (B ⊎ C) → M ↔ (C ⊎ E) → W ↔ (B ⊎ M)
 second_grown whole before part = search rules
 
--- the first alternative grows by what the second has too
+-- the first alternative grows by what is in the second too
 pub first_shared : {W B C E M : Type 0} → W ↔ (B ⊎ C) → M ↔ (B ⊎ E) → (E → C) → W ↔ (M ⊎ C)
 first_shared whole part share = search rules
