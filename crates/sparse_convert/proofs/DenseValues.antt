@@ -1,4 +1,4 @@
--- What dense matrices have once they are written, as stored values and as plain matrices.
+-- The values and the plain matrix of a dense matrix after the triplets are written.
 use Rattle.std.proofs.Common.{◌≡◌, ℕ, zero, suc, ◌<◌, ◌⊎◌, inl, inr, true, false, ◌&&◌}
 use Rattle.std.proofs.Common.{if◌then◌else◌, List, [], ◌∷◌, Option, Some, None, length, get_or, map}
 use Rattle.std.proofs.Common.{Contains, All, ap, sym, subst, ◌∙◌, refl, arith}
@@ -49,7 +49,7 @@ none_or_some None = inl refl
 none_or_some (Some x) = inr (x, refl)
 
 module _ {T : Type 0} where
-  -- one triplet alone is at the pair
+  -- exactly one triplet has the pair
   written_once : (i j p : ℕ) (c z : T) (ps : List (ℕ × ℕ)) (vs : List T) → length ps ≡ length vs
       → p < length ps → get_or ps p (0, 0) ≡ (i, j)
       → ((q : ℕ) → q < length ps → get_or ps q (0, 0) ≡ (i, j) → q ≡ p)
@@ -95,7 +95,7 @@ module _ {T : Type 0} where
       | inr miss ↦ miss
     ]
 
-    -- what is written at a pair is what is stored there
+    -- the value written at a pair is the value stored there
     written_stored : (z : T) (i j : ℕ)
         → written replaced z (lane_triplets m) i j ≡ stored_or_zero z m i j
     written_stored z i j = elim (none_or_some (place_of m.pattern i j)) [
@@ -133,7 +133,7 @@ module _ {T : Type 0} where
           ∙ written-transposed replaced z (lane_triplets m) i j ∙ written_stored z j i;
     }
 
-    -- the columns' triplets are within the shape
+    -- the transposed triplets of columns are within the shape
     pub transposed_inside : All (λ t. (t.0 < m.pattern.minor_dim) × (t.1 < m.pattern.major_dim))
         (map transposed (lane_triplets m))
     transposed_inside = All-map (λ t. (t.0 < m.pattern.minor_dim) × (t.1 < m.pattern.major_dim))
@@ -148,7 +148,7 @@ module _ (R : CommRing) {T : Type 0} (f : T → R.Carrier) where
   pub added_there : (w x y v : T) → f w ≡ R.add (f x) (f v) → x ≡ y → f w ≡ added (f y) v
   added_there w x y v sum same = sum ∙ ap (λ z. added (f z) v) same
 
-  -- what is added up at a pair is the sum there
+  -- the value accumulated at a pair is the sum of the triplets with that pair
   pub written_sum : (c : R.Carrier) (ts : List (ℕ × ℕ × T)) (i j : ℕ)
       → written added c ts i j ≡ R.add c (sum_at R f ts i j)
   written_sum c [] i j = sym (R.laws.add_zero c)
@@ -164,7 +164,8 @@ module _ (R : CommRing) {T : Type 0} (f : T → R.Carrier) where
   ]
 
   module _ (z : T) (zero_law : f z ≡ R.zero) where
-    -- a dense matrix with the values of a plain one at all pairs inside
+    -- a dense matrix that has the values of a plain matrix at all pairs within the shape represents
+    -- it, with every pair as a place
     pub dense_stands : (d : Dense T) (a : Plain R) → IsProper a → IsWithin a → d.nrows ≡ a.rows
         → d.ncols ≡ a.cols
         → ((i j : ℕ) → i < a.rows → j < a.cols → f (value_at d i j z) ≡ a.value i j)

@@ -1,4 +1,4 @@
--- Lanes of values, and those of them that a test keeps.
+-- The lanes of a dense matrix, filtered by a test of their values.
 use Rattle.std.proofs.Common.{◌≡◌, ℕ, zero, suc, ◌+◌, ◌*◌, ◌<◌, inl, inr, Bool, true, false, not}
 use Rattle.std.proofs.Common.{cond, List, [], ◌∷◌, ◌++◌, length, map, get_or, All, Contains}
 use Rattle.std.proofs.Common.{length-append, add-one, refl, ap, sym, subst, ◌∙◌}
@@ -43,7 +43,7 @@ pub all_below : (n : ℕ) → All (λ k. k < n) (below n)
 all_below n = λ k d lt. let within : k < n = omega (arith, length_below n) in subst (λ x. x < n)
     (sym (below_at n k d within)) within
 
--- those that a test keeps rise, and are below n
+-- the numbers that a test keeps are strictly increasing, and less than n
 pub rising_kept : (test : ℕ → Bool) (n : ℕ) → IsStrictlyIncreasing (filter test (below n))
 rising_kept test n = IsStrictlyIncreasing-filter test (below n) (rising_below n)
 
@@ -51,7 +51,7 @@ pub bounded_kept : (test : ℕ → Bool) (n : ℕ) → (j : ℕ) → Contains (f
 bounded_kept test n j h = subst (λ x. x < n) h.2
     (All-filter test (λ k. k < n) (below n) (all_below n) h.0 j h.1)
 
--- one number more
+-- one more number
 module _ (test : ℕ → Bool) (n : ℕ) where
   chosen_next : (b : Bool) → test n ≡ b
       → filter test (below (n + 1)) ≡ filter test (below n) ++ cond b (n ∷ []) []
@@ -76,7 +76,7 @@ filter_map_next test f n b e =
     ∙ filter-append test (map f (below n)) (f n ∷ [])
     ∙ ap (λ c. filter test (map f (below n)) ++ cond c (f n ∷ []) []) e
 
--- one lane more
+-- one more lane
 module _ {T : Type 0} (E : T → T → Bool) (z : T) (m : ℕ) (value : ℕ → ℕ → T) where
   -- the indices at which lane i is not z
   abbrev pub kept_indices : ℕ → List ℕ
@@ -107,7 +107,7 @@ abbrev pub first_columns : {T : Type 0} → T → Dense T → ℕ → List (ℕ 
 first_columns {T} z d n =
     flat_map (λ j. map {B = ℕ × ℕ × T} (λ i. (i, j, value_at d i j z)) (below d.nrows)) (below n)
 
--- one column more
+-- one more column
 pub column_more : {T : Type 0} (E : T → T → Bool) (z : T) (d : Dense T) (j : ℕ) (column : List T)
     → length column ≡ d.nrows
     → ((i : ℕ) (y : T) → i < d.nrows → get_or column i y ≡ value_at d i j y)
@@ -155,7 +155,7 @@ module _ {T : Type 0} where
       (transposed_lanes (λ j i. value_at d i j z) (below d.nrows) (below d.ncols))
       ∙ filter-map (differs_from E z) transposed (column_lanes z d)
 
-  -- lanes that are read by steps
+  -- column j has value i at the offset j * nrows + i of the values
   pub lanes_by_columns : (z : T) (d : Dense T)
       → full_lanes d.ncols d.nrows (λ j i. get_or d.values (j * d.nrows + i * 1) z) ≡ column_lanes z
       d
@@ -163,7 +163,7 @@ module _ {T : Type 0} where
       (λ j i. let at : j * d.nrows + i * 1 ≡ j * d.nrows + i =
       omega arith in ap (λ p. get_or d.values p z) at)
 
-  -- the same, where the lanes are rows
+  -- row i has value j at the offset i + j * nrows of the values
   pub lanes_by_rows : (z : T) (d : Dense T)
       → full_lanes d.nrows d.ncols (λ i j. get_or d.values (i * 1 + j * d.nrows) z)
       ≡ row_triplets z d

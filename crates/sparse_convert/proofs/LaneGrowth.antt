@@ -1,4 +1,4 @@
--- Compressed arrays that gain a lane at their end, with its values.
+-- Compressed arrays with one more lane appended.
 use Rattle.std.proofs.Common.{◌≡◌, ℕ, Bool, zero, suc, ◌+◌, ◌-◌, ◌<◌, ◌≤◌, List, [], ◌∷◌, ◌++◌}
 use Rattle.std.proofs.Common.{length, take, drop, map, slice_index, slice_range, Contains}
 use Rattle.std.proofs.Common.{length-append, append_assoc, add-one, refl, ap, sym, ◌∙◌, arith}
@@ -14,14 +14,14 @@ use Rattle.sparse_convert.specs.FromDense.{full_lanes, differs_from}
 use Rattle.sparse_convert.proofs.FullLanes.{kept_indices, kept_lane, rising_kept, bounded_kept}
 use Rattle.sparse_pattern.proofs.PushedLanes.{valid_pushed, offset_kept, lane_is}
 
--- a part of the prefix
+-- a range within the first list
 range_front : (xs ys : List ℕ) (a b : ℕ) → a ≤ b → b ≤ length xs
     → slice_range (xs ++ ys) a b ≡ slice_range xs a b
 range_front xs ys a b le within =
     ap (take (b - a)) (drop-append-le a xs ys (omega arith)) ∙ take-append-le (b - a) (drop a xs) ys
     (omega (arith, length-drop a xs))
 
--- with one more lane, whose offsets and indices come after the others
+-- the entries with one more lane, whose end offset and indices are appended
 entries_gain : (os os' is js : List ℕ) (i n : ℕ)
     → ((k : ℕ) → k ≤ i + n → slice_index os' k ≡ slice_index os k)
     → ((k : ℕ) → k < i + n → (slice_index os k ≤ slice_index os (k + 1))
@@ -101,15 +101,15 @@ module _ {T : Type 0} where
         (length-entries (raw_of n m offsets indices) sound.valid ∙ sym sound.count)
         ∙ ap (λ l. zip_values before values ++ l) (zip_lane n js value)
 
--- the values of lanes that differ from z, in compressed arrays
+-- compressed arrays of the values that differ from z
 module _ {T : Type 0} (E : T → T → Bool) (z : T) (m : ℕ) (value : ℕ → ℕ → T) where
-  -- the arrays hold those of the first n lanes
+  -- the arrays hold the values of the first n lanes that differ from z
   pub record HoldKept (n : ℕ) (offsets indices : List ℕ) (values : List T) : Type 0 where
     pub sound : IsSound (arrays_of n m offsets indices values)
     pub triplets : lane_triplets (arrays_of n m offsets indices values)
         ≡ filter (differs_from E z) (full_lanes n m value)
 
-  -- one lane more
+  -- one more lane
   pub kept_more : {n : ℕ} {offsets indices : List ℕ} {values : List T}
       → HoldKept n offsets indices values → HoldKept (n + 1)
       (offsets ++ length (indices ++ kept_indices E z m value n) ∷ [])

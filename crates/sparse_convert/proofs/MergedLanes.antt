@@ -1,4 +1,4 @@
--- The merging pass over all lanes, and the plain matrix that it leaves.
+-- The merging pass over all lanes, and the plain matrix of the result.
 use Rattle.std.proofs.Common.{◌≡◌, ℕ, ◌+◌, ◌<◌, ◌≤◌, inl, inr, ◌↔◌, true, List, [], ◌∷◌, ◌++◌}
 use Rattle.std.proofs.Common.{length, All, slice_index, refl, ap, sym, ◌∙◌, subst, arith}
 use Rattle.sparse_algebra.proofs.Cases.{lt_add_one_cases, lt_or_ge}
@@ -32,7 +32,7 @@ module _ {R : CommRing} {T : Type 0} {f : T → R.Carrier} {z : T} {lane : ℕ �
     merged = λ i lt. absurd (omega arith);
   }
 
-  -- lanes before an offset stay, and one more is merged behind it
+  -- lanes before an offset are the same, and one more is merged after it
   pub merged_with : (n : ℕ) (starts : List ℕ) {is js : List ℕ} {vs ws : List T}
       → length starts ≡ n + 1
       → ((i : ℕ) → i < n → slice_index starts (i + 1) ≤ slice_index starts n)
@@ -70,7 +70,7 @@ module _ {R : CommRing} {T : Type 0} {f : T → R.Carrier} {z : T} {lane : ℕ �
         (subst (λ a. AreMerged R f z (lane n) js ws a (length js)) (sym h.offsets.last) merged);
   }
 
--- the plain matrix of the lanes' entries
+-- the plain matrix of the entries of lanes
 abbrev pub plain_of_entries : (R : CommRing) {T : Type 0} → (T → R.Carrier) → (ℕ → List (ℕ × T)) → ℕ
     → ℕ → Plain R
 plain_of_entries R f lane rows cols = record {
@@ -121,7 +121,7 @@ module _ {R : CommRing} {T : Type 0} {f : T → R.Carrier} {z : T} {lane : ℕ �
   proper_lanes : IsProper (plain_of_entries R f lane n minor)
   proper_lanes i j miss = index_sum-none R f (lane i) j miss
 
-  -- a matrix that is made of the arrays stands for the entries
+  -- the matrix of the merged arrays has the plain matrix of the entries
   pub merged_stand : {m : Compressed T} → IsSound m
       → m ≡ compressed_of (raw_of n minor starts is) vs
       → StandsFor R f (plain_of_entries R f lane n minor) m
@@ -133,7 +133,7 @@ module _ {R : CommRing} {T : Type 0} {f : T → R.Carrier} {z : T} {lane : ℕ �
     sound = sound;
   }
 
--- merged lanes of triplets are a sound matrix, which stands for the triplets
+-- merged lanes of triplets are a sound matrix, which has the plain matrix of the triplets
 module _ {R : CommRing} {T : Type 0} {f : T → R.Carrier} {z : T} {rows cols : ℕ}
     {majors minors starts is : List ℕ} {values vs : List T}
     (lists : AreTriplets rows majors minors values) (minors_below : All (λ j. j < cols) minors)

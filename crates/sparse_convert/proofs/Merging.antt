@@ -1,4 +1,4 @@
--- The merging pass over one lane: an entry goes to the last place or to a new one.
+-- The merging pass over one lane: an entry is added to the last one or appended.
 use Rattle.std.proofs.Common.{◌≡◌, ◌≢◌, ℕ, zero, suc, ◌+◌, ◌-◌, ◌<◌, ◌≤◌, inl, inr, false}
 use Rattle.std.proofs.Common.{List, [], ◌∷◌, ◌++◌, length, take, get_or, set, slice_index}
 use Rattle.std.proofs.Common.{refl, ap, sym, ◌∙◌, subst, arith, length-append}
@@ -26,7 +26,7 @@ module _ {R : CommRing} {T : Type 0} {f : T → R.Carrier} {z : T} where
 
   module _ {lane : List (ℕ × T)} {is : List ℕ} {vs : List T} {start end : ℕ}
       (m : AreMerged R f z lane is vs start end) where
-    -- positions of a merged lane rise
+    -- the indices of a merged lane are strictly increasing
     merged_step : (p : ℕ) → start ≤ p → suc p < end → slice_index is p < slice_index is (suc p)
     merged_step p from to =
         let e : suc p - 1 ≡ p = omega arith in
@@ -43,7 +43,7 @@ module _ {R : CommRing} {T : Type 0} {f : T → R.Carrier} {z : T} where
       | inr here ↦ omega (arith, ap (slice_index is) here, merged_step q (omega arith) to)
     ]
 
-    -- arrays that keep what stands before the end keep the lane
+    -- a lane is the same in arrays that have the same elements before its end
     pub merged_kept : {js : List ℕ} {ws : List T} → KeepsFirst 0 end is js → KeepsFirst z end vs ws
         → AreMerged R f z lane js ws start end
     merged_kept keeps_is keeps_vs = record {

@@ -1,4 +1,4 @@
--- Offsets of lanes never fall; one more lane is ended at their end.
+-- Offsets of lanes are non-decreasing, also with one more lane.
 use Rattle.std.proofs.Common.{◌≡◌, ℕ, zero, suc, ◌+◌, ◌-◌, ◌≤◌, inl, inr, List, [], ◌∷◌, ◌++◌}
 use Rattle.std.proofs.Common.{length, take, drop, slice_index, refl, ap, ◌∙◌, arith}
 use Rattle.std.proofs.Common.{length-append}
@@ -6,7 +6,7 @@ use Rattle.std.proofs.lemmas.List.{get_or_append_left, get_or_past, get_or_push}
 use Rattle.sparse_algebra.proofs.Cases.{le_cases, lt_add_one_cases}
 use Rattle.sparse_convert.specs.InnerTripletLanes.{AreOffsets, entries_of_lane}
 
--- past the last lane there is nothing
+-- a lane past the last one has no entries
 pub no_lane : {E : Type 0} (offsets : List ℕ) (entries : List E) (i : ℕ)
     → length offsets ≤ i + 1 → entries_of_lane offsets entries i ≡ []
 no_lane offsets entries i le =

@@ -1,4 +1,4 @@
--- Conversions keep the plain matrix.
+-- A chain of conversions keeps the plain matrix.
 use Rattle.std.proofs.Common.{◌≡◌, List, [], ◌∷◌, ap, sym, subst, ◌∙◌}
 use Rattle.sparse_algebra.specs.Algebra.{CommRing}
 use Rattle.sparse_algebra.specs.Plain.{plain_transpose}
@@ -27,7 +27,7 @@ module _ (R : CommRing) {T : Type 0} (f : T → R.Carrier) (z : T) where
   converted_same (Cols n) (Rows m) sx sy h = plain_transposed R f z n m sx sy h
   converted_same (Cols m) (Cols n) sx sy h = absurd h
 
-  -- any number of them
+  -- a chain of conversions
   led_same : (x : Representation T) (ys : List (Representation T)) (y : Representation T)
       → IsSoundRepresentation x → Leads R f x ys y
       → (plain_of_representation R f y ≡ plain_of_representation R f x) × IsSoundRepresentation y

@@ -6,7 +6,7 @@ use Rattle.sparse_compressed.specs.Compressed.{Compressed}
 use Rattle.sparse_compressed.specs.StoredEntries.{place_of}
 
 module _ {T : Type 0} (zero : T) where
-  -- the value at the place (i, j), or zero if it is not stored
+  -- the stored value at (i, j), or zero if there is no entry
   abbrev pub stored_or_zero : Compressed T → ℕ → ℕ → T
   stored_or_zero m i j = unwrap_or (option_map (λ p. slice_index_or m.values p zero)
       (place_of m.pattern i j)) zero

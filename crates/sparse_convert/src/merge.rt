@@ -1,4 +1,4 @@
-//! Compressed matrices of sorted lanes; entries with the same index are added.
+//! Compressed matrices of sorted lanes, where entries with the same index are added.
 
 ghost use Rattle.std.specs.Prelude.{◌≡◌, ℕ, ◌+◌, ◌-◌, ◌<◌, ◌≤◌, List, [], ◌∷◌, ◌++◌, All, IfOk};
 ghost use Rattle.std.specs.Prelude.{true, length, slice_index, vec_len, vec_capacity};
@@ -13,8 +13,8 @@ use sparse_compressed::CsMatrix;
 use sparse_pattern::pattern::SparsityPattern;
 use std::alloc::{AllocError, Global};
 
-/// Appends an entry to the lane that begins at `start`, or adds its value where the last entry has its index. Returns
-/// false if its index is smaller than that of the last entry.
+/// Appends an entry to the lane that begins at `start`, or adds its value to the last entry if the indices are the
+/// same. Returns false if the index is smaller than that of the last entry.
 #[inline]
 pub(crate) fn push_entry<T: Ring>(
     start: usize,
@@ -58,7 +58,7 @@ pub(crate) fn push_entry<T: Ring>(
     true
 }
 
-// Appends a lane to the arrays, whose capacity suffices. Entries with the same index are added.
+// Appends a sorted lane to the arrays, whose capacity suffices. Entries with the same index are added.
 fn merge_lane<T: Ring>(lane: &[(usize, T)], indices: &mut Vec<usize>, values: &mut Vec<T>)
     requires sorted { IsNonDecreasingBy (λ e. e.0) lane.now }
     requires sizes { vec_len values.old ≡ vec_len indices.old }
@@ -77,12 +77,12 @@ fn merge_lane<T: Ring>(lane: &[(usize, T)], indices: &mut Vec<usize>, values: &m
 {
     let start = indices.len();
     for &(index, value) in lane {
-        // It is taken: the lane is sorted.
+        // Always true: the lane is sorted.
         push_entry(start, index, value, indices, values);
     }
 }
 
-/// The matrix of lanes of entries that are sorted by index. Entries with the same index are added.
+/// Returns the matrix of lanes of entries that are sorted by index. Entries with the same index are added.
 #[tactic(auto, using(crate::proofs::Refusals::refused))]
 pub(crate) fn merge_lanes<T: Ring>(
     alloc: Global,

@@ -1,4 +1,4 @@
--- Moving the places of a column out of a scratch column.
+-- A column of L is gathered from the scratch column.
 use Rattle.std.proofs.Common.{◌≡◌, ◌≢◌, ℕ, ◌+◌, ◌<◌, ◌≤◌, inl, inr, List, length, get_or, set, ap}
 use Rattle.std.proofs.Common.{slice_index, sym, ◌∙◌, arith, get_or-set_same}
 use Rattle.std.proofs.Common.{get_or-set_other, length-set}
@@ -9,7 +9,8 @@ use Rattle.sparse_pattern.specs.Raw.{Raw, start_of, end_of, IsValidLane}
 use Rattle.sparse_pattern.proofs.PatternLanes.{rises_at}
 
 module _ (R : CommRing) {T : Type 0} (f : T → R.Carrier) (z : T) where
-  -- the places of column j before position `at` are moved from x to old, times e
+  -- the entries of column j before offset `at` are gathered from x, times e; the others of `new`
+  -- are those of `old`
   pub record AreMoved (p : Raw) (j : ℕ) (e : R.Carrier) (at : ℕ) (old new x y : List T) : Type 0
     where
       pub count : length new ≡ length old
@@ -34,7 +35,7 @@ module _ {R : CommRing} {T : Type 0} {f : T → R.Carrier} {z : T} {p : Raw} {j 
   other_row q from less same =
       let r = rises_at p j lane q at from less to_end in omega (arith, r, same)
 
-  -- the entry u of the scratch column goes to position `at`
+  -- the element u of the scratch column is stored at offset `at`
   pub moved_more : {u v : T} → length old ≡ length p.indices → length x ≡ p.minor_dim
       → u ≡ get_or y row u → f v ≡ R.mul (f u) e
       → AreMoved R f z p j e (at + 1) old (set new at v) x (set y row z)

@@ -1,5 +1,5 @@
--- One step of the factorisation over arrays: what the columns before j leave of column j is divided
--- by the pivot, which is its entry on the diagonal.
+-- One step of the factorisation over arrays: column j after the updates is divided by the pivot,
+-- which is its entry on the diagonal.
 use Rattle.std.proofs.Common.{◌≡◌, ◌≢◌, ℕ, ◌+◌, ◌<◌, ◌≤◌, inl, inr, List, length}
 use Rattle.std.proofs.Common.{get_or, set, ap, sym, subst, ◌∙◌, arith, add-one}
 use Rattle.std.proofs.Common.{get_or-set_same, get_or-set_other, length-set}
@@ -43,7 +43,7 @@ module _ {R : CommRing} {T : Type 0} {f : T → R.Carrier} {z : T} {p : Raw} {j 
         ∙ sym (no_place_zero R f (compressed_of p old) sound i c none)
   ]
 
-  -- column j is the scratch column, times e
+  -- column j is the old scratch column, times e
   moved-here : {i : ℕ} → IsPlace p j i
       → (plain_of_cols R f (compressed_of p new)).value i j ≡ R.mul (f (get_or x i z)) e
   moved-here place = place_value R f moved-sound z place ∙ moved.moved place.at place.in_lane
@@ -52,7 +52,7 @@ module _ {R : CommRing} {T : Type 0} {f : T → R.Carrier} {z : T} {p : Raw} {j 
 module _ (R : CommRing) {T : Type 0} (f : T → R.Carrier) (z : T) where
   -- the columns of L and the pivots before j are those of a factorisation of the matrix whose lower
   -- triangle `lower` stores by columns; the cursors are at row j, and the scratch column has the
-  -- pivots before j and is zero from there on
+  -- pivots before j and is zero from row j on
   pub record AreColumnsDone (lower l : Compressed T) (inverses : List T) (cursors : List ℕ)
       (column : List T) (j : ℕ) : Type 0 where
     pub zero : f z ≡ R.zero
@@ -69,7 +69,7 @@ module _ (R : CommRing) {T : Type 0} (f : T → R.Carrier) (z : T) where
     pub inverts : (i : ℕ) → i < j
         → R.mul (elements R f z column i) (elements R f z inverses i) ≡ R.one
 
-  -- and from row j on `left` is what they leave of column j
+  -- and from row j on `left` is column j after the updates by the columns before it
   pub record IsColumnLeft (lower l : Compressed T) (inverses : List T) (cursors : List ℕ)
       (column : List T) (j : ℕ) (left : List T) : Type 0 where
     pub done : AreColumnsDone lower l inverses cursors column j
@@ -82,7 +82,7 @@ module _ (R : CommRing) {T : Type 0} (f : T → R.Carrier) (z : T) where
 
 module _ {R : CommRing} {T : Type 0} {f : T → R.Carrier} {z : T} {lower l : Compressed T}
     {inverses : List T} {cursors : List ℕ} {column : List T} {j : ℕ} where
-  -- column j of the matrix is added, and the columns before are taken off
+  -- column j of the matrix is added to the scratch column and updated by the columns before it
   pub column_left : AreColumnsDone R f z lower l inverses cursors column j → IsSound lower
       → j < l.pattern.major_dim → {one : T} (added left : List T) → f one ≡ R.one
       → AddsMultiple R f z (f one) (λ i. (plain_of_cols R f lower).value i j) column added
@@ -138,11 +138,11 @@ module _ {R : CommRing} {T : Type 0} {f : T → R.Carrier} {z : T} {lower l : Co
         (s.leaves j (omega arith) s.within)
         (λ h. none (subst (λ v. HasInverse R f (f v)) (sym pivot) h))
 
-    -- no row above the diagonal is a place of the column
+    -- column j has no entry above the diagonal
     none_above : (i : ℕ) → i < j → IsPlace l.pattern j i → ⊥
     none_above i less place = let le = s.done.filled.lower j i place in omega (arith, le, less)
 
-    -- what is left outside the places of L is zero
+    -- column j after the updates is zero outside the pattern of L
     left_nothing : (i : ℕ) → j ≤ i → i < n → (IsPlace l.pattern j i → ⊥)
         → f (get_or left i z) ≡ R.zero
     left_nothing i le within none =
@@ -177,7 +177,7 @@ module _ {R : CommRing} {T : Type 0} {f : T → R.Carrier} {z : T} {lower l : Co
       in_pivots : j < length last
       in_pivots = omega (arith, s.within, moved.same, s.long)
 
-      -- what is left in the scratch column from row j on is zero
+      -- the scratch column is zero from row j on
       emptied : (i : ℕ) → j ≤ i → i < n → f (get_or last i z) ≡ R.zero
       emptied i le within = elim (place_or_not R f s.done.sound i j) [
         | inl place ↦ ap (λ i. f (get_or last i z)) (sym place.index)

@@ -1,4 +1,5 @@
--- The columns of a factor, from its rows.
+-- A factor whose columns are those of the fill satisfies the other clauses; two factors of one
+-- pattern from one triangle are equal.
 use Rattle.std.proofs.Common.{◌≡◌, ℕ, ◌≤◌, inl, inr, ◌↔◌, true, IsTrue}
 use Rattle.std.proofs.Common.{List, Result, Ok, Err, IfOk, refl, sym, ap, ◌∙◌, subst}
 use Rattle.std.proofs.Common.{rules}

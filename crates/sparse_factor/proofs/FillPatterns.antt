@@ -1,4 +1,4 @@
--- The fill of a matrix, as the pattern of L.
+-- The fill of a matrix is a filled pattern, and it includes the lower triangle.
 use Rattle.std.proofs.Common.{◌≡◌, ℕ, ◌≤◌, true, ◌&&◌, ap, sym, ◌∙◌, arith}
 use Rattle.std.specs.Prelude.{nat_le}
 use Rattle.std.proofs.lemmas.Bool.Decides.{nat_tests}
@@ -21,7 +21,7 @@ pub le_is : (i j : ℕ) → i ≤ j → nat_le i j ≡ true
 le_is i j h = grind (arith, nat_tests)
 
 module _ (a p : Raw) (stores : StoresByColumns (InFill (UpperBase a)) p) where
-  -- the pairs on and below the diagonal are closed under fill
+  -- the fill of an upper triangle has no pair above the diagonal
   fill_lower : (k i : ℕ) → IsPlace p k i → k ≤ i
   fill_lower k i place = is_le k i ((stores i k).0 place (λ i j. nat_le j i)
       (λ i j k _ _ _ le. le_is j i le) (λ i j base. le_is j i base.1))
@@ -40,7 +40,7 @@ module _ (a p : Raw) (stores : StoresByColumns (InFill (UpperBase a)) p) where
 
 module _ (R : CommRing) {T : Type 0} (f : T → R.Carrier) (a u : Compressed T) (sa : IsSound a)
     (su : IsSound u) (upper : plain_of_cols R f u ≡ plain_upper R (plain_of_cols R f a)) where
-  -- the places of the transposed upper triangle
+  -- the entries of the transposed upper triangle are in the base
   pub lower_places : (t : Compressed T) → IsTransposedPattern u.pattern t.pattern → (i j : ℕ)
       → IsPlace t.pattern j i → UpperBase a.pattern i j
   lower_places t transposed i j place =
@@ -50,7 +50,7 @@ module _ (R : CommRing) {T : Type 0} (f : T → R.Carrier) (a u : Compressed T) 
       let parts = and_parts ((plain_of_cols R f a).has j i) (nat_le j i) kept in
       (has_place R f a sa j i parts.0, is_le j i parts.1)
 
--- so a pattern of the fill has them all
+-- so the pattern of the fill includes them
 pub lower_included : (a p t : Raw) → StoresByColumns (InFill (UpperBase a)) p
     → t.minor_dim ≡ p.minor_dim → t.major_dim ≡ p.major_dim
     → ((i j : ℕ) → IsPlace t j i → UpperBase a i j) → IsIncluded t p

@@ -1,5 +1,5 @@
--- The places of a filled pattern, as a set of pairs.
-use Rattle.std.proofs.Common.{◌≡◌, ℕ, ◌<◌, inl, inr, true, false, arith}
+-- The entries of a filled pattern, as a set of pairs that is closed under fill.
+use Rattle.std.proofs.Common.{◌≡◌, ℕ, inl, inr, true, false}
 use Rattle.sparse_algebra.proofs.Cases.{true_or_false}
 use Rattle.sparse_algebra.specs.Algebra.{CommRing}
 use Rattle.sparse_pattern.specs.Raw.{IsPlace}
@@ -32,10 +32,6 @@ module _ (R : CommRing) {T : Type 0} (f : T → R.Carrier) (l : Compressed T) (s
       pub set-closed : IsClosed (plain_of_cols R f l).has
       set-closed i j k a b lt le =
           place_has i j (filled.closed i j k (has_place i k a) (has_place j k b) lt le)
-
-      pub set-low : (i j : ℕ) → i < j → (plain_of_cols R f l).has i j ≡ false
-      set-low i j less = no_place_has i j
-          (λ place. let le = filled.lower j i place in omega (arith, le, less))
 
     pub zero_outside : (a : Compressed T) → IsSound a → IsIncluded a.pattern l.pattern → (n : ℕ)
         → IsZeroOutside R n (plain_of_cols R f a).value (plain_of_cols R f l).has

@@ -1,4 +1,4 @@
--- The tails of the columns on a list, gathered one column after another.
+-- The tails of the columns on a list are added one after another.
 use Rattle.std.proofs.Common.{◌≡◌, ◌≢◌, ℕ, suc, ◌-◌, ◌<◌, ◌≤◌, ◌⊎◌, inl, inr, ◌↔◌, List, length}
 use Rattle.std.proofs.Common.{slice_index, Contains, sym, subst, arith}
 use Rattle.sparse_factor.specs.InnerColumns.{IsInColumn, IsInTail}
@@ -8,8 +8,8 @@ use Rattle.sparse_factor.specs.InnerTaken.{HasTaken}
 use Rattle.sparse_factor.proofs.Children.{reach_cases}
 use Rattle.sparse_factor.proofs.Taken.{none_taken, taken_into, taken_both}
 
--- the list from `first` to `head` was gone through: `now` has the rows of `old` and of the tails of
--- its columns but the longest
+-- the columns on the list from `first` to before `head` are done: `now` has the rows of `old` and
+-- of their tails, except that of the longest
 pub record IsGathered (offsets rows nexts : List ℕ) (first longest : ℕ) (old now : List ℕ)
     (before steps head : ℕ) : Type 0 where
   pub within : head < length offsets
@@ -33,7 +33,7 @@ module _ (offsets rows nexts : List ℕ) (first longest : ℕ) (old : List ℕ) 
     taken = none_taken _ before;
   }
 
-  -- a column more
+  -- one more column
   module _ (now : List ℕ) (steps head after : ℕ)
       (are : IsGathered offsets rows nexts first longest old now before steps head)
       (falling : AreFalling nexts) (some : head ≢ 0) (link : after ≡ slice_index nexts (head - 1))
@@ -57,7 +57,7 @@ module _ (offsets rows nexts : List ℕ) (first longest : ℕ) (old : List ℕ) 
         | inr later ↦ inr (subst (λ h. Reaches nexts h k) (sym link) later)
       ]
 
-      -- the longest, which is left out
+      -- the longest column, which is skipped
       pub longest_past : head ≡ longest
           → IsGathered offsets rows nexts first longest old now before steps after
       longest_past e = record {
@@ -75,7 +75,7 @@ module _ (offsets rows nexts : List ℕ) (first longest : ℕ) (old : List ℕ) 
         taken = taken_into (λ i k h. (h.0, omega (arith, h.1, lower, some))) are.taken;
       }
 
-      -- another one
+      -- another column, whose tail is added
       module _ (ne : head ≢ longest) (now_steps : ℕ)
           (tail : HasTaken (λ i k. (head ≡ suc k) × IsInColumn offsets rows k i) steps now_steps)
         where

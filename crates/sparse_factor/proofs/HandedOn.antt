@@ -1,4 +1,4 @@
--- A finished column, on the list of its parent.
+-- A finished column is put on the list of its parent's children.
 use Rattle.std.proofs.Common.{◌≡◌, ◌≢◌, ℕ, suc, ◌+◌, ◌<◌, ◌≤◌, inl, inr, ◌↔◌, List, Contains}
 use Rattle.std.proofs.Common.{slice_index, set, refl, sym, ◌∙◌, subst, arith}
 use Rattle.std.proofs.lemmas.Bool.{cases_eq}
@@ -13,7 +13,7 @@ use Rattle.sparse_factor.proofs.AppendedColumns.{IsAppended}
 use Rattle.sparse_factor.proofs.Merged.{AreMerged}
 use Rattle.sparse_factor.proofs.Alternatives.{both_ways}
 
--- a condition that fails at the number j
+-- if P is false at k = j, then k < j and P is the same as k < j + 1 and P
 not_at : {P : Type 0} (j k : ℕ) → (k ≡ j → P → ⊥) → ((k < j) × P) ↔ ((k < j + 1) × P)
 not_at j k fails = (
   λ h. (omega (arith, h.0), h.1),
@@ -93,7 +93,7 @@ module _ {base : ℕ → ℕ → Type 0} {n : ℕ} {offsets rows firsts nexts : 
     falling' : AreFalling nexts'
     falling' k = grind (arith, next_at, next_other k, are.heads p, are.falling k)
 
-    -- the lists of columns before j are kept
+    -- lists that begin before column j are the same
     kept : (h k : ℕ) → h ≤ j → Reaches nexts' h k ↔ Reaches nexts h k
     kept h k le = (
       λ r. reach_kept nexts j (λ m early. sym (next_other m (omega arith)))
@@ -119,7 +119,7 @@ module _ {base : ℕ → ℕ → Type 0} {n : ℕ} {offsets rows firsts nexts : 
       ],
     )
 
-    -- and other lists do not have it
+    -- and no other list contains column j
     listed_there : (k q : ℕ) → q ≢ p
         → Reaches nexts' (slice_index firsts q) k ↔ ((k < j + 1) × IsParent base k q)
     listed_there k q ne =

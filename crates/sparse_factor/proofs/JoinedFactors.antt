@@ -1,4 +1,4 @@
--- What a factorisation on the fill says of the factors that are kept.
+-- A factorisation is unique, and depends on the upper triangle alone.
 use Rattle.std.proofs.Common.{◌≡◌, List, length, sym, arith}
 use Rattle.sparse_algebra.specs.Algebra.{CommRing}
 use Rattle.sparse_compressed.specs.Compressed.{Compressed, IsSound}
@@ -26,7 +26,7 @@ module _ (R : CommRing) {T : Type 0} (f : T → R.Carrier) (z : T) (a l : Compre
           λ j lt. (agree j (omega (arith, lt, size))).0,
         )
 
-    -- and of a matrix with the same upper triangle
+    -- and for each matrix with the same upper triangle
     pub factors_same : (b : Compressed T) → IsSound a → IsSound b
         → plain_upper R (plain_of_cols R f b) ≡ plain_upper R (plain_of_cols R f a)
         → StoresByColumns (InFill (UpperBase a.pattern)) l.pattern

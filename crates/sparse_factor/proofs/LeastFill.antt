@@ -1,4 +1,5 @@
--- The fill of a base that a test decides: it is decided by a test too, and so is the least set.
+-- If a test decides a base, a test decides its fill, so the fill is the least set that contains the
+-- base and is closed under fill.
 use Rattle.std.proofs.Common.{ℕ, zero, suc, ◌+◌, ◌<◌, ◌≤◌, ◌↔◌, inl, inr, Bool, false}
 use Rattle.std.proofs.Common.{IsTrue, ◌&&◌, ◌||◌, ltb, rules, arith}
 use Rattle.std.proofs.Math.Dec.{eqb}
@@ -28,7 +29,7 @@ le_is j i = (
 
 module _ (base : ℕ → ℕ → Type 0) (has : ℕ → ℕ → Bool)
     (tied : (i j : ℕ) → IsTrue (has i j) ↔ base i j) where
-  -- a test of the pairs (i, j) with j < n
+  -- a test that decides whether the fill contains (i, j), for j < n
   fill_test : ℕ → ℕ → ℕ → Bool
   fill_test zero i j = false
   fill_test (suc n) i j =
@@ -73,7 +74,7 @@ module _ (base : ℕ → ℕ → Type 0) (has : ℕ → ℕ → Bool)
 
 -- ---- the bases of valid patterns
 
--- a test for the places of a pattern
+-- a test that decides whether a pattern has an entry
 pub place_test : Raw → ℕ → ℕ → Bool
 place_test p i j = ltb i p.major_dim && is_member eqb (lane_of p i) j
 
@@ -90,7 +91,7 @@ place_is p valid i j =
           ),
     )
 
--- and for a place and a number that is not greater than another
+-- a test that decides whether a pattern has an entry and one number is at most another
 low_test : Raw → ℕ → ℕ → ℕ → ℕ → Bool
 low_test p a b i j = place_test p a b && ltb j (i + 1)
 

@@ -1,5 +1,5 @@
--- What the first columns leave of column j. Columns without an entry in row j leave it as it is, so
--- the columns of the row's entries are taken off one after the other.
+-- Column j after the updates by the first columns: one update for each entry of row j of L. A
+-- column without an entry in row j does not change it.
 use Rattle.std.proofs.Common.{◌≡◌, ◌≢◌, ℕ, suc, ◌+◌, ◌<◌, ◌≤◌, inl, inr, List, length}
 use Rattle.std.proofs.Common.{get_or, slice_index, ap, subst, ◌∙◌, arith}
 use Rattle.std.proofs.lemmas.List.{get_or_default, get_or_past}
@@ -12,7 +12,7 @@ use Rattle.sparse_factor.specs.InnerFactors.{term, IsLeft}
 use Rattle.sparse_factor.proofs.RingFacts.{mul_off_right, sum_below-past}
 
 module _ (R : CommRing) (n j : ℕ) (l : ℕ → ℕ → R.Carrier) (d : ℕ → R.Carrier) where
-  -- column k is taken off
+  -- the update by column k
   left_step : (k : ℕ) (w w' b : ℕ → R.Carrier) → IsLeft R n j l d k w b
       → ((i : ℕ) → j ≤ i → i < n → w' i ≡ R.add (w i) (R.neg (term R l d i j k)))
       → IsLeft R n j l d (suc k) w' b
@@ -21,7 +21,7 @@ module _ (R : CommRing) (n j : ℕ) (l : ℕ → ℕ → R.Carrier) (d : ℕ →
       let s = sum_below R k (term R l d i j) in
       ap (R.add (R.add s t)) (is i le lt) ∙ moved_over R s t (w i) ∙ h i le lt
 
-  -- columns without an entry in row j make nothing
+  -- columns without an entry in row j make no update
   left_skip : (k m : ℕ) (w b : ℕ → R.Carrier) → k ≤ m
       → ((c : ℕ) → k ≤ c → c < m → l j c ≡ R.zero) → IsLeft R n j l d k w b
       → IsLeft R n j l d m w b
@@ -29,7 +29,7 @@ module _ (R : CommRing) (n j : ℕ) (l : ℕ → ℕ → R.Carrier) (d : ℕ →
       ap (λ s. R.add s (w i)) (sum_below-past R m k (term R l d i j) le (λ c from to.
       mul_off_right R (R.mul (l i c) (d c)) (l j c) (off c from to))) ∙ h i low lt
 
-  -- the entries of row j are in the columns `row`; get_or row q j is the column of entry q, and j
+  -- `row` lists the columns with an entry in row j; get_or row q j is the column of entry q, and j
   -- past the last entry
   module _ (row : List ℕ)
       (rising : (p q : ℕ) → p < q → q < length row → slice_index row p < slice_index row q)
@@ -57,7 +57,7 @@ module _ (R : CommRing) (n j : ℕ) (l : ℕ → ℕ → R.Carrier) (d : ℕ →
         | inr none ↦ omega (arith, below, get_or_past row (q + 1) j none)
       ]
 
-      -- no entry is between two neighbours
+      -- no entry of row j is in a column between those of entries q and q + 1
       between : (x : ℕ) → suc (slice_index row q) ≤ x → x < get_or row (q + 1) j → (p : ℕ)
           → p < length row → slice_index row p ≢ x
       between x from to p within same = elim (three p q) [

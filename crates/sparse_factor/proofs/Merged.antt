@@ -1,4 +1,4 @@
--- The columns of a factor that are finished, each on the list of its parent.
+-- The finished columns of a factor, each on the list of its parent's children.
 use Rattle.std.proofs.Common.{◌≡◌, ℕ, ◌<◌, ◌≤◌, ◌⊎◌, inl, inr, ◌↔◌}
 use Rattle.std.proofs.Common.{List, [], ◌∷◌, length, slice_index, Contains, replicate}
 use Rattle.std.proofs.Common.{map, get_or, refl, ap, ◌∙◌, arith}
@@ -16,7 +16,8 @@ use Rattle.sparse_factor.proofs.Children.{reach_none, number_at}
 use Rattle.sparse_factor.proofs.Runs.{lane_run, lane_place}
 use Rattle.sparse_factor.proofs.Alternatives.{both_ways}
 
--- the columns before j of the fill of a base, which has n columns and no row above the diagonal
+-- the columns before j are those of the fill of a base, which has n columns and no row above the
+-- diagonal; each is on the list of its parent
 pub record AreMerged (base : ℕ → ℕ → Type 0) (n : ℕ) (offsets rows firsts nexts : List ℕ) (j : ℕ) :
     Type 0 where
   pub low : (i k : ℕ) → base i k → k ≤ i
@@ -91,7 +92,7 @@ module _ {base : ℕ → ℕ → Type 0} {n : ℕ} {offsets rows firsts nexts : 
       let long = length-map heads f in
       rw same (number_at f heads j (omega (arith, are.first_count, ap length same, long)) read is)
 
-  -- the rows that are merged into column j are those of the fill
+  -- the tails of the children of j and its base rows are column j of the fill
   pub merged_has : (own : List ℕ) → ((i : ℕ) → Contains own i ↔ base i j) → (i : ℕ)
       → (IsInTails offsets rows nexts (slice_index firsts j) i ⊎ Contains own i) ↔ Filled base i j
   merged_has own has i = (

@@ -1,4 +1,4 @@
--- The places that are taken up from finished columns: each at most once, by the column's parent.
+-- The entries of finished columns that are merged: each at most once, into the column's parent.
 use Rattle.std.proofs.Common.{ℕ, ◌+◌, ◌<◌, ◌≤◌, inl, inr, List, length, slice_index, arith}
 use Rattle.sparse_factor.specs.Fill.{ListsFill}
 use Rattle.sparse_factor.specs.Fill.{Filled}

@@ -1,4 +1,4 @@
--- A column more of a factorisation: what is left of column j, times the inverse of its pivot.
+-- The next column of a factorisation: column j after the updates, times the inverse of its pivot.
 use Rattle.std.proofs.Common.{◌≡◌, ◌≢◌, ℕ, suc, ◌<◌, ◌≤◌, inl, inr, ap, sym}
 use Rattle.std.proofs.Common.{subst, ◌∙◌, arith}
 use Rattle.sparse_algebra.proofs.Cases.{le_cases, lt_suc_cases}

@@ -1,4 +1,4 @@
--- An entry of a matrix is that of a place, or zero.
+-- The value of a matrix at a pair is that of an entry, or zero.
 use Rattle.std.proofs.Common.{◌≡◌, ℕ, ◌⊎◌, inl, inr, get_or}
 use Rattle.sparse_algebra.proofs.Cases.{true_or_false}
 use Rattle.sparse_algebra.specs.Algebra.{CommRing}

@@ -41,7 +41,7 @@ module _ (R : CommRing) where
     ldl-value i j = sum_below-same R l.cols _ (term R l.value d i j)
         (λ c lt. ap (λ x. R.mul x (l.value j c)) (scaled i c lt))
 
-  -- a symmetric matrix
+  -- the symmetric matrix is its own transpose
   pub symmetric-transposed : (a : Plain R) (i j : ℕ)
       → (plain_symmetric R a).value i j ≡ (plain_symmetric R a).value j i
   symmetric-transposed a i j = ap (λ k. a.value k (max i j)) (min_comm i j)

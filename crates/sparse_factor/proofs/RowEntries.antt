@@ -1,4 +1,4 @@
--- Row j of L while it is read: column after column is taken off, from its entry in row j on.
+-- Row j of L while its entries are read: each makes an update by its column, from row j on.
 use Rattle.std.proofs.Common.{◌≡◌, ℕ, ◌+◌, ◌<◌, ◌≤◌, inl, inr, List, length, get_or, set}
 use Rattle.std.proofs.Common.{length-set, slice_index, slice_range, ap, sym, ◌∙◌, refl, arith, All}
 use Rattle.std.proofs.Common.{subst}
@@ -17,12 +17,12 @@ use Rattle.sparse_factor.proofs.Left.{left_start, left_more}
 use Rattle.sparse_factor.proofs.PlaceValues.{place_value}
 
 module _ (R : CommRing) {T : Type 0} (f : T → R.Carrier) (z : T) where
-  -- w is what the first k columns of m leave of b, which has the pivots above row j
+  -- w is b after the updates by the first k columns of m; b has the pivots above row j
   abbrev pub Leaves : Compressed T → ℕ → List T → ℕ → List T → Type 0
   Leaves m j b k w = IsLeft R (length b) j (plain_of_cols R f m).value (elements R f z b) k
       (elements R f z w) (elements R f z b)
 
-  -- the columns of the first q entries of row j of m are taken off b, which leaves w from row j on;
+  -- w is b after the updates by the columns of the first q entries of row j of m, from row j on;
   -- above row j both have the pivots
   pub record IsRowRead (m : Compressed T) (j : ℕ) (row : List ℕ) (b : List T) (q : ℕ)
       (cursors : List ℕ) (w : List T) : Type 0 where
@@ -37,7 +37,7 @@ module _ (R : CommRing) {T : Type 0} (f : T → R.Carrier) (z : T) where
     pub above : (i : ℕ) → i < j → f (get_or w i z) ≡ f (get_or b i z)
     pub left : Leaves m j b (get_or row q j) w
 
-  -- the other columns are zero in row j
+  -- the columns without an entry in row j are zero there
   others_zero : {m : Compressed T} {j : ℕ} {row : List ℕ} → IsSound m → IsRowOf m.pattern j row
       → (c : ℕ) → ((p : ℕ) → p < length row → slice_index row p ≡ c → ⊥)
       → (plain_of_cols R f m).value j c ≡ R.zero
@@ -102,7 +102,7 @@ module _ {R : CommRing} {T : Type 0} {f : T → R.Carrier} {z : T} {m : Compress
       index = entry_found.1;
     })
 
-    -- the entry is passed, and x is left
+    -- x after the update by the entry
     passed : {x : List T} → length x ≡ length w
         → ((i : ℕ) → i < j → f (get_or x i z) ≡ f (get_or w i z))
         → Leaves R f z m j b (get_or row (q + 1) j) x
@@ -120,7 +120,7 @@ module _ {R : CommRing} {T : Type 0} {f : T → R.Carrier} {z : T} {m : Compress
       left = left;
     }
 
-    -- column k is taken off, times its pivot u and its entry v in row j
+    -- the update by column k, times its pivot u and its entry v in row j
     pub entry_taken : {u v scale : T} {x : List T} → k < j → u ≡ get_or w k u
         → v ≡ get_or m.values c v → f scale ≡ R.mul (f u) (f v)
         → AddsMultiple R f z (R.neg (f scale)) (cut R f z m k c) w x → length x ≡ length w
@@ -141,7 +141,7 @@ module _ {R : CommRing} {T : Type 0} {f : T → R.Carrier} {z : T} {m : Compress
         (λ i le within. taken-below R f z s.sound lane cursor (f scale) w x taken
         (elements R f z b) factor i le (omega (arith, within, s.long))))
 
-    -- nothing follows the entry on the diagonal
+    -- the entry on the diagonal is the last one of its row
     none_behind : j ≤ k → length row ≤ q + 1
     none_behind over = elim (lt_or_ge (q + 1) (length row)) [
       | inl more ↦

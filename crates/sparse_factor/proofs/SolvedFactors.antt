@@ -1,4 +1,5 @@
--- The solves with L and its transpose and the division between them solve the system of L D Lᵀ.
+-- Solving with L, multiplying by the inverses of D, and solving with Lᵀ solves the system of L D
+-- Lᵀ.
 use Rattle.std.proofs.Common.{◌≡◌, ℕ, ◌<◌, inl, inr, true, ◌&&◌, ap, sym, ◌∙◌}
 use Rattle.std.proofs.Common.{List, arith, get_or}
 use Rattle.std.specs.Prelude.{nat_le, nat_lt, Result, OnOk, IsErr}
@@ -41,7 +42,7 @@ module _ {R : CommRing} {T : Type 0} {f : T → R.Carrier} {z : T} {s : Factors 
   abbrev t : Plain R
   t = plain_lower R l
 
-  -- the solves read all of L
+  -- the lower triangle t, which the solves read, has all values of L
   lower_same : (i c : ℕ) → c < l.cols → t.value i c ≡ l.value i c
   lower_same i c lt = elim (lt_or_ge i c) [
     | inl less ↦ lower_zero R l i c less
@@ -49,7 +50,7 @@ module _ {R : CommRing} {T : Type 0} {f : T → R.Carrier} {z : T} {s : Factors 
     | inr le ↦ lower_is R l (λ i j. proper_rows R f m j i) i c le
   ]
 
-  -- a diagonal entry without an inverse is one that is not stored, so one is zero
+  -- if the lower triangle is singular, a diagonal entry is not stored, so one is zero
   singular_trivial : IsSingular R f t → R.one ≡ R.zero
   singular_trivial h =
       let k = h.0 in
@@ -93,8 +94,8 @@ module _ {R : CommRing} {T : Type 0} {f : T → R.Carrier} {z : T} {s : Factors 
         ∙ ap (λ a. R.mul a (y.value c j)) (sym (lower_same i c lt)))
         ∙ ap (λ (a : Plain R). a.value i j) first
 
-  -- the solves with L and its transpose, and the multiplication by the inverses between them; where
-  -- a solve refuses, all values are equal
+  -- solving with L, multiplying by the inverses, and solving with Lᵀ; if a solve returns an error,
+  -- all elements are equal
   pub solved : {E : Type 0} (r u : Result (Unit {0}) E) {es : List T} (x b : Dense T)
       {y w : Dense T} → f z ≡ R.zero → AreInverses R f z s.d es → b.nrows ≡ m.pattern.minor_dim
       → y.nrows ≡ b.nrows → x.ncols ≡ b.ncols → AreScaledBelow R f z y.ncols es y w

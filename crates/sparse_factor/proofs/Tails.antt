@@ -1,4 +1,5 @@
--- A column from the tails of its children, the longest by its run and the others taken up.
+-- A column is merged from the run that is the tail of its longest child, and the list of its other
+-- rows.
 use Rattle.std.proofs.Common.{◌≡◌, ◌≢◌, ℕ, suc, ◌+◌, ◌-◌, ◌⊎◌, inl, inr, ◌↔◌, List, Contains}
 use Rattle.std.proofs.Common.{slice_range, subst, rules, arith}
 use Rattle.std.proofs.lemmas.Bool.{cases_eq}
@@ -25,7 +26,7 @@ tail_steps {offsets} {rows} {head} tail size =
     (omega (arith, e, same), subst (λ x. IsInColumn offsets rows x i) same is_in.0))
     (run_taken tail.run (head - 1) (omega (arith, size, tail.run.ordered)))
 
--- no other child
+-- an only child: no tail is added
 pub single_others : {offsets rows nexts : List ℕ} {first longest : ℕ} → (first ≢ 0 → longest ≢ 0)
     → ((k : ℕ) → longest ≡ suc k → Reaches nexts first k)
     → ((k : ℕ) → Reaches nexts first k → first ≡ suc k) → {old : List ℕ}
@@ -51,7 +52,7 @@ others_sorted others same = record {
   whole = λ i k r ne tail. (same i).1 (others.whole i k r ne tail);
 }
 
--- the run is the tail of the longest
+-- the run is the tail of the longest child
 module _ {offsets rows nexts : List ℕ} {first longest from to : ℕ}
     (tail : IsTailRun offsets rows longest from to)
     (reached : (k : ℕ) → longest ≡ suc k → Reaches nexts first k) where
@@ -76,7 +77,7 @@ module _ {offsets rows nexts : List ℕ} {first longest from to : ℕ}
     ],
   )
 
-  -- the steps for all tails
+  -- the steps for the tails of all children
   pub all_taken : {old mid new : ℕ}
       → HasTaken (λ i k. Reaches nexts first k × (longest ≢ suc k) × IsInColumn offsets rows k i)
       old mid → new + from ≡ mid + to

@@ -1,4 +1,4 @@
--- Steps that are counted for pairs (row, column), each pair once.
+-- The number of merged rows: steps that are counted for pairs (row, column), each pair once.
 use Rattle.std.proofs.Common.{◌≡◌, ◌≢◌, ℕ, ◌+◌, ◌-◌, ◌<◌, ◌≤◌}
 use Rattle.std.proofs.Common.{inl, inr, List, [], ◌++◌, map, length}
 use Rattle.std.proofs.Common.{get_or, slice_range, length-append, sym, ap, ◌∙◌, subst, arith, ◌⊎◌}
@@ -21,7 +21,7 @@ none_taken In n = record {
   inside = λ p h. absurd (omega (arith, h.1));
 }
 
--- the same steps, counted after k others
+-- the same steps, counted after k other steps
 pub taken_later : {In : ℕ → ℕ → Type 0} {old new first last : ℕ} (k : ℕ) → HasTaken In old new
     → first ≡ old + k → last ≡ new + k → HasTaken In first last
 taken_later k taken begin end = record {
@@ -40,7 +40,7 @@ taken_into into taken = record {
   inside = λ p h. into p.0 p.1 (taken.inside p h);
 }
 
--- what two parts have taken, which share no pair
+-- the steps for two sets without a common pair
 pub taken_both : {A B : ℕ → ℕ → Type 0} {a b c : ℕ} → HasTaken A a b → HasTaken B b c
     → ((i j : ℕ) → A i j → B i j → ⊥) → HasTaken (λ i j. A i j ⊎ B i j) a c
 taken_both {A} {B} first second apart = record {

@@ -1,4 +1,4 @@
--- A pattern and its transpose have the same number of places.
+-- A pattern and its transpose have the same number of entries.
 use Rattle.std.proofs.Common.{◌≡◌, ℕ, zero, suc, ◌+◌, ◌<◌, ◌≤◌, inl, inr, subst, sym}
 use Rattle.std.proofs.Common.{arith}
 use Rattle.sparse_pattern.specs.Raw.{Raw, start_of, IsValid, IsPlace, nnz_of, entries_of}
@@ -8,7 +8,7 @@ use Rattle.sparse_factor.specs.InnerTaken.{HasTaken}
 use Rattle.sparse_factor.proofs.Runs.{lane_run, lane_place}
 use Rattle.sparse_factor.proofs.Taken.{none_taken, taken_into, taken_both, taken_at_most, run_taken}
 
--- the places (j, k) of the lanes k before n
+-- the pairs (j, k) of the entries of the lanes k before n
 lanes_taken : (d : Raw) → IsValid d → (n : ℕ) → n ≤ d.major_dim
     → HasTaken (λ j k. (k < n) × IsPlace d k j) 0 (start_of d n)
 lanes_taken d valid zero le = rw valid.first (none_taken (λ j k. (k < zero) × IsPlace d k j) 0)
@@ -24,7 +24,7 @@ lanes_taken d valid (suc n) le =
     ]) (taken_both (lanes_taken d valid n (omega arith))
     (run_taken run n (omega (arith, run.ordered))) (λ j k old new. omega (arith, old.0, new.0))))
 
--- a pattern has no more places than one that has each of its places with the indices exchanged
+-- a pattern has no more entries than one that has each of them with the indices exchanged
 no_more_places : {d t : Raw} → IsValid d → IsValid t → ((i j : ℕ) → IsPlace d i j → IsPlace t j i)
     → nnz_of d ≤ nnz_of t
 no_more_places {d} {t} valid-d valid-t into =

@@ -1,4 +1,4 @@
--- A lane of a transposed pattern lists the columns that have a row.
+-- Lane j of a transposed pattern lists the columns that have row j.
 use Rattle.std.proofs.Common.{◌≡◌, ℕ, ◌+◌, ◌-◌, ◌<◌, length, slice_index, ap}
 use Rattle.std.proofs.Common.{◌∙◌, arith}
 use Rattle.std.proofs.lemmas.List.Elements.{Contains-get_or}

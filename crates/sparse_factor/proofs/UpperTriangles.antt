@@ -1,4 +1,4 @@
--- The symmetric matrix of an upper triangle depends on that triangle alone.
+-- The symmetric matrix depends on the upper triangle alone.
 use Rattle.std.proofs.Common.{◌≡◌, ℕ, ◌≤◌, true, min, max, ap, sym, ◌∙◌, arith}
 use Rattle.std.specs.Prelude.{nat_le}
 use Rattle.std.proofs.Math.Nat.{min-le_left, min-eq_right, max-eq_left, le-max_left}
@@ -32,7 +32,7 @@ module _ (R : CommRing) where
       → (plain_symmetric R a).value i j ≡ (plain_upper R a).value (min i j) (max i j)
   symmetric_is a proper i j = sym (upper_is a proper (min i j) (max i j) (min_max i j))
 
-  -- matrices with one upper triangle have one symmetric matrix
+  -- matrices with the same upper triangle have the same symmetric matrix
   pub symmetric_same : (a b : Plain R) → IsProper a → IsProper b
       → plain_upper R b ≡ plain_upper R a → (i j : ℕ)
       → (plain_symmetric R a).value i j ≡ (plain_symmetric R b).value i j

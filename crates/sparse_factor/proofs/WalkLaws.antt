@@ -1,4 +1,5 @@
--- The fill of a base, by walks.
+-- The fill path theorem: (i, j) with j ≤ i is in the fill exactly if a path joins i and j whose
+-- inner nodes are less than j.
 use Rattle.std.proofs.Common.{◌≡◌, ℕ, zero, suc, ◌<◌, ◌≤◌, ◌⊎◌, ◌↔◌, inl, inr, refl, subst}
 use Rattle.std.proofs.Common.{rules, arith}
 use Rattle.std.proofs.Math.Nat.{eq-or-lt_of_le}
@@ -13,7 +14,7 @@ pub walk_wider : {base : ℕ → ℕ → Type 0} {m i j : ℕ} → (n : ℕ) →
 walk_wider n le (edge e) = edge e
 walk_wider n le (step e lt w) = step e (omega arith) (walk_wider n le w)
 
--- two walks joined at a node below m
+-- two paths joined at a node below m
 pub walk_join : {base : ℕ → ℕ → Type 0} {m i k : ℕ} → Walk base m i k → (j : ℕ) → k < m
     → Walk base m k j → Walk base m i j
 walk_join (edge e) j lt w = step e lt w
@@ -24,7 +25,8 @@ walk_back {base} (edge {i} {j} e) = edge (joined_back base i j e)
 walk_back {base} (step {i} {j} {k} e l v) =
     walk_join (walk_back v) i l (edge (joined_back base i k e))
 
--- a walk below m + 1 avoids m, or goes to m and from m below m
+-- a path with inner nodes below m + 1 avoids m, or goes to m and on from m, both with inner nodes
+-- below m
 pub walk_split : {base : ℕ → ℕ → Type 0} {m i j : ℕ} → Walk base m i j → (n : ℕ) → m ≡ suc n →
     Walk base n i j ⊎ (Walk base n i n × Walk base n n j)
 walk_split (edge e) n same = inl (edge e)
@@ -55,7 +57,7 @@ module _ (base : ℕ → ℕ → Type 0) (low : (i j : ℕ) → base i j → j �
   joined_filled i j (inl b) = (λ h. given b, turned i j b)
   joined_filled i j (inr b) = (turned j i b, λ h. given b)
 
-  -- the ends of a walk whose inner nodes are below both are a place of the fill
+  -- the ends of a path whose inner nodes are below both are a pair of the fill
   pub walk_any : (m i j : ℕ) → m ≤ i → m ≤ j → Walk base m i j → (j ≤ i → Filled base i j)
       × (i ≤ j → Filled base j i)
   walk_any zero i j a b (edge e) = joined_filled i j e
@@ -70,7 +72,6 @@ module _ (base : ℕ → ℕ → Type 0) (low : (i j : ℕ) → base i j → j �
         ((λ h. fill f g (omega arith) h), (λ h. fill g f (omega arith) h))
   ]
 
-  -- a place of the fill is a walk from its row to its column with the inner nodes below the column,
-  -- and conversely
+  -- (i, j) with j ≤ i is in the fill exactly if a path from i to j has all inner nodes below j
   pub filled_walk : (i j : ℕ) → j ≤ i → Filled base i j ↔ Walk base j i j
   filled_walk i j le = (walk_of, λ w. (walk_any j i j le (omega arith) w).0 le)

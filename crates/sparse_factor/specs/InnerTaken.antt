@@ -1,9 +1,9 @@
--- Steps that are counted for pairs, each pair once.
+-- Steps that are counted for pairs (row, column), each pair once.
 use Rattle.std.specs.Prelude.{◌≡◌, ◌≢◌, ℕ, ◌+◌, List, length}
 use Rattle.std.specs.List.{Contains, AllPairs}
 
--- from `old` on a step was counted for each of a list of distinct pairs (row, column), all of which
--- are in the set
+-- `new` is `old` plus one step for each of a list of distinct pairs (row, column), which are all in
+-- the set
 pub record HasTaken (In : ℕ → ℕ → Type 0) (old new : ℕ) : Type 0 where
   pub pairs : List (ℕ × ℕ)
   pub size : new ≡ old + length pairs

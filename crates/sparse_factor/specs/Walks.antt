@@ -1,4 +1,4 @@
--- Walks along the pairs of a base, and the places of a pattern that they join.
+-- Fill paths: paths along the pairs of a base, and the entries of the factor that they imply.
 use Rattle.std.specs.Prelude.{ℕ, ◌<◌, ◌≤◌, ◌↔◌, ◌⊎◌}
 use Rattle.sparse_pattern.specs.Raw.{Raw, IsPlace}
 
@@ -6,13 +6,13 @@ use Rattle.sparse_pattern.specs.Raw.{Raw, IsPlace}
 abbrev pub Joined : (ℕ → ℕ → Type 0) → ℕ → ℕ → Type 0
 Joined base i j = base i j ⊎ base j i
 
--- a walk from i to j whose inner nodes are less than m
+-- a path from i to j whose inner nodes are less than m; it may pass a node twice
 pub data Walk (base : ℕ → ℕ → Type 0) (m : ℕ) : ℕ → ℕ → Type 0 where
   edge : {i j : ℕ} → Joined base i j → Walk base m i j
   step : {i j k : ℕ} → Joined base i k → k < m → Walk base m k j → Walk base m i j
 
--- the pattern, read by columns, has (i, j) with j ≤ i exactly if a walk joins i and j whose inner
--- nodes are less than j
+-- for j ≤ i the pattern, read by columns, has (i, j) exactly if there is a path from i to j whose
+-- inner nodes are less than j
 abbrev pub StoresWalks : (ℕ → ℕ → Type 0) → Raw → Type 0
 StoresWalks base p = (i j : ℕ) → j ≤ i → IsPlace p j i ↔ Walk base j i j
 

@@ -24,19 +24,19 @@ use columns::merged_columns;
 // The largest number of columns for which scratch arrays use 32-bit numbers.
 const MAX_32_BITS: usize = u32::MAX as usize;
 
-/// The entries of a square pattern that a factorisation starts from.
+/// The triangle of a square pattern that a symbolic factorisation starts from.
 #[derive(Clone, Copy, Debug, PartialEq, Eq)]
 pub enum Triangle {
-    /// Those on and above the diagonal.
+    /// The entries on and above the diagonal.
     Upper,
-    /// Those on and below the diagonal.
+    /// The entries on and below the diagonal.
     Lower,
     /// All entries.
     Both,
 }
 
-/// The symbolic Cholesky factorisation of a square pattern stored by columns: the pattern and the pattern of its
-/// factor.
+/// The symbolic Cholesky factorisation of a square pattern, stored by columns: the pattern itself and the pattern of
+/// its factor L.
 ///
 /// # Examples
 ///
@@ -66,16 +66,16 @@ impl Model for CscSymbolicCholesky {
 impl CscSymbolicCholesky {
     /// Returns the symbolic factorisation of a square pattern, read by columns.
     ///
-    /// `pattern.major_dim()` must equal `pattern.minor_dim()`. All places are read, but only those on and above the
+    /// `pattern.major_dim()` must equal `pattern.minor_dim()`. All entries are read, but only those on and above the
     /// diagonal have an effect, so the pattern need not be symmetric, and its diagonal need not be stored. The pattern
-    /// of the factor is the smallest set of pairs (row, column) that has (c, r) for each stored row `r <= c` of each
-    /// column c, and that has (i, j) whenever it has (i, k) and (j, k) with `k < j <= i`.
+    /// of the factor is the smallest set of pairs (row, column) that contains (c, r) for each stored row `r <= c` of
+    /// each column c, and that contains (i, j) whenever it contains (i, k) and (j, k) with `k < j <= i`.
     ///
-    /// Each column is merged from its own entries and the finished columns whose parent in the elimination tree it is
-    /// (left-looking; Rose, Tarjan and Lueker 1976, George and Liu 1981, Davis 2006). Time is linear in the number of
-    /// columns and of the places of pattern and factor, but for a sort of the rows of a column that come from its base
-    /// and all children but the longest, each once. Scratch memory is one transpose of the pattern, three counters for
-    /// each column, and room for at most two columns. Fails only if an allocation fails.
+    /// Each column is merged from its own entries and from its children in the elimination tree (left-looking; Rose,
+    /// Tarjan and Lueker 1976, George and Liu 1981, Davis 2006). Time is linear in the number of columns and in the
+    /// numbers of entries of the pattern and of the factor, except that in each column the rows that come from the
+    /// pattern and from all children but the longest are sorted, each row once. Scratch memory is one transpose of the
+    /// pattern, three counters for each column, and room for at most two columns. Fails only if an allocation fails.
     pub fn factor(alloc: Global, pattern: SparsityPattern) -> Result<Self, AllocError>
         requires square { pattern.major_dim ≡ pattern.minor_dim }
         ensures input { IfOk result (λ s. s.input ≡ pattern) }
@@ -92,12 +92,13 @@ impl CscSymbolicCholesky {
     /// Returns the symbolic factorisation that starts from the given triangle of a square pattern, read by columns.
     ///
     /// `pattern.major_dim()` must equal `pattern.minor_dim()`. The pattern of the factor is the smallest set of pairs
-    /// (row, column) that has the base and that has (i, j) whenever it has (i, k) and (j, k) with `k < j <= i`. The
-    /// base of the upper triangle is (c, r) for each stored row `r <= c` of each column c, that of the lower triangle
-    /// (r, c) for each stored row `r >= c`, and that of both is their union.
+    /// (row, column) that contains the base of the triangle, and that contains (i, j) whenever it contains (i, k) and
+    /// (j, k) with `k < j <= i`. The base of the upper triangle is (c, r) for each stored row `r <= c` of each column
+    /// c, that of the lower triangle is (r, c) for each stored row `r >= c`, and that of both is their union.
     ///
-    /// [`CscSymbolicCholesky::factor`] starts from the upper triangle, and has the same cost and errors. Scratch memory
-    /// of the lower triangle is without the transpose; that of both triangles has the union beside it.
+    /// [`CscSymbolicCholesky::factor`] starts from the upper triangle, and has the same cost and errors. The lower
+    /// triangle needs no scratch memory for a transpose of the pattern; both triangles need the union of the pattern
+    /// and its transpose as well.
     ///
     /// # Examples
     ///
@@ -130,10 +131,10 @@ impl CscSymbolicCholesky {
         Ok(CscSymbolicCholesky { pattern, l_pattern })
     }
 
-    /// Does the same as [`CscSymbolicCholesky::factor`] and counts the steps: one for each place of the pattern, and
-    /// one for each place that a column takes up from a finished column.
+    /// Does the same as [`CscSymbolicCholesky::factor`] and counts the steps: one for each entry of the pattern, and
+    /// one for each entry of a finished column that is merged into the column's parent in the elimination tree.
     ///
-    /// The count grows by at most the number of places of the pattern plus that of the factor, even if an allocation
+    /// The count grows by at most the number of entries of the pattern plus that of the factor, even if an allocation
     /// fails. Fails only if an allocation fails.
     pub fn factor_counted(
         alloc: Global,
@@ -163,7 +164,7 @@ impl CscSymbolicCholesky {
         &self.l_pattern
     }
 
-    /// Returns the pattern of the factor, and drops the pattern that it was found for.
+    /// Returns the pattern of the factor, and drops the pattern that was factored.
     ///
     /// # Examples
     ///
@@ -214,8 +215,8 @@ fn fill_of(
     }
 }
 
-// Returns the fill of the upper triangle of a pattern, which the transpose has on and below the diagonal. Counts a step
-// for each place of the pattern, and for each place that a column takes from a finished column.
+// Returns the fill of the upper triangle of a pattern, which is the lower triangle of the transpose. Counts a step for
+// each entry of the pattern, and for each entry of a finished column that is merged into the column's parent.
 fn fill_of_upper(
     alloc: Global,
     pattern: &SparsityPattern,
@@ -237,8 +238,8 @@ fn fill_of_upper(
     fill_below(alloc, &mirrored, steps)
 }
 
-// Returns the fill of the places on and below the diagonal, with scratch arrays of a type that holds the number of
-// columns.
+// Returns the fill of the lower triangle of `base`. The scratch arrays have 32-bit elements if the number of columns
+// fits.
 fn fill_below(
     alloc: Global,
     base: &SparsityPattern,
@@ -261,7 +262,7 @@ fn fill_below(
     }
 }
 
-/// A law: two symbolic factorisations of one pattern from one triangle are `==`.
+/// Two symbolic factorisations of the same pattern from the same triangle are `==`.
 ///
 /// So `factor_triangle(alloc, pattern, Triangle::Upper)` is `==` to `factor(alloc, pattern)`.
 pub fn one_factor()

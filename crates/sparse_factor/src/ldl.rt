@@ -68,14 +68,14 @@ impl<T: Units> Model for Ldl<T> {
 impl<T: Units> Ldl<T> {
     /// Returns the factorisation of the symmetric matrix whose entries on and above the diagonal are those of `a`.
     ///
-    /// `a` must be square. Entries below its diagonal have no effect. The places of L are exactly the fill of the
-    /// pattern of `a`, as [`CscSymbolicCholesky`] computes it, even where a value is zero. No other values of L and D
-    /// satisfy the equation.
+    /// `a` must be square. Entries below its diagonal have no effect. The pattern of L is exactly the fill of the
+    /// pattern of `a`, as [`CscSymbolicCholesky`] computes it; a value of L that is zero is stored. No other values of
+    /// L and D satisfy the equation.
     ///
-    /// A left-looking factorisation on the pattern of the fill (Davis 2006, chapter 4): one multiplication for each
-    /// place of column k of L from row j on, for each place (j, k) of L. At the peak it holds the factors, the inverses
-    /// of the diagonal of D, the transposed pattern of L, the transposed upper triangle of `a`, and one number for each
-    /// row. The symbolic factorisation before it holds a copy of the pattern of `a`, beside its own memory.
+    /// A left-looking factorisation on the pattern of the fill (Davis 2006, chapter 4): for each entry (j, k) of L one
+    /// multiplication for each entry of column k from row j on. At the peak it holds the factors, the inverses of the
+    /// diagonal of D, the transposed pattern of L, the transposed upper triangle of `a`, and one number for each row.
+    /// The symbolic factorisation before it holds a copy of the pattern of `a`, beside its own memory.
     ///
     /// # Errors
     ///
@@ -137,7 +137,7 @@ impl<T: Units> Ldl<T> {
             (plain_of_dense T.ring T.value b.new) (plain_of_dense T.ring T.value b.old) }
     {
         learn(self.l.values());
-        // The solves refuse only over the ring in which one is zero, where any X is a solution.
+        // The solves return an error only over the ring in which one is zero; there every X is a solution.
         let _ = spsolve_csc_lower_triangular(Op::NoOp(&self.l), b);
         scale_rows(&self.inverses, b);
         let _ = spsolve_csc_lower_triangular(Op::Transpose(&self.l), b);

@@ -1,4 +1,4 @@
-//! The columns of a factorisation, one after the other.
+//! The columns of L D Lᵀ, left-looking, one after the other.
 
 ghost use Rattle.std.specs.Prelude.{◌≡◌, ℕ, ◌+◌, ◌<◌, ◌≤◌, length, slice_index_or, IfErr, OnErr};
 ghost use Rattle.std.specs.Prelude.{OnOk};
@@ -19,12 +19,13 @@ use sparse_csr_csc::csc::CscMatrix;
 use sparse_pattern::pattern::SparsityPattern;
 use sparse_with_dense::{axpy_csc_col, usaxpy};
 
-// Computes the columns of L, the diagonal of D and its inverses, for the symmetric matrix with this lower triangle.
+// Computes the columns of L, the diagonal of D and the inverses of its entries, for the symmetric matrix whose lower
+// triangle is `lower`.
 //
-// Left-looking: column j of the matrix, less the multiples of the columns of L before it that have row j, divided by
-// the pivot (Davis 2006, chapter 4). `rows` is the transposed pattern of L. `cursors` has for each column of L the
-// position of its first row from j on. `column` is zero from row j on between two steps, and has the pivots before it;
-// on return it has those of all.
+// Left-looking (Davis 2006, chapter 4): column j of L is column j of the matrix, less the updates by the columns before
+// it that have row j, divided by the pivot. `rows` is the transposed pattern of L. `cursors` has for each column of L
+// the offset of its first row from j on. `column` is a scratch column: before step j it has the pivots in the rows
+// before j, and zeros from row j on. On return it has all pivots.
 pub fn factor_columns<T: Units>(
     lower: &CscMatrix<T>,
     rows: &SparsityPattern,
@@ -67,15 +68,16 @@ pub fn factor_columns<T: Units>(
             return Err(OperationError::of_singular_diagonal());
         };
         move_column(pattern, j, inverse, values, column);
-        // Later steps leave row j alone.
+        // Later steps do not change row j of the scratch column.
         column[j] = pivot;
         inverses[j] = inverse;
     }
     Ok(())
 }
 
-// Subtracts the columns before j from row j on, each times its pivot and its entry in row j, and moves the cursors past
-// row j. `column` has the pivots in the rows before j.
+// Updates column j: subtracts from it, from row j on, each column k before it that has row j, times pivot k and the
+// entry (j, k) of L. Moves the cursors past row j. `row` has the columns with an entry in row j of L, and `column` has
+// the pivots in the rows before j.
 fn subtract_columns<T: Ring>(
     pattern: &SparsityPattern,
     values: &[T],
@@ -115,7 +117,7 @@ fn subtract_columns<T: Ring>(
     }
 }
 
-// Moves the places of column j out of the scratch column into the values, times the inverse of the pivot.
+// Gathers the entries of column j of L from the scratch column, times the inverse of the pivot, and clears them there.
 fn move_column<T: Ring>(
     pattern: &SparsityPattern,
     j: usize,

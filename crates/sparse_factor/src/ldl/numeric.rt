@@ -64,7 +64,7 @@ fn lower_triangle<T: Ring>(alloc: Global, a: &CscMatrix<T>) -> Result<CscMatrix<
     a.upper_triangle(alloc)?.transpose(alloc)
 }
 
-// Returns the matrix of zeros at the places of a pattern.
+// Returns the matrix that stores a zero for each entry of a pattern.
 fn matrix_of_zeros<T: Zero + Copy>(
     alloc: Global,
     pattern: SparsityPattern,
@@ -86,8 +86,8 @@ fn zeros<T: Zero + Copy>(alloc: Global, count: usize) -> Result<Vec<T>, AllocErr
     Ok(zeros)
 }
 
-// Returns L, the diagonal of D, and the inverses of its entries for the symmetric matrix with this lower triangle. `l`
-// has the pattern of L, and `rows` is its transpose.
+// Returns L, the diagonal of D, and the inverses of its entries, for the symmetric matrix whose lower triangle is
+// `lower`. `l` has the pattern of L, and `rows` is its transpose.
 fn factor_lower<T: Units>(
     alloc: Global,
     lower: &CscMatrix<T>,

@@ -7,7 +7,7 @@ use Rattle.sparse_coo_dense.specs.CooPlain.{plain_of_coo}
 use Rattle.std.specs.List.Sorted.{IsPermutation}
 use Rattle.sparse_convert.proofs.serial.order_law.Goals as goal
 
--- lists of one size in another order stand for one plain matrix
+-- lists of the same shape whose triplets are permutations of each other have the same plain matrix
 same_plain : (R : CommRing) {T : Type 0} (f : T → R.Carrier) (a b : Coo T) → a.nrows ≡ b.nrows
     → a.ncols ≡ b.ncols → IsPermutation a.triplets b.triplets
     → plain_of_coo R f a ≡ plain_of_coo R f b

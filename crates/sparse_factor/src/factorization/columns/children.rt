@@ -1,5 +1,5 @@
-//! The children of a column: finished columns in a linked list. A head is one more than a column, or 0 where the list
-//! ends.
+//! The children of a column in the elimination tree: finished columns in a linked list. A head is a column's number
+//! plus one, or 0 at the end of the list. The tail of a column is its rows below the diagonal.
 
 ghost use Rattle.std.specs.Prelude.{◌≡◌, ◌≢◌, ℕ, suc, ◌+◌, ◌<◌, ◌≤◌, ◌↔◌, ◌⊎◌, length, map};
 ghost use Rattle.std.specs.Prelude.{slice_index, slice_set, Contains, OnOk, IsTrue};
@@ -17,7 +17,7 @@ use sparse_coo_dense::steps::Steps;
 use sparse_pattern::counting::Count;
 use std::alloc::AllocError;
 
-// Returns the positions of the rows below the diagonal of the column of `head`, none if that is 0.
+// Returns the offsets where the tail of the column of `head` starts and ends; the tail is empty if `head` is 0.
 pub(super) fn tail_of(columns: &Columns, head: usize) -> (usize, usize)
     requires columns { AreColumns columns.now.offsets.items columns.now.rows.items }
     requires head { head < length columns.now.offsets.items }
@@ -61,8 +61,8 @@ pub(super) fn is_single<C: Count>(nexts: &[C], first: usize) -> bool
     first == 0 || nexts[first - 1].get() == 0
 }
 
-// Takes up the tails of all children but the longest, and sorts the rows that are taken up. The children are on the
-// list that begins at `children.0`, and the longest has the head `children.1`. Counts a step for each row of a tail.
+// Adds the tails of all children but the longest to the merged rows, and sorts these. `children` has the head of the
+// list of children, and the head of the longest child. Counts a step for each row of a tail that is added.
 #[inline(always)]
 pub(super) fn take_others<C: Count>(
     columns: &Columns,
@@ -92,7 +92,7 @@ pub(super) fn take_others<C: Count>(
         × (children.1 ≢ suc k) × IsInColumn columns.now.offsets.items columns.now.rows.items k i)
         steps.old steps.new }
 {
-    // With at most one child there is nothing to take up or sort.
+    // With at most one child no tail is added, and the base rows are sorted already.
     if is_single(nexts, children.0) {
         return Ok(());
     }
@@ -101,7 +101,8 @@ pub(super) fn take_others<C: Count>(
     Ok(())
 }
 
-// Takes up the tails of all children but the longest, in any order. Counts a step for each row.
+// Adds the tails of all children but the longest to the merged rows, unsorted. Counts a step for each row of these
+// tails.
 #[inline(always)]
 fn take_tails<C: Count>(
     columns: &Columns,
@@ -137,7 +138,7 @@ fn take_tails<C: Count>(
     Ok(())
 }
 
-// Takes up the tail of the column of `head`. Counts a step for each row.
+// Adds the tail of the column of `head` to the merged rows. Counts a step for each row of the tail.
 #[inline(always)]
 fn take_tail_of<C: Count>(
     columns: &Columns,
@@ -171,7 +172,7 @@ fn take_tail_of<C: Count>(
     Ok(())
 }
 
-// Puts a finished column on the list of its parent, if `parent` is not 0.
+// Puts a finished column on the list of its parent's children, unless `parent` is 0: then it has no parent.
 pub(super) fn hand_on<C: Count>(column: usize, parent: usize, firsts: &mut [C], nexts: &mut [C])
     requires width { column + 1 < C.limit }
     requires column { column < length nexts.old }

@@ -1,4 +1,4 @@
--- What an iteration of `merged_columns` reads, appends and counts.
+-- What one iteration of `merged_columns` reads, appends and counts.
 use Rattle.std.proofs.Common.{ℕ, ◌+◌, ◌-◌, ◌≤◌, List, length, slice_range}
 use Rattle.std.proofs.Common.{refl, arith}
 use Rattle.sparse_pattern.specs.Raw.{start_of, end_of, nnz_of}
@@ -12,7 +12,7 @@ use Rattle.sparse_factor.proofs.factorization.columns.merged_columns.Given.{Over
 use Rattle.sparse_factor.proofs.factorization.columns.merged_columns.Goals.{After-append_column}
 use Rattle.sparse_factor.proofs.factorization.columns.merged_columns.Goals.{After-deref}
 
--- the steps before the column, for its base and for the tails of its children
+-- the steps before the column, and those for its base and for the tails of its children
 pub steps_taken : (g : Over) (c : After-append_column g)
     → HasTaken (IsTakenBefore (LowerBase c.args.base.now) (c.loop-column.column + 1))
     (c.args.steps.now + start_of c.args.base.now (c.loop-column.column + 1))
