@@ -49,7 +49,7 @@ pub enum Form {
 ///     let text = "%%MatrixMarket matrix coordinate integer general\n1 1 1\n1 1 3\n";
 ///     let square = Expr::from_words(alloc, "1 1 *")?;
 ///     let mut out = Out::new(Vec::new(alloc));
-///     run(alloc, Form::Rows, &square, &[text], &mut out)?;
+///     run(alloc, OutputOrder::Rows, &square, &[text], &mut out)?;
 ///     Ok(out.into_inner().ends_with(b"1 1 1\n1 1 9\n"))
 /// }
 /// ```
@@ -83,7 +83,7 @@ pub fn run<W: Sink>(
 ///     let texts = vec![in alloc; String::from_str(alloc, text)?]?;
 ///     let double = Expr::from_words(alloc, "1 1 +")?;
 ///     let mut out = Out::new(Vec::new(alloc));
-///     run_owned(alloc, Form::Rows, &double, texts, &mut out)?;
+///     run_owned(alloc, OutputOrder::Rows, &double, texts, &mut out)?;
 ///     Ok(out.into_inner().ends_with(b"1 1 1\n1 1 6\n"))
 /// }
 /// ```
