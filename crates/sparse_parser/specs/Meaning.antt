@@ -40,7 +40,7 @@ integer_of word =
     let z = signed_digits_value 10 word in
     if is_integer word && fits 127 z then Ok z else Err ParsingError
 
--- the row and the column counted from 0, given those of the text, which count from 1
+-- the row and the column counted from 0, given those of the text, which count from 1; 0 is an error
 unfoldable pub place_of : Read ℕ → Read ℕ → Read (ℕ × ℕ)
 place_of row col = do
   r ← row

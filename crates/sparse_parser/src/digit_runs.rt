@@ -56,7 +56,7 @@ fn many_digits_at(text: &[u8], from: usize) -> (usize, usize)
     long_digits_at(text, from)
 }
 
-/// Returns the same as [`digits_at`], for numbers that are often long: up to 24 digits are read, eight at a time.
+/// Returns the same as [`digits_at`], for numbers that are often long: up to 24 bytes are read, eight at a time.
 #[inline(always)]
 pub fn long_digits_at(text: &[u8], from: usize) -> (usize, usize)
     requires { from ≤ length text.now }
