@@ -42,7 +42,7 @@ pub mod wrapping {
 pub use sparse_algebra::learn;
 /// Compressed matrices: `==`, entries, transposes, filters, order by rows and by columns.
 pub use sparse_compressed::laws as compressed;
-/// Expressions: words in postfix order are those of at most one tree.
+/// Expressions: words in postfix order denote at most one tree.
 pub use sparse_expr::laws as expressions;
 /// Data structs: a value that is converted to its data struct and back is `==` to the original.
 pub use sparse_laws::data;

@@ -161,7 +161,7 @@ fn load_owned(alloc: Global, sources: Vec<String>) -> Result<Vec<CooMatrix<W64>>
     Ok(inputs)
 }
 
-// Loads the text with this number, which is the one that an error has.
+// Loads a text. Its number is that of the error, if it has one.
 fn load(alloc: Global, number: usize, text: &str) -> Result<CooMatrix<W64>, ExprError>
     ensures meant { IfOk result (λ m. Means scalar64 text.now (Ok (numbers_of m))) }
     ensures refused { IfErr result (λ e. (e ≡ OutOfMemory)

@@ -23,8 +23,8 @@ use std::rc::Rc;
 
 /// Returns the value of an expression over inputs, as a CSR matrix.
 ///
-/// Returns the error of the left operand before that of the right one, and both before `Shape`, which says that the
-/// shapes of two operands do not fit. Returns `NoSuchInput` for a number that no input has, and `OutOfMemory` if an
+/// Returns the first error, that of the left operand before that of the right one and of their operation: `NoSuchInput`
+/// if no input has a number of the expression, `Shape` if the shapes of operands do not fit. Returns `OutOfMemory` if an
 /// allocation fails.
 ///
 /// Each input is converted at most twice, to CSR and to CSC, however often the expression names it, and a matrix is

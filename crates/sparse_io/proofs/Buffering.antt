@@ -26,7 +26,7 @@ module _ {V : Type 0} (name : List ℕ) (text : V → List ℕ) (m : Coo V) wher
   abbrev begun : Triplets V → List ℕ
   begun ts = head_of name m ++ lines text ts
 
-  -- the bytes are the head and the lines of the triplets, except of those left
+  -- the bytes are the head and the lines of all triplets but those left
   pub record IsBegun (bytes : List ℕ) (left : Triplets V) : Type 0 where
     pub front : Triplets V
     pub order : m.triplets ≡ front ++ left
