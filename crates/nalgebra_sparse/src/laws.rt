@@ -30,7 +30,7 @@ pub mod texts {
     pub use sparse_io::{each_text_means, one_document, one_meaning, round_trip};
 }
 
-/// Wrapping integers of 32, 64 and 128 bits are the whole numbers wherever these fit.
+/// Wrapping integers of 32, 64 and 128 bits represent the whole numbers wherever these fit.
 pub mod wrapping {
     pub use sparse_algebra::laws::whole::{
         read_back_law, whole_entry_law, wrapped_matrix_law, wrapping_law,
@@ -38,7 +38,7 @@ pub mod wrapping {
     pub use sparse_algebra::laws::wide::{wide_read_back_law, wide_triplets_law};
 }
 
-/// Discards the result of a call that is made only for its contract.
+/// Discards the result of a call whose only purpose is its contract.
 pub use sparse_algebra::learn;
 /// Compressed matrices: `==`, entries, transposes, filters, order by rows and by columns.
 pub use sparse_compressed::laws as compressed;
