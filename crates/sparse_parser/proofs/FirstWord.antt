@@ -79,7 +79,7 @@ found_after_blanks text start (found.End rest) e h = (
 found_after_blanks text start found.Fault e h =
     (h.0, h.1, sym (ap line_words e ∙ words-after_blanks text) ∙ h.2, h.3)
 
--- ---- a word, and the text after it
+-- ---- a word that ends before a blank, a line end or the end of the text
 
 apart : (rest : List ℕ) → ends_word rest ≡ true → IsApart (front is_within_line rest)
 apart [] e = tt
@@ -106,7 +106,7 @@ word_first word rest lt solid e =
       line = sym (after-append_passes is_within_line word rest inside);
     }
 
--- ---- the text after a word
+-- ---- the longest prefix without blanks and line ends
 
 pub stops_word : (next : List ℕ) → IsStopped is_solid next → ends_word next ≡ true
 stops_word [] stop = refl

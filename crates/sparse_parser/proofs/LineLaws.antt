@@ -1,5 +1,4 @@
--- A text has exactly one list of lines, and `written_of` gives the words of those that are not
--- blank.
+-- Each text has lines, and `written_of` gives the words of those that are not blank.
 use Rattle.std.proofs.Common.{◌≡◌, ℕ, Bool, true, false, cond, eqb, List}
 use Rattle.std.proofs.Common.{[], ◌∷◌, ◌++◌, ◌<◌, length, get_or, drop, refl, sym, ap, ◌∙◌, arith}
 use Rattle.std.proofs.Common.{inl, inr}
