@@ -56,7 +56,7 @@ module _ (R : CommRing) where
   value_of inputs (tree.Transpose' p a) = one (plain_transpose R) (value_of inputs a)
   value_of inputs (tree.Neg' p a) = one (plain_negation R) (value_of inputs a)
 
-  -- the result has this value or this error, or an allocation failed
+  -- the result represents the value, is its error, or is `OutOfMemory`
   abbrev pub Meets : {M : Type 0} → (M → Plain R) → Result (Plain R) ExprError → Result M ExprError
       → Type 0
   Meets plain a (Ok m) = a ≡ Ok (plain m)
