@@ -97,7 +97,7 @@ module _ (p : Raw) where
       length-le_from_distinct_below (i ∷ path.0) p.major_dim path.2 (each_below j i path.0 path.1) in
       longer_to (length path.0) p.major_dim i j (omega arith) (walk_of j i path.0 path.1)
 
-  -- as many steps as there are lanes reach all that walks of any length reach
+  -- walks of at most as many steps as there are lanes join all pairs that any walks join
   pub walks_of_any_length : (r : Raw) → HoldsWalks p p.major_dim r → HoldsReachable p r
   walks_of_any_length r holds i j = (
     λ place. (p.major_dim, (holds i j).0 place),

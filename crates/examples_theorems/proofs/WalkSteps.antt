@@ -1,4 +1,4 @@
--- One step more of the walks along a pattern.
+-- Walks along a pattern that are one step longer.
 use Rattle.std.proofs.Common.{◌≡◌, ℕ, zero, suc, ◌<◌, ◌⊎◌, inl, inr, refl, subst, sym}
 use Rattle.std.proofs.Common.{ap, ◌∙◌}
 use Rattle.std.specs.Prelude.{nat_eq, nat_lt, ◌&&◌}

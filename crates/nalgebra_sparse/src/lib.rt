@@ -1,4 +1,4 @@
-//! Exact sparse matrices: coordinate lists, compressed rows and columns, over every commutative ring.
+//! Exact sparse matrices: coordinate lists, compressed rows and columns, over any commutative ring.
 //!
 //! The crates below this one hold the code. This one gives each module its public path.
 #![tactic(auto)]

@@ -1,4 +1,4 @@
--- Texts loaded one after the other, and matrices whose values are read as numbers.
+-- Texts loaded one after the other, as lists of triplets whose values are integers.
 use Rattle.std.proofs.Common.{◌≡◌, ℕ, ℤ, ◌+◌, ◌<◌, ◌≤◌, List, [], ◌∷◌, ◌++◌, length, take, drop}
 use Rattle.std.proofs.Common.{get_or, Ok, Err, Option, refl, sym, ap, subst, ◌∙◌, append_assoc}
 use Rattle.std.proofs.Common.{take-append-drop, append-nil, suc, arith}
@@ -89,7 +89,7 @@ module _ (texts : List (List ℕ)) where
       refused = refused;
     }
 
--- a refused write that is not the sink's is an allocation failure
+-- where writing ends with an error that is not the sink's, no write failed
 pub memory-refused : (kind : MatrixMarketErrorKind) (before after : ℕ) (last : Option ErrorKind)
     → IsRefusedWrite kind before after last → ((k : ErrorKind) → kind ≡ kinds.IOError k → ⊥)
     → after ≡ before

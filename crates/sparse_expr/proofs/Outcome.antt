@@ -1,4 +1,4 @@
--- What is loaded and written, as plain matrices over the integers modulo 2^64.
+-- The inputs and the value of a run, as plain matrices over the integers modulo 2^64.
 use Rattle.std.proofs.Common.{◌≡◌, ◌⊎◌, inl, inr, ℕ, zero, suc, ◌+◌, Bool, true, false, List, []}
 use Rattle.std.proofs.Common.{◌∷◌, ◌++◌, length, map, slice_get, Option, Some, None, Result, Ok}
 use Rattle.std.proofs.Common.{Err, refl, sym, ap, subst, ◌∙◌}
@@ -37,7 +37,7 @@ use Rattle.sparse_expr.specs.Run.{ring64, element_text, text_in, plains, AllMean
 use Rattle.sparse_expr.specs.Run.{Writes, WritesSome, Effect, IsUntouched, RefusesRun}
 use Rattle.sparse_expr.specs.InnerRun.{numbers_of, text_of_coo, RefusesSave}
 
--- ---- triplets whose values are read by way of another type
+-- ---- triplets whose values are mapped to another type first
 
 module _ {T V : Type 0} (h : T → V) where
   abbrev via : List (ℕ × ℕ × T) → List (ℕ × ℕ × V)
@@ -79,7 +79,7 @@ module _ {T V : Type 0} (h : T → V) where
         (length-map ts (λ t. (t.0, t.1, h t.2)))
         ∙ ap (λ l. heading name ++ (size_line rows cols (length ts) ++ l)) (lines-via ts)
 
--- ---- what is loaded
+-- ---- the inputs
 
 pub plains-loaded : (ms : List (Coo W64))
     → map (λ m. plain_of_coo ring64 (λ x. class_of w64 (w64_number x)) m) ms ≡ plains
@@ -90,7 +90,7 @@ plains-loaded (m ∷ ms) =
     (plain-via w64_number ring64 (class_of w64) m.nrows m.ncols m.triplets)
     ∙ ap (λ ps. plain_of_coo ring64 (class_of w64) (numbers_of m) ∷ ps) (plains-loaded ms)
 
--- ---- what is written
+-- ---- the value
 
 element-text : (x : W64)
     → element_text (class_of w64 (w64_number x)) ≡ signed_decimal (w64_number x)
@@ -116,7 +116,7 @@ text_in-cols m sound =
     (λ x. signed_decimal (w64_number x)) element-text (codes "integer") m.pattern.minor_dim
     m.pattern.major_dim (map transposed (lane_triplets m))
 
--- ---- the answer of a run
+-- ---- the result of a run
 
 abbrev Value : Type 0
 Value = Plain ring64
@@ -133,7 +133,7 @@ has_outcome texts expr outcome ms meant is = record {
   evaluated = ap (λ ps. value_of ring64 ps expr) (sym (plains-loaded ms)) ∙ is;
 }
 
--- an expression has no other refusal than these
+-- an expression has no errors but these
 found-refuses : (o : Option Value) (e : ExprError) → found ring64 o ≡ Err e
     → (e ≡ errors.NoSuchInput) ⊎ (e ≡ errors.Shape)
 found-refuses (Some a) e h = absurd cc
@@ -222,7 +222,7 @@ module _ (form : Form) (texts : List (List ℕ)) (expr : Expr) (value : Value)
     appended = subst (Appends old new) (sym said) appended;
   }
 
-  -- or a prefix of it, where the save is refused
+  -- or a prefix of it, if writing it fails
   pub refuses-write : (eff : Effect) (e : ExprError) → AppendsSome eff.taken_before eff.taken text
       → RefusesSave eff e → RefusesRun form texts expr eff e
   refuses-write eff e appended = refuses-save form texts expr eff e (record {
@@ -231,7 +231,7 @@ module _ (form : Form) (texts : List (List ℕ)) (expr : Expr) (value : Value)
     appended = subst (AppendsSome eff.taken_before eff.taken) (sym said) appended;
   })
 
--- two facts of one refusal
+-- a consequence of two facts about one error
 pub both_of_err : {T E : Type 0} (r : Result T E) (P Q S : E → Type 0) → ((e : E) → P e → Q e → S e)
     → IfErr r P → IfErr r Q → IfErr r S
 both_of_err (Ok x) P Q S f p q = q

@@ -1,4 +1,4 @@
--- The tree that tokens in postfix order stand for, by a stack.
+-- The tree of tokens in postfix order, found with a stack.
 use Rattle.std.proofs.Common.{◌≡◌, ℕ, ◌+◌, ◌-◌, ◌≤◌, inl, inr, List, [], ◌∷◌, ◌++◌, map, Option}
 use Rattle.std.proofs.Common.{Some, None, cond, refl, sym, ap, subst, ◌∙◌, append_assoc, arith}
 use Rattle.std.specs.Prelude.{count_by}
@@ -14,7 +14,7 @@ use Rattle.sparse_expr.specs.PostfixWords.{IsFirstFault, IsRefused, IsSaid}
 use Rattle.sparse_expr.specs.OneTree.{Tree, Leaf, Single, Pair, tree_of}
 use Rattle.sparse_expr.proofs.Postfix.{height-stack, operands-append, operators-append}
 
--- ---- a tree is what its tokens leave on a stack
+-- ---- the tokens of a tree leave that tree on a stack
 
 abbrev single : Token → List Tree → List Tree
 single t [] = []
@@ -104,7 +104,7 @@ abbrev Enough : ℕ → List Token → Type 0
 Enough h [] = Unit {0}
 Enough h (t ∷ ts) = (takes t ≤ h) × Enough (after h t) ts
 
--- the tokens find their operands at any height, and leave one operand more
+-- the tokens find their operands on a stack of any height, and leave one operand more
 abbrev IsWhole : List Token → Type 0
 IsWhole xs = (h : ℕ) (rest : List Token) → Enough (h + 1) rest → Enough h (xs ++ rest)
 
@@ -138,7 +138,7 @@ whole-postfix (tree.Mul' p a q b) = whole-pair (postfix a) (postfix b) Times ref
 whole-postfix (tree.Transpose' p a) = whole-single (postfix a) Turn refl (whole-postfix a)
 whole-postfix (tree.Neg' p a) = whole-single (postfix a) Negate refl (whole-postfix a)
 
--- the height after tokens, by recursion
+-- the number of operands after tokens, by recursion
 abbrev level : ℕ → List Token → ℕ
 level h [] = h
 level h (t ∷ ts) = level (after h t) ts
@@ -152,7 +152,7 @@ Enough-next : (h : ℕ) (xs : List Token) (t : Token) (ys : List Token)
 Enough-next h [] t ys enough = enough.0
 Enough-next h (x ∷ xs) t ys enough = Enough-next (after h x) xs t ys enough.1
 
--- how a token changes the counts
+-- how a token changes the counts of operands and of binary operators
 count-token : (t : Token) (h : ℕ) → takes t ≤ h
     → h + cond (is_operand t) 1 0 ≡ cond (is_binary t) 1 0 + after h t
 count-token (Operand n) h le = omega arith
@@ -179,7 +179,7 @@ level-counts h (x ∷ xs) enough =
       operators-append (x ∷ []) xs,
     )
 
--- each token of a tree finds its operands in what stands before it
+-- each token of a tree finds its operands among the tokens before it
 enough-at : (e : Expr) (before : List Token) (t : Token) (more : List Token)
     → postfix e ≡ before ++ (t ∷ more) → takes t ≤ height before
 enough-at e before t more split =
@@ -192,7 +192,7 @@ enough-at e before t more split =
       level-counts 0 before (Enough-front 0 before (t ∷ more) here),
     )
 
--- ---- words that say a tree are not refused
+-- ---- words that give a tree have no error
 
 no-none : (ts : List Token) (rest : List (Option Token)) (us : List Token)
     → map Some ts ++ (None ∷ rest) ≡ map Some us → ⊥

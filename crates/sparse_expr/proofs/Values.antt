@@ -26,7 +26,7 @@ module _ (R : CommRing) where
       ((Decides-eqb x.cols y.rows).1 fits)
       ∙ ap Ok (sym is)
 
-  -- a value made of two operands that have values
+  -- an operation on two operands that have values
   pub both_made : (make : Plain R → Plain R → Result (Plain R) ExprError)
       → (r s : Result (Plain R) ExprError) (x y : Plain R) → r ≡ Ok x → s ≡ Ok y
       → both R make r s ≡ make x y

@@ -5,7 +5,7 @@ use Rattle.sparse_expr.specs.declared.words.Token.TheVariants.{Plus, Minus, Time
 use Rattle.sparse_expr.specs.declared.expr.Expr.{Expr}
 use Rattle.sparse_expr.specs.declared.expr.Expr.TheVariants as tree
 
--- an input, an operator with one operand, or an operator with two
+-- an input, a unary operator with its operand, or a binary one with its two operands
 pub data Tree : Type 0 where
   Leaf : ℕ → Tree
   Single : Token → Tree → Tree

@@ -1,4 +1,4 @@
--- From texts and an expression to a text.
+-- The texts of a run and the text of its value, and the errors of a run.
 use Rattle.std.specs.Prelude.{◌≡◌, ◌⊎◌, ℕ, ℤ, ◌+◌, List, [], ◌∷◌, ◌++◌, map, length, codes, Result}
 use Rattle.std.specs.Prelude.{Ok, Err, Option, Some}
 use Rattle.std.specs.Int.{w64}
@@ -33,7 +33,7 @@ ring64 = wrapping_ring w64
 abbrev pub element_text : ring64.Carrier → List ℕ
 element_text c = signed_decimal (number_of w64 c)
 
--- the text of a plain matrix, in the order of a form
+-- the text of a plain matrix, with its entries row by row or column by column
 abbrev pub text_in : Form → Plain ring64 → List ℕ
 text_in Rows a = written_text (codes "integer") element_text a.rows a.cols (row_order ring64 a)
 text_in Cols a = written_text (codes "integer") element_text a.rows a.cols (col_order ring64 a)
@@ -48,7 +48,7 @@ AllMean [] [] = Unit {0}
 AllMean (text ∷ texts) (m ∷ ms) = Means scalar64 text (Ok m) × AllMean texts ms
 AllMean _ _ = ⊥
 
--- the number-th text, counted from 1, is the first that is refused, for this reason
+-- the text with this number, counted from 1, is the first with an error, and this is its kind
 pub record IsFirstRefused (texts : List (List ℕ)) (number : ℕ) (kind : MatrixMarketErrorKind) : Type
     0 where
   pub before : List (List ℕ)
@@ -64,7 +64,7 @@ pub record IsFirstRefused (texts : List (List ℕ)) (number : ℕ) (kind : Matri
 abbrev pub plains : List (Coo ℤ) → List (Plain ring64)
 plains ms = map (λ m. plain_of_coo ring64 (class_of w64) m) ms
 
--- the texts have meanings, and over these the expression has this value or this refusal
+-- the texts have meanings, over which the expression has this value or this error
 pub record HasOutcome (texts : List (List ℕ)) (expr : Expr)
     (outcome : Result (Plain ring64) ExprError) : Type 0 where
   pub ms : List (Coo ℤ)
@@ -78,15 +78,15 @@ pub record Writes (form : Form) (texts : List (List ℕ)) (expr : Expr) (old new
   pub is_value : HasOutcome texts expr (Ok value)
   pub appended : Appends old new (text_in form value)
 
--- a prefix of it was
+-- a prefix of the text of the expression's value was appended
 pub record WritesSome (form : Form) (texts : List (List ℕ)) (expr : Expr)
     (old new : Option (List ℕ)) : Type 0 where
   pub value : Plain ring64
   pub is_value : HasOutcome texts expr (Ok value)
   pub appended : AppendsSome old new (text_in form value)
 
--- what a call did to its sink: the bytes taken, the failed writes, and the kind of the last of
--- these
+-- what a call did to its sink: the bytes accepted, the number of failed writes, and the kind of the
+-- last of these
 pub record Effect : Type 0 where
   pub taken_before : Option (List ℕ)
   pub taken : Option (List ℕ)
@@ -94,7 +94,7 @@ pub record Effect : Type 0 where
   pub failures : ℕ
   pub last : Option ErrorKind
 
--- the effect between two moments
+-- the effect of a call, from what contracts cite of the sink before and after it
 abbrev pub effect : Option (List ℕ) → Option (List ℕ) → ℕ → ℕ → Option ErrorKind → Effect
 effect taken_before taken failures_before failures last =
     record {
@@ -109,7 +109,7 @@ effect taken_before taken failures_before failures last =
 abbrev pub IsUntouched : Effect → Type 0
 IsUntouched e = (e.taken ≡ e.taken_before) × (e.failures ≡ e.failures_before)
 
--- when a run is refused, and what it has then written
+-- the errors of a run, and what it has written in each case
 abbrev pub RefusesRun : Form → List (List ℕ) → Expr → Effect → ExprError → Type 0
 RefusesRun form texts expr e (refusal.Input number kind) = IsFirstRefused texts number kind
     × IsUntouched e

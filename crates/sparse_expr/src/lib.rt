@@ -1,4 +1,4 @@
-//! Matrix expressions: words to a tree, and texts to a text.
+//! Matrix expressions: parsed from words in postfix order, and evaluated over matrices or Matrix Market texts.
 #![tactic(auto)]
 
 mod calculator;

@@ -1,4 +1,4 @@
-//! From words to an expression.
+//! Parsing words in postfix order into an expression.
 
 ghost use Rattle.std.specs.Prelude.{◌≡◌, ◌⊎◌, ◌<◌, ◌≤◌, [], ◌∷◌, ◌++◌, OnOk, IfOk, IfErr, length};
 ghost use Rattle.std.specs.Prelude.{box_value};
@@ -81,13 +81,13 @@ impl Expr {
     /// the difference or the product of the two operands before it; `t` or `n` for the transpose or the negation of the
     /// operand before it.
     ///
-    /// Takes time and memory linear in the words.
+    /// Time and memory are linear in the length of the text.
     ///
     /// # Errors
     ///
-    /// Returns the first error from the left: `BadWord` for any other word, `MissingOperand` for an operator without
-    /// its operands or if there are no words, `LeftOver` if operands are left at the end. `OutOfMemory` if an
-    /// allocation fails.
+    /// Returns the first error from the left: `BadWord` for any other word; `MissingOperand` for an operator that lacks
+    /// operands, or if there are no words; `LeftOver` if more than one operand is left at the end. Returns
+    /// `OutOfMemory` if an allocation fails.
     ///
     /// # Examples
     ///
@@ -120,7 +120,7 @@ impl Expr {
     }
 }
 
-// Replaces a token's operands on the stack by its tree.
+// Replaces the operands of a token on the stack by the token's tree.
 fn apply(alloc: Global, token: Token, stack: &mut Vec<Expr>) -> Result<(), ExprError>
     ensures said { OnOk result
         (flat_map postfix stack.new.items ≡ flat_map postfix stack.old.items ++ token ∷ []) }
@@ -161,7 +161,7 @@ fn operand(alloc: Global, stack: &mut Vec<Expr>) -> Result<Box<Expr>, ExprError>
     }
 }
 
-// Pops two trees and boxes them; the one pushed first comes first.
+// Pops two trees and boxes them. The one that was pushed first comes first.
 fn operands(alloc: Global, stack: &mut Vec<Expr>) -> Result<(Box<Expr>, Box<Expr>), ExprError>
     ensures taken { IfOk result
         (λ p. stack.old.items ≡ stack.new.items ++ box_value p.0 ∷ box_value p.1 ∷ []) }

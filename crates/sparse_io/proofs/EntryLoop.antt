@@ -1,4 +1,4 @@
--- Data lines that are read one after the other, as a loop does, and the count of them.
+-- Data lines that a loop reads one after the other, and their number.
 use Rattle.std.proofs.Common.{◌≡◌, ℕ, suc, ◌+◌, ◌≤◌, ◌<◌, Bool, true, false, cond}
 use Rattle.std.proofs.Common.{List, [], ◌∷◌, length, Option, Some}
 use Rattle.std.proofs.Common.{None, refl, sym, ap, ◌∙◌, arith}
@@ -12,20 +12,20 @@ use Rattle.sparse_parser.specs.InnerLines.{IsLine}
 use Rattle.sparse_parser.proofs.Fronts.{length-after-lt}
 use Rattle.sparse_parser.proofs.FrontLines.{outside, contents_of-line, contents_of-nil}
 
--- a data line was read, and the search went on to the next line
+-- the first line is a data line with these words, and `next` is the text from the next line on
 pub record IsRead (text next : List ℕ) (words : List (List ℕ)) : Type 0 where
   pub same : contents_of text ≡ words ∷ contents_of next
   pub is : is_entry words ≡ true
   pub shorter : length next < length text
 
--- the next line is no data line
+-- the first line is not a data line
 pub record IsRefused (text : List ℕ) : Type 0 where
   pub words : List (List ℕ)
   pub others : List (List (List ℕ))
   pub same : contents_of text ≡ words ∷ others
   pub is : is_entry words ≡ false
 
--- the line at the front of a text that begins with one was read
+-- a data line that begins the text was read
 pub front_read : (text rest next : List ℕ) → BeginsLine text → 0 < length text
     → is_entry (line_words text) ≡ true → rest ≡ after is_within_line text
     → contents_of next ≡ contents_of rest → length next ≤ length rest
@@ -67,7 +67,7 @@ no_text (c ∷ text) e = absurd (omega arith)
 
 -- ---- counting
 
--- the count, where n lines were counted before
+-- the number of data lines, if n were counted before these
 abbrev pub count_from : ℕ → List (List (List ℕ)) → Option ℕ
 count_from n lines = cond (list_all is_entry lines) (Some (n + length lines)) None
 

@@ -1,4 +1,4 @@
--- What the lines of integers mean.
+-- The meaning of the lines that the fast path reads.
 use Rattle.std.proofs.Common.{◌≡◌, ℕ, ℤ, List, Option, Some, Ok, refl, sym, ap, ◌∙◌}
 use Rattle.sparse_parser.specs.declared.header.Format.TheVariants.{Coordinate, Array}
 use Rattle.sparse_parser.specs.declared.header.Field.TheVariants.{Integer, Pattern}

@@ -1,4 +1,5 @@
--- A text as its header line and what stands below it, and that as the size line and the data lines.
+-- The meaning of a text by its header line and the text below it, and then by the size line and the
+-- data lines.
 use Rattle.std.proofs.Common.{◌≡◌, ℕ, Bool, true, false, cond, List, [], ◌∷◌, Some, None}
 use Rattle.std.proofs.Common.{Result, Ok, Err, refl, sym, ap, subst, ◌∙◌, inl, inr}
 use Rattle.std.specs.Prelude.{IfOk, IfErr, ◌⊎◌}
@@ -114,7 +115,7 @@ module _ (S : Scalar) where
         → s ≡ r → Gives S value result r → Gives S value result s
     Gives-along result r s e h = subst (Gives S value result) (sym e) h
 
-    -- what is given is what the text means
+    -- the result of reading is what the text means
     pub means_ok : (text : List ℕ) (result : Result (Coo T) MatrixMarketError)
         → Gives S value result (read S text)
         → IfOk result (λ m. Means S text (Ok (values_of value m)))

@@ -1,4 +1,4 @@
--- What a call that is passed on as an error owes.
+-- Closes postconditions of success where `?` returns an error.
 use Rattle.std.proofs.lemmas.Result.{IfOk-from_err}
 
 pub ruleset refused = (IfOk-from_err)

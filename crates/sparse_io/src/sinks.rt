@@ -10,7 +10,7 @@ use std::io::ErrorKind;
 /// A byte sink. Each write accepts a prefix of the slice.
 ///
 /// A write fails if it returns an error, or if it accepts nothing of a nonempty slice, which is a failure of the kind
-/// `WriteZero`. Contracts see the bytes accepted, where the type determines them, and the number of failures.
+/// `WriteZero`. Contracts cite the bytes accepted, where the type determines them, and the number of failures.
 pub trait Sink {
     ghost use Rattle.std.specs.declared.io.ErrorKind.{ErrorKind};
 
@@ -32,7 +32,8 @@ pub trait Sink {
             (last self.old) (last self.new) };
 }
 
-/// Writes all the bytes. Short writes are continued. The first failed write ends it; it is not tried again.
+/// Writes all bytes. Short writes are continued. Returns the kind of the first write that fails, which is not tried
+/// again.
 pub fn write_all_to<W: Sink>(sink: &mut W, bytes: &[u8]) -> Result<(), ErrorKind>
     ensures unfailed { OnOk result (W.failures sink.new ≡ W.failures sink.old) }
     ensures all { OnOk result (Appends (W.taken sink.old) (W.taken sink.new) bytes.now) }

@@ -23,7 +23,7 @@ mod indices;
 // The capacity of the buffer that a text passes through.
 const CAPACITY: usize = 64 * 1024;
 
-// The room kept for a line: two indices and a value of 20 bytes each make a line of 63 bytes.
+// The room kept for a line. Two indices and a value of 20 bytes each make a line of 63 bytes.
 const LINE_ROOM: usize = 256;
 
 // The length at which the buffer is written out, so that the next line fits.
@@ -78,7 +78,7 @@ fn push_triplet<T: MatrixMarketScalar>(
     text.push_str("\n")
 }
 
-// Appends the lines before those of the triplets.
+// Appends the header, the comment below it and the size line.
 fn push_head<T, S>(text: &mut String, matrix: &S) -> Result<(), AllocError>
 where
     T: MatrixMarketScalar,
@@ -93,7 +93,7 @@ where
     push_sizes(text, matrix.nrows(), matrix.ncols(), matrix.nnz())
 }
 
-// A buffer with the lines before those of the triplets.
+// A buffer with the header, the comment below it and the size line.
 fn head<T, S>(alloc: Global, matrix: &S) -> Result<String, AllocError>
 where
     T: MatrixMarketScalar,
@@ -161,7 +161,7 @@ where
 }
 
 /// Writes a matrix to a sink in Matrix Market format: the header, the size line, and a line for each triplet in the
-/// order of the matrix's form.
+/// order of the matrix's format.
 ///
 /// The text passes through one buffer of bounded size.
 ///

@@ -1,4 +1,4 @@
--- The text of an integer is read as that integer.
+-- The decimal text of an integer is read back as that integer.
 use Rattle.std.proofs.Common.{◌≡◌, ℕ, ℤ, pos, negsuc, suc, ◌^◌, ◌<◌, ◌≤◌, Bool, true, false, cond}
 use Rattle.std.proofs.Common.{List, [], ◌∷◌, length, Ok, Err, refl, ap, ◌∙◌, arith, rules}
 use Rattle.std.specs.Prelude.{FitsSigned}
@@ -19,7 +19,7 @@ use Rattle.sparse_parser.specs.Scalars.{fits, IsNumberText}
 use Rattle.sparse_parser.proofs.NumberLaws.{digits-of, index-unsigned}
 use Rattle.sparse_parser.proofs.ByteClasses.{digit_no_sign}
 
--- a number of w bits with a sign
+-- the number, if it fits in a signed integer of this width
 abbrev pub taken : Width → ℤ → Read ℤ
 taken w z = cond (fits (hbits w) z) (Ok z) (Err TypeMismatch)
 

@@ -8,7 +8,7 @@ use Rattle.sparse_parser.specs.declared.error.MatrixMarketErrorKind.TheVariants.
 use Rattle.sparse_parser.specs.Scalars.{Scalar}
 use Rattle.sparse_market_scalar.specs.IntegerTexts.{taken, taken_refuses, number_text}
 
--- plain integers; the least has no negative
+-- plain integers, of which the least has no negative
 abbrev pub signed_scalar : Width → Scalar
 signed_scalar w = record {
   Value = ℤ;
@@ -25,7 +25,7 @@ signed_scalar w = record {
   read_back = inl (refl, number_text w);
 }
 
--- wrapping integers in signed form
+-- wrapping integers, whose texts are in signed form
 abbrev pub wrapping_scalar : Width → Scalar
 wrapping_scalar w = record {
   Value = ℤ;
@@ -42,7 +42,7 @@ wrapping_scalar w = record {
   read_back = inl (refl, number_text w);
 }
 
--- patterns, which have one value and no text
+-- patterns, whose only value has an empty text
 abbrev pub pattern_scalar : Scalar
 pattern_scalar = record {
   Value = Unit {0};

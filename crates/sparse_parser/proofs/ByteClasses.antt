@@ -1,4 +1,5 @@
--- Bytes of one kind are not of another.
+-- Which classes of bytes contain or exclude each other, such as digits, signs, blanks and line
+-- ends.
 use Rattle.std.proofs.Common.{◌≡◌, ℕ, Bool, true, false, eqb, ◌||◌, List, [], ◌∷◌, ◌++◌, arith}
 use Rattle.std.specs.Char.{is_ascii_digit}
 use Rattle.std.proofs.lemmas.Bool.Decides.{nat_tests}

@@ -1,4 +1,4 @@
--- A sign and digits at the front of a text.
+-- A leading sign and the digits after it: the word of an integer.
 use Rattle.std.proofs.Common.{◌≡◌, ◌≢◌, ℕ, ◌+◌, ◌-◌, ◌^◌, ◌≤◌, ◌<◌, Bool, true, false, ltb, eqb}
 use Rattle.std.proofs.Common.{cond, ◌||◌, List, [], ◌∷◌, ◌++◌, length, take, Option, Some, None}
 use Rattle.std.proofs.Common.{Result, Err, refl, sym, ap, subst, ◌∙◌, arith, append_assoc}
@@ -40,7 +40,7 @@ is_index-front text lt = rw (
 )
     refl
 
--- what a function found is the number
+-- the value that a function found is the number of the word
 pub found-number : (word : List ℕ) (n : Option ℕ) → SomeIff n (digits_value 10 word < 2 ^ 64)
     (digits_value 10 word) → found_number n ≡ number_of word
 unfolding number_of
@@ -51,9 +51,9 @@ found-number word None h = by (ltb (digits_value 10 word) (2 ^ 64)) refl
     by true e = absurd (h (ltb-true _ _ e))
     by false e = rw e refl
 
--- ---- values
+-- ---- the word of an integer
 
--- the sign at the front of a text
+-- the leading sign of a text, or nothing
 abbrev pub sign_of : List ℕ → List ℕ
 sign_of [] = []
 sign_of (b ∷ text) = cond (eqb b 43 || eqb b 45) (b ∷ []) []
@@ -69,7 +69,7 @@ sign_of-append (b ∷ text) = by (eqb b 45) (eqb b 43) refl refl
     by false true m p = rw (m, p) refl
     by false false m p = rw (m, p) refl
 
--- the word of a value
+-- the leading sign of a text and the digits after it
 abbrev pub value_word : List ℕ → List ℕ
 value_word text = sign_of text ++ front is_ascii_digit (without_leading_sign text)
 
@@ -158,9 +158,9 @@ value_word-number text digits word n d h w =
     ∙ sym (ap without_leading_sign w ∙ without_leading_sign-value_word text) in
     subst (λ (ds : List ℕ). SomeIff n (digits_value 10 ds < 2 ^ 64) (digits_value 10 ds)) e h
 
--- ---- a word that is an index as a whole
+-- ---- a word that is an index
 
--- the number of an index, or why it is none
+-- the result for an index is its number, or the parsing error of its cause
 pub number_found : (word : List ℕ) (n : Option ℕ) (r : Result ℕ Cause) (cause : Cause)
     → SomeIff n (digits_value 10 word < 2 ^ 64) (digits_value 10 word) → r ≡ ok_or n cause
     → kind_of_cause cause ≡ ParsingError → found r ≡ number_of word

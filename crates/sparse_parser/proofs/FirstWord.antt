@@ -1,4 +1,4 @@
--- The first word of a line, and what follows it.
+-- The first word of a line, and the text after it.
 use Rattle.std.proofs.Common.{◌≡◌, ℕ, ◌<◌, not, Bool, true, false, List, [], ◌∷◌, ◌++◌, length}
 use Rattle.std.proofs.Common.{refl, sym, ap, subst, ◌∙◌, arith}
 use Rattle.std.specs.List.{AllByRecursion}
@@ -66,7 +66,7 @@ starts_word text start s e =
     by [] stop e = absurd cc
     by (b ∷ start) stop e = rw (stop, e) refl
 
--- what is found after blanks is found before them
+-- the first word is the same without the blanks before it
 pub found_after_blanks : (text start : List ℕ) (f : Found) → start ≡ after is_blank text
     → IsFound start f → IsFound text f
 found_after_blanks text start (found.Number n rest) e h =
@@ -79,7 +79,7 @@ found_after_blanks text start (found.End rest) e h = (
 found_after_blanks text start found.Fault e h =
     (h.0, h.1, sym (ap line_words e ∙ words-after_blanks text) ∙ h.2, h.3)
 
--- ---- a word and what follows it
+-- ---- a word that ends before a blank, a line end or the end of the text
 
 apart : (rest : List ℕ) → ends_word rest ≡ true → IsApart (front is_within_line rest)
 apart [] e = tt
@@ -106,7 +106,7 @@ word_first word rest lt solid e =
       line = sym (after-append_passes is_within_line word rest inside);
     }
 
--- ---- another word
+-- ---- the longest prefix without blanks and line ends
 
 pub stops_word : (next : List ℕ) → IsStopped is_solid next → ends_word next ≡ true
 stops_word [] stop = refl

@@ -1,4 +1,4 @@
--- The lines of a text as they are read from its front, and the search for the next one.
+-- The first line of a text and the lines below it, and the search for the next line.
 use Rattle.std.proofs.Common.{◌≡◌, ◌≢◌, ℕ, ◌-◌, ◌<◌, ◌≤◌, Bool, true, false, List}
 use Rattle.std.proofs.Common.{[], ◌∷◌, ◌++◌, length, drop, refl, sym, ap, subst, ◌∙◌, arith}
 use Rattle.std.specs.Prelude.{filter}
@@ -17,13 +17,13 @@ use Rattle.sparse_parser.proofs.WordLaws.{words_of-nil, words_of-blank}
 use Rattle.sparse_parser.proofs.LineLaws.{add, add-blank, ended, last, written_of-end}
 use Rattle.sparse_parser.proofs.ContentLaws.{first_word_of, content_line, is_content-comment}
 
--- ---- the lines of a text, as they are read from its front
+-- ---- the first line of a text, and the lines below it
 
 pub plain-from : (line : List ℕ) → Passes is_within_line line → IsOneLine line
 plain-from [] h = tt
 plain-from (b ∷ line) h = (not-true (is_line_end b) h.0, plain-from line h.1)
 
--- the front line, and the lines after it
+-- a text's lines are its first line and those of the text after it
 written_of-parts : (line rest : List ℕ) → IsOneLine line → IsStopped is_within_line rest
     → written_of (line ++ rest) ≡ add line (written_of rest)
 written_of-parts line [] plain stop = ap written_of (append-nil line) ∙ last line plain
@@ -37,7 +37,7 @@ written_of-line text = ap written_of (sym (front-append-after is_within_line tex
     ∙ written_of-parts _ _ (plain-from _ (Passes-front is_within_line text))
     (IsStopped-after is_within_line text)
 
--- what is neither a blank nor a line end
+-- a byte that is no blank and no line end
 pub outside : (b : ℕ) → is_space b ≡ false → (is_blank b ≡ false) × (is_within_line b ≡ true)
 outside b e = by (is_blank b) (is_line_end b) refl refl
   where
@@ -78,7 +78,7 @@ pub contents_of-after_space : (text : List ℕ) → contents_of (after is_space 
 unfolding contents_of
 contents_of-after_space text = ap (filter is_content) (written_of-after_space text)
 
--- the words of the front line, where it is neither blank nor a comment, and the contents after it
+-- the contents of a text whose first line is neither blank nor a comment
 pub contents_of-line : (b : ℕ) (text : List ℕ) → is_space b ≡ false → b ≢ 37
     → contents_of (b ∷ text) ≡ words_of (front is_within_line (b ∷ text)) ∷ contents_of
     (after is_within_line (b ∷ text))
@@ -101,7 +101,7 @@ contents_of-comment text =
     ap (filter is_content) (written_of-line (37 ∷ text)) ∙ rw (f, is_content-comment w.0 w.1 w.3)
     refl
 
--- the first line that isn't blank
+-- the lines of a text whose first line is not blank
 pub written_of-first : (b : ℕ) (text : List ℕ) → is_space b ≡ false
     → written_of (b ∷ text) ≡ words_of (front is_within_line (b ∷ text)) ∷ written_of
     (after is_within_line (b ∷ text))
@@ -121,7 +121,7 @@ contents_of-nil = ap (filter is_content) written_of-nil
 
 -- ---- the search for the next line
 
--- up to the front of what is left there are blank lines and comments
+-- only blank lines, comments and blanks of the text come before `rest`
 pub record IsSought (text rest : List ℕ) : Type 0 where
   pub same : contents_of rest ≡ contents_of text
   pub len : length rest ≤ length text

@@ -1,4 +1,4 @@
--- The longest front of a text that passes a test, as a loop goes over it.
+-- The longest prefix of a text whose bytes pass a test, and the prefix that a loop has tested.
 use Rattle.std.proofs.Common.{◌≡◌, ℕ, ◌+◌, ◌-◌, ◌≤◌, ◌<◌, Bool, true, false, List, [], ◌∷◌, ◌++◌}
 use Rattle.std.proofs.Common.{length, get_or, take, drop, refl, sym, ap, subst, ◌∙◌, arith, one-add}
 use Rattle.std.proofs.Common.{length-drop, drop-drop}
@@ -21,13 +21,13 @@ after-yes p b text e = rw e refl
 pub after-no : (p : ℕ → Bool) (b : ℕ) (text : List ℕ) → p b ≡ false → after p (b ∷ text) ≡ b ∷ text
 after-no p b text e = rw e refl
 
--- the first i bytes pass
+-- the first i bytes pass the test
 pub record IsPassed (p : ℕ → Bool) (text : List ℕ) (i : ℕ) : Type 0 where
   pub room : i ≤ length text
   pub rest : after p (drop i text) ≡ after p text
   pub passed : take i text ++ front p (drop i text) ≡ front p text
 
--- ---- the parts, without a loop
+-- ---- the prefix and the text after it, without a loop
 
 pub front-append-after : (p : ℕ → Bool) (text : List ℕ) → front p text ++ after p text ≡ text
 front-append-after p [] = refl
@@ -41,11 +41,11 @@ front-append-after p (b ∷ text) = by (p b) refl (front-append-after p text)
 pub after-none : (p : ℕ → Bool) (text : List ℕ) → front p text ≡ [] → after p text ≡ text
 after-none p text e = ap (λ (t : List ℕ). t ++ after p text) (sym e) ∙ front-append-after p text
 
--- every byte passes
+-- every byte passes the test
 abbrev pub Passes : (ℕ → Bool) → List ℕ → Type 0
 Passes p text = AllByRecursion (λ b. p b ≡ true) text
 
--- the text is empty or begins with a byte that fails
+-- the text is empty, or its first byte fails the test
 abbrev pub IsStopped : (ℕ → Bool) → List ℕ → Type 0
 IsStopped p [] = Unit {0}
 IsStopped p (b ∷ text) = p b ≡ false
@@ -66,7 +66,7 @@ IsStopped-after p (b ∷ text) = by (p b) refl (IsStopped-after p text)
     by true e h = subst (IsStopped p) (sym (after-yes p b text e)) h
     by false e h = subst (IsStopped p) (sym (after-no p b text e)) e
 
--- a front that passes, before what doesn't
+-- the prefix of a text that passes, followed by a text whose first byte fails
 pub front-append : (p : ℕ → Bool) (passed rest : List ℕ) → Passes p passed → IsStopped p rest
     → front p (passed ++ rest) ≡ passed
 front-append p [] [] h stop = refl
@@ -81,7 +81,7 @@ after-append p [] (b ∷ rest) h stop = after-no p b rest stop
 after-append p (b ∷ passed) rest h stop = after-yes p b (passed ++ rest) h.0
     ∙ after-append p passed rest h.1 stop
 
--- a part that passes stands in front of the front
+-- prepending bytes that pass extends the prefix
 pub front-append_passes : (p : ℕ → Bool) (passed rest : List ℕ) → Passes p passed
     → front p (passed ++ rest) ≡ passed ++ front p rest
 front-append_passes p [] rest h = refl
@@ -107,7 +107,7 @@ pub length-after-lt : (p : ℕ → Bool) (b : ℕ) (text : List ℕ) → p b ≡
     → length (after p (b ∷ text)) < length (b ∷ text)
 length-after-lt p b text e = rw e (let h = length-after p text in omega arith)
 
--- nothing of the front is left where the loop ends
+-- the prefix ends where the loop ends
 pub front-drop_all : (p : ℕ → Bool) (text : List ℕ) (i : ℕ) → length text ≤ i
     → front p (drop i text) ≡ []
 front-drop_all p text i le = ap (front p) (drop_all i text le)
@@ -116,7 +116,7 @@ pub front-drop_stop : (p : ℕ → Bool) (text : List ℕ) (i : ℕ) → i < len
     → p (get_or text i 0) ≡ false → front p (drop i text) ≡ []
 front-drop_stop p text i lt e = ap (front p) (drop_more text i 0 lt) ∙ front-no p _ _ e
 
--- a text that passes as a whole is its own front
+-- a text that passes as a whole is its own prefix
 pub list_all-front : (p : ℕ → Bool) (word : List ℕ) → list_all p word ≡ true → front p word ≡ word
 list_all-front p [] h = refl
 list_all-front p (b ∷ word) h = by (p b) refl (list_all-front p word)
@@ -128,7 +128,7 @@ list_all-front p (b ∷ word) h = by (p b) refl (list_all-front p word)
         ∙ h in front-yes p b word e ∙ ap (λ (t : List ℕ). b ∷ t) (rest k)
     by false e rest = absurd (let r : list_all p (b ∷ word) ≡ false = rw e refl in cc)
 
--- the front is as long as its first bytes that pass, and the rest follows it
+-- the prefix and the text after it, by the length of the prefix
 module _ (p : ℕ → Bool) where
   pub front_take : (text : List ℕ) → front p text ≡ take (prefix_len p text) text
   front_take [] = refl
@@ -148,7 +148,7 @@ module _ (p : ℕ → Bool) where
       by true e h = rw (e, one-add (prefix_len p text)) h
       by false e h = rw e refl
 
--- what follows is the end of the text
+-- the text after the prefix is an end of the text
 drop_end : (text rest : List ℕ) (k : ℕ) → k ≤ length text → rest ≡ drop k text
     → rest ≡ drop (length text - length rest) text
 drop_end text rest k le e =
@@ -160,7 +160,7 @@ pub after_is_end : (p : ℕ → Bool) (text : List ℕ)
 after_is_end p text = drop_end text (after p text) (prefix_len p text)
     (prefix_len-le-length p text) (after_drop p text)
 
--- the end of an end
+-- an end of an end of a text is an end of the text
 pub end_of_end : (text mid rest : List ℕ) → length mid ≤ length text → length rest ≤ length mid
     → mid ≡ drop (length text - length mid) text → rest ≡ drop (length mid - length rest) mid
     → rest ≡ drop (length text - length rest) text

@@ -1,4 +1,4 @@
--- The indices and integers of a line, read one after the other.
+-- Indices and integers, read one after the other from a line.
 use Rattle.std.proofs.Common.{◌≡◌, ◌≢◌, ℕ, ℤ, pos, zero, suc, ◌^◌, ◌<◌, Bool, true, false, cond}
 use Rattle.std.proofs.Common.{eqb, List, [], ◌∷◌, ◌++◌, length, Option}
 use Rattle.std.proofs.Common.{Some, None, Ok, Err, refl, sym}
@@ -35,14 +35,14 @@ use Rattle.sparse_parser.proofs.FirstWord.{words-after_blanks, line-after_blanks
 use Rattle.sparse_parser.proofs.Digits.{digit_small}
 use Rattle.sparse_parser.proofs.Positions.{after_passed, digit_read}
 
--- what ends a word is no digit
+-- a text that ends a word has no leading digit
 no_digit : (rest : List ℕ) → ends_word rest ≡ true
     → (front is_ascii_digit rest ≡ []) × (after is_ascii_digit rest ≡ rest)
 no_digit [] e = (refl, refl)
 no_digit (b ∷ rest) e = let d = space_no_digit b
     e in (front-no is_ascii_digit b rest d, after-no is_ascii_digit b rest d)
 
--- the digits at the front of a text were read, and a word ends there
+-- the leading digits of a text were read, and a word ends after them
 record IsDigitsRead (text : List ℕ) (number : ℕ) (rest : List ℕ) : Type 0 where
   value : number ≡ digits_value 10 (front is_ascii_digit text)
   others : rest ≡ after is_ascii_digit text
@@ -58,7 +58,7 @@ all_read text rest number r e =
       small = r.small;
     }
 
--- the digits at the front of a text, before a blank or the end of the line
+-- the leading digits of a text are a word if a blank, a line end or the end of the text follows
 digits_word : (text rest : List ℕ) → rest ≡ after is_ascii_digit text → length rest ≢ length text
     → ends_word rest ≡ true → IsWord text (front is_ascii_digit text) rest
 digits_word text rest r some ends =
@@ -71,7 +71,7 @@ digits_word text rest r some ends =
     subst (λ (t : List ℕ). IsWord t (front is_ascii_digit text) rest) same
     (word_first (front is_ascii_digit text) rest lt solid ends)
 
--- the digits at the front of a text, before a blank or the end of the line, are an index
+-- such digits are an index
 pub index_first : (text rest : List ℕ) (number : ℕ) → IsNumberRead text number rest
     → length rest ≢ length text → ends_word rest ≡ true → IsIndexAt text number rest
 index_first text rest number r some ends =
@@ -100,7 +100,7 @@ index_at text start rest number s r some ends =
 blank_ends : (b : ℕ) → is_blank b ≡ true → is_space b ≡ true
 blank_ends b e = rw e refl
 
--- an index and the blank after it
+-- an index followed by a blank, and the text after that blank
 pub index_and_blank : (text from : List ℕ) (number end : ℕ) → end < length text
     → is_blank (get_or text end 0) ≡ true → IsNumberRead from number (drop end text)
     → length (drop end text) ≢ length from → IsIndexAt from number (drop (end + 1) text)
@@ -123,7 +123,7 @@ index_and_blank text from number end lt e r some =
       is = i.is;
     }
 
--- the sign is the first byte's
+-- the word of an integer begins with a minus exactly where the text does
 same_sign : (text : List ℕ) → starts_with_minus (value_word text) ≡ starts_with_minus text
 same_sign [] = refl
 same_sign (b ∷ text) = by (eqb b 45) (eqb b 43) (is_ascii_digit b) refl refl refl
@@ -156,7 +156,7 @@ integer_is word n true i m e lt = rw (← e, i, m) (negative n lt)
     negative (suc n) lt = rw (lt-ltb n (2 ^ 127) (omega arith)) refl
 integer_is word n false i m e lt = rw (← e, i, m, lt-ltb n (2 ^ 127) (omega arith)) refl
 
--- the digits of an integer with its sign
+-- the value of an integer, from the value of its digits and its sign
 pub signed_integer : (word : List ℕ) (digits : Option ℕ) (kind : NumberKind) (n : ℕ) (minus : Bool)
     (value : Option ℤ) → IsNumberOf word digits kind → digits ≡ Some n
     → minus ≡ starts_with_minus word
@@ -205,13 +205,13 @@ no_blank_first : (text : List ℕ) → ends_line text ≡ true → text ≡ afte
 no_blank_first [] e = refl
 no_blank_first (b ∷ text) e = sym (after-no is_blank b text (line_end_no_blank b e))
 
--- the line ends at once
+-- a line that has no byte left ends here
 pub end_at : (text rest : List ℕ) → rest ≡ text → ends_line text ≡ true → IsEndAt text rest
 end_at text rest r e =
     let l = line_ends text text (no_blank_first text e) e in
     record { none = l.0; line = r ∙ l.1 }
 
--- a digit, and LF after it
+-- a digit before LF is a number that ends its line
 pub one_digit : (text : List ℕ) (from number : ℕ) → from + 1 < length text
     → is_ascii_digit (get_or text from 0) ≡ true → get_or text (from + 1) 0 ≡ 10
     → number ≡ get_or text from 0 - 48
@@ -235,7 +235,7 @@ one_digit text from number inside digit end is =
       line = end_at _ _ refl (ap ends_line ends ∙ ap is_line_end end);
     }
 
--- an index, and LF after it
+-- an index before LF ends its line
 pub index_and_end : (text from : List ℕ) (number end : ℕ) → end < length text
     → get_or text end 0 ≡ 10 → IsNumberRead from number (drop end text)
     → length (drop end text) ≢ length from → IsLastIndex from number (drop end text)
@@ -247,7 +247,7 @@ index_and_end text from number end lt e r some =
       line = end_at _ _ refl (ap ends_line ends ∙ ap is_line_end e);
     }
 
--- one word more
+-- the words of a line, from its first word and the words of the text after it
 more : (text word rest : List ℕ) (words : List (List ℕ)) → IsWord text word rest
     → line_words rest ≡ words → line_words text ≡ word ∷ words
 more text word rest words h e = h.words ∙ ap (λ (ws : List (List ℕ)). word ∷ ws) e

@@ -1,4 +1,4 @@
--- Which first words of a line are integers, and the numbers of their digits.
+-- When the first word of a line is an integer, and the value of its digits.
 use Rattle.std.proofs.Common.{◌≡◌, ◌≢◌, ℕ, ◌+◌, ◌^◌, ◌<◌, ◌&&◌, ◌||◌, Bool, true, false, eqb, List}
 use Rattle.std.proofs.Common.{[], ◌∷◌, ◌++◌, length, Option, None, refl, sym, ap, subst, ◌∙◌, arith}
 use Rattle.std.proofs.Common.{inl, inr, length-append}
@@ -42,7 +42,7 @@ value-passes text = Passes-append is_solid (sign_of text) _ (sign_passes text)
 length-second : (s t : List ℕ) → 0 < length t → 0 < length (s ++ t)
 length-second s t lt = let e = length-append s t in omega arith
 
--- the digits that stand after a sign, and what stands after them
+-- a word of a sign and digits, the value of the digits, and the text after the word
 pub record AreDigits (text unsigned rest word : List ℕ) (digits : Option ℕ) : Type 0 where
   pub unsigned_is : unsigned ≡ without_leading_sign text
   pub rest_is : rest ≡ after is_ascii_digit unsigned
@@ -122,9 +122,9 @@ signed_number text unsigned rest word digits h n =
           h.word_is;
     }
 
--- ---- no integer
+-- ---- when the first word is no integer
 
--- a sign and what stands after it, before more
+-- a sign is removed from a word in the same way if more text follows the word
 sign-split : (word next : List ℕ) → is_integer word ≡ true
     → without_leading_sign (word ++ next) ≡ without_leading_sign word ++ next
 sign-split [] next i = absurd cc
@@ -176,7 +176,7 @@ other_is word n i = record {
   digits_are = λ e. absurd cc;
 }
 
--- the number of an index, which has no sign
+-- an index has no sign, so the value of its digits is its number
 pub index_digits : (word : List ℕ) (digits : Option ℕ) (kind : NumberKind)
     → IsNumberOf word digits kind → is_plain kind ≡ true → SomeIff digits (digits_value 10 word < 2 ^ 64) (digits_value 10 word)
 index_digits word digits kind h p =

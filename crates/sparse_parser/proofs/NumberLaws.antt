@@ -15,7 +15,7 @@ use Rattle.sparse_parser.proofs.ByteClasses.{digit_unscaled, digit_no_sign, digi
 use Rattle.sparse_parser.proofs.ByteClasses.{Passes-weaker}
 use Rattle.std.proofs.lemmas.List.{append-nil}
 
--- a word of digits
+-- an index is a nonempty run of digits
 pub digits-of : (word : List ℕ) → is_index word ≡ true → (0 < length word)
     × Passes is_ascii_digit word
 digits-of word e = let p = and_parts _ _ e in (ltb-true _ _ p.0, passes word p.1)
@@ -68,7 +68,7 @@ index-integer word e = ap is_index (index-unsigned word e) ∙ e
 pub index-number : (word : List ℕ) → is_index word ≡ true → is_number word ≡ true
 index-number word e = integer-number word (index-integer word e)
 
--- what implies a test that fails
+-- a test that implies a failing test fails
 pub false-before : (p q : Bool) → (p ≡ true → q ≡ true) → q ≡ false → p ≡ false
 false-before true q f e = absurd (let g = f refl in cc)
 false-before false q f e = refl

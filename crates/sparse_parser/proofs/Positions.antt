@@ -1,4 +1,4 @@
--- A text from a position on, as a loop moves the position over it.
+-- A text from an offset on, as a loop advances the offset.
 use Rattle.std.proofs.Common.{◌≡◌, ℕ, ◌+◌, ◌-◌, ◌*◌, ◌^◌, ◌≤◌, ◌<◌, Bool, true, List, length}
 use Rattle.std.proofs.Common.{get_or, drop, sym, ap, ◌∙◌, arith}
 use Rattle.std.proofs.lemmas.List.{drop_more}
@@ -9,12 +9,12 @@ use Rattle.sparse_parser.specs.Bytes.{front, after}
 use Rattle.sparse_parser.proofs.Fronts.{front-yes, after-yes}
 use Rattle.sparse_parser.proofs.Digits.{digit_value-digit}
 
--- a byte that passes is passed over
+-- advancing over a byte that passes leaves the text after the prefix unchanged
 pub after_passed : (p : ℕ → Bool) (text : List ℕ) (i : ℕ) → i < length text
     → p (get_or text i 0) ≡ true → after p (drop (i + 1) text) ≡ after p (drop i text)
 after_passed p text i lt e = sym (ap (after p) (drop_more text i 0 lt) ∙ after-yes p _ _ e)
 
--- one digit more is read
+-- advancing over a digit appends it to the number
 pub digit_read : (n : ℕ) (text : List ℕ) (i : ℕ) → i < length text
     → is_ascii_digit (get_or text i 0) ≡ true
     → digits_value_after 10 (n * 10 + (get_or text i 0 - 48))
@@ -27,6 +27,6 @@ digit_read n text i lt e =
     (sym (digit_value-digit (get_or text i 0) e))
     ∙ sym (ap (digits_value_after 10 n) d)
 
--- k digits are below 10 ^ k
+-- the value of k + 1 digits is below 10 ^ (k + 1) if that of the first k is below 10 ^ k
 pub digits_below : (n k d : ℕ) → n < 10 ^ k → d ≤ 9 → n * 10 + d < 10 ^ (k + 1)
 digits_below n k d small digit = let p = pow_more 10 k in omega arith

@@ -1,4 +1,4 @@
--- The words of a line are one list.
+-- A line has exactly one list of words, which is `words_of` of the line.
 use Rattle.std.proofs.Common.{◌≡◌, ℕ, ◌<◌, Bool, true, false, List, [], ◌∷◌, ◌++◌, length}
 use Rattle.std.proofs.Common.{refl, sym, ap, subst, ◌∙◌, arith}
 use Rattle.std.specs.Prelude.{filter}
@@ -34,7 +34,7 @@ kept : (word : List ℕ) (parts : List (List ℕ)) → 0 < length word
     → filter is_some_word (word ∷ parts) ≡ word ∷ filter is_some_word parts
 kept word parts lt = rw (lt-ltb 0 (length word) lt) refl
 
--- a word, and those of what stands after it
+-- the words of a line that begins with a word
 pub words_of-word : (word rest : List ℕ) → 0 < length word
     → AllByRecursion (λ b. is_blank b ≡ false) word → IsApart rest
     → words_of (word ++ rest) ≡ word ∷ words_of rest
@@ -49,7 +49,7 @@ words_of-word word (b ∷ rest) lt solid apart =
     ∙ kept word (slice_split is_blank rest) lt ∙ ap (λ (ws : List (List ℕ)). word ∷ ws)
     (sym (words_of-blank b rest apart))
 
--- a line has no other words
+-- each list of words of a line is `words_of` of the line
 pub words_only : (line : List ℕ) (words : List (List ℕ)) → AreWords line words
     → words_of line ≡ words
 words_only line [] h = ap words_of (sym (append-nil line)) ∙ words_of-blanks line [] h
@@ -59,7 +59,7 @@ words_only line (word ∷ words) (before, rest, blanks, lt, solid, e, apart, oth
     ∙ words_of-word word rest lt solid apart ∙ ap (λ (ws : List (List ℕ)). word ∷ ws)
     (words_only rest words others)
 
--- it has them
+-- `words_of` of a line is a list of its words
 abbrev Some_words : List ℕ → Type 0
 Some_words line = (words : List (List ℕ)) × AreWords line words
 
@@ -132,7 +132,7 @@ words_of-front (b ∷ line) stop lt =
     (some_front b line stop) (solid-from _ (Passes-front is_within_word (b ∷ line)))
     (apart-from _ (IsStopped-after is_within_word (b ∷ line)))
 
--- what is left after the blanks tells whether there is a word
+-- a line has no word if nothing is left after its leading blanks
 pub no_word : (line rest : List ℕ) → rest ≡ after is_blank line → length rest ≡ 0
     → words_of line ≡ []
 no_word line rest e l = sym (words_of-after_blanks line)

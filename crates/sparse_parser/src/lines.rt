@@ -42,7 +42,7 @@ pub fn split_front<F: Fn(u8) -> bool>(text: &[u8], passes: F) -> (&[u8], &[u8])
     text.split_at(at)
 }
 
-/// Returns the text from a position on.
+/// Returns the text from a byte offset on.
 #[inline(always)]
 pub fn text_from(text: &[u8], at: usize) -> &[u8]
     requires { at ≤ length text.now }
@@ -109,8 +109,8 @@ pub fn next_line(text: &[u8]) -> &[u8]
     text_from(text, next_line_at(text, 0))
 }
 
-/// Skips blank lines and comments from a position on. Returns the position of the first word of the next line, or of
-/// the text's end if no line is left.
+/// Skips blank lines and comments from an offset on. Returns the offset of the first word of the next line, or of the
+/// text's end if no line is left.
 #[inline(always)]
 pub fn next_line_at(text: &[u8], from: usize) -> usize
     requires { from ≤ length text.now }
@@ -119,14 +119,14 @@ pub fn next_line_at(text: &[u8], from: usize) -> usize
     ensures begins { BeginsLine (drop result text.now) }
     ensures same { contents_of (drop result text.now) ≡ contents_of (drop from text.now) }
 {
-    // Most often one LF comes before a number.
+    // Most often a single LF comes before a number.
     if text.len() - from > 1 && text[from] == b'\n' && text[from + 1] > b'%' {
         return from + 1;
     }
     sought_line_at(text, from)
 }
 
-// The same after line ends and blanks of any number.
+// The same after any number of line ends and blanks.
 #[cold]
 fn sought_line_at(text: &[u8], from: usize) -> usize
     requires { from ≤ length text.now }
@@ -138,7 +138,7 @@ fn sought_line_at(text: &[u8], from: usize) -> usize
     text.len() - sought_line(text_from(text, from)).len()
 }
 
-// The text from the next line on, after line ends and blanks of any number.
+// The text from the first word of the next line on. Blank lines and comments are skipped.
 fn sought_line(text: &[u8]) -> &[u8]
     ensures begins { BeginsLine result.now }
     ensures same { contents_of result.now ≡ contents_of text.now }

@@ -31,7 +31,7 @@ pub fn leading_number(text: &[u8]) -> (Option<usize>, &[u8])
     (Some(number), rest)
 }
 
-// The same for a text after digits with the value `before`.
+// The same for a text whose digits continue a number with the value `before`.
 #[cold]
 fn long_number(before: usize, text: &[u8]) -> (Option<usize>, &[u8])
     ensures number { SomeIff result.0
@@ -51,7 +51,7 @@ fn long_number(before: usize, text: &[u8]) -> (Option<usize>, &[u8])
     (Some(number), &text[at..])
 }
 
-// The value with one more digit, if it fits in 64 bits.
+// The value of a number with one more digit, if it fits in 64 bits.
 fn with_digit(number: usize, digit: u8) -> Option<usize>
     ensures { SomeIff result (number * 10 + digit < 2 ^ 64) (number * 10 + digit) }
 {
@@ -77,8 +77,9 @@ pub fn starts_with_minus(text: &[u8]) -> bool
     }
 }
 
-/// Returns a number or its negative, or `None` if the number exceeds `i64`. The sign is selected without a branch, since
-/// signs are hard to predict.
+/// Returns a number or its negative, or `None` if the number exceeds `i64`.
+///
+/// The sign is selected without a branch, since signs are hard to predict.
 #[inline(always)]
 pub fn with_sign(number: usize, is_negative: bool) -> Option<i64>
     ensures { MatchOption result (Unit {0})
@@ -109,7 +110,7 @@ pub fn is_number(word: &[u8]) -> bool
     is_mantissa(mantissa) && is_exponent(exponent)
 }
 
-// Whether a word has digits with at most one point, and at least one digit.
+// Whether a word consists of digits with at most one point, and has at least one digit.
 fn is_mantissa(word: &[u8]) -> bool
     ensures { result ≡ is_mantissa word.now }
 {
@@ -136,7 +137,7 @@ fn points(word: &[u8]) -> usize
     word.iter().filter(|byte| **byte == b'.').count()
 }
 
-// Whether a text is empty, or a letter and an integer.
+// Whether a text is empty or an exponent: a letter and an integer.
 fn is_exponent(text: &[u8]) -> bool
     ensures { result ≡ is_exponent text.now }
 {
@@ -152,7 +153,7 @@ fn is_exponent_letter(byte: u8) -> bool
     byte == b'e' || byte == b'E'
 }
 
-/// Returns the text without its leading sign.
+/// Returns the text without its leading sign, if it has one.
 #[inline(always)]
 pub fn after_sign(text: &[u8]) -> &[u8]
     ensures { result.now ≡ without_leading_sign text.now }

@@ -1,4 +1,7 @@
 //! The header line.
+//!
+//! It repeats `header.rt` of `sparse_parser` on purpose: tests compare the parser with this reference model, which
+//! shares types with the parser and no code.
 
 ghost use Rattle.std.specs.Prelude.{◌≡◌, [], ◌∷◌};
 ghost use Rattle.sparse_parser.specs.Header.{says, format_of, field_of, symmetry_of, fields_of};

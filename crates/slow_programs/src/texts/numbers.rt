@@ -1,4 +1,7 @@
 //! The words of numbers.
+//!
+//! The tests of words repeat those of `numbers.rt` of `sparse_parser` on purpose: tests compare the parser with this
+//! reference model. It shares only `split_front` and the values of words with the parser.
 
 ghost use Rattle.std.specs.Prelude.{◌≡◌, ◌||◌, IsTrue, count_by, true};
 ghost use Rattle.std.specs.List.{list_all, list_any};

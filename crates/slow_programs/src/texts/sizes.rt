@@ -1,4 +1,7 @@
 //! What a size line says.
+//!
+//! It repeats `size.rt` of `sparse_parser` on purpose: tests compare the parser with this reference model, which
+//! shares types with the parser and no code.
 
 ghost use Rattle.std.specs.Prelude.{◌≡◌, true, [], ◌∷◌};
 ghost use Rattle.sparse_parser.specs.Grammar.{is_index, is_size};

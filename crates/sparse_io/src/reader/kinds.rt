@@ -1,4 +1,4 @@
-//! The kinds of data lines that are read by loops of their own.
+//! The kinds of data lines for which the reader has loops of their own.
 
 ghost use Rattle.std.specs.Prelude.{◌≤◌, MatchOption, Ok, length, drop, map, slice_get};
 ghost use Rattle.sparse_parser.specs.InnerBytes.{BeginsLine};
@@ -17,11 +17,11 @@ use sparse_parser::lines::next_line_at;
 pub trait LineKind<T: MatrixMarketScalar> {
     ghost use Rattle.sparse_parser.specs.declared.header.Header.{Header};
 
-    // The headers of the files that have such lines.
+    // The headers of the texts that have such lines.
     ghost is_for: { Header → Type 0 };
 
-    /// Reads the line at a position. Returns its triplets and the position of the next line, or `None` if the line has
-    /// another form or is refused.
+    /// Reads the line at an offset. Returns its triplets and the offset of the next line, or `None` if the fast path
+    /// does not apply or the line has an error.
     fn line(
         header: Header,
         places: &Places,
@@ -43,7 +43,7 @@ pub struct IntegerLines;
 /// Lines of two indices.
 pub struct PlaceLines;
 
-/// Lines of an integer, as arrays have them.
+/// Lines of an integer: the data lines of arrays.
 pub struct ValueLines;
 
 impl<T: MatrixMarketScalar> LineKind<T> for IntegerLines {
