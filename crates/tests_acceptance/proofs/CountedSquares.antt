@@ -35,7 +35,7 @@ sum_ones g (x ∷ xs) one =
     let whole : sum_by g (x ∷ xs) ≡ g x + sum_by g xs = sum_by-cons g x xs in
     omega arith
 
--- a pattern whose entries are the diagonal has one entry in each lane
+-- a pattern whose places are the diagonal has one place in each lane
 module _ (d : Raw) (valid : IsValid d) (n : ℕ) (dim : d.major_dim ≡ n)
     (only : (i j : ℕ) → IsPlace d i j → i ≡ j) (own : (i : ℕ) → i < n → IsPlace d i i) where
   place_at : (i p : ℕ) → i < n → start_of d i ≤ p → p < end_of d i
@@ -92,7 +92,7 @@ module _ (d : Raw) (valid : IsValid d) (n : ℕ) (dim : d.major_dim ≡ n)
       (λ p lt. lane_length (slice_index d.indices p) (own_index p lt)) ∙ diagonal_count
 
 module _ (R : CommRing) {T : Type 0} (f : T → R.Carrier) where
-  -- the entries of an identity, and the triples of its product with itself
+  -- the places of an identity, and the triples of its product with itself
   pub identity_steps : (m : Compressed T) (n : ℕ) → IsSound m
       → HasLanesAsRows R f m (plain_of_rows R f m) → plain_of_rows R f m ≡ plain_identity R n
       → (nnz_of m.pattern ≡ n) × (triples_of m.pattern m.pattern ≡ n)

@@ -2,7 +2,7 @@
 use Rattle.std.specs.Prelude.{◌≡◌, ℤ, pos, [], ◌∷◌}
 use Rattle.nalgebra_sparse.specs.Compressed.{Compressed, arrays_of}
 
--- a matrix with its entries
+-- a matrix with its places
 abbrev pub small_of : {T : Type 0} → T → T → T → Compressed T
 small_of a b c = arrays_of 2 2 (0 ∷ 2 ∷ 3 ∷ []) (0 ∷ 1 ∷ 1 ∷ []) (a ∷ b ∷ c ∷ [])
 

@@ -35,7 +35,7 @@ fn a_sum_of_zero_stays(row: &CsrMatrix<Residue7>) -> bool {
     row.col_indices() == [0, 1].as_slice() && row.values() == [residue(10), residue(0)].as_slice()
 }
 
-// Whether the row times the column is 5, at the only entry of the product's pattern.
+// Whether the row times the column is 5, at the only place of the product's pattern.
 fn a_row_times_a_column(
     alloc: Global,
     row: &CsrMatrix<Residue7>,

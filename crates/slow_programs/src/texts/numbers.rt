@@ -1,4 +1,4 @@
-//! Words that are numbers.
+//! The words of numbers.
 
 ghost use Rattle.std.specs.Prelude.{◌≡◌, ◌||◌, IsTrue, count_by, true};
 ghost use Rattle.std.specs.List.{list_all, list_any};
@@ -90,7 +90,7 @@ fn is_exponent(text: &[u8]) -> bool
     }
 }
 
-/// Returns the number of an index, if it fits in `usize`.
+/// Returns the number of an index, where it is a usize.
 #[tactic(auto, unfolding(sparse_parser::specs::Meaning::number_of))]
 pub fn number(word: &[u8]) -> Result<usize, MatrixMarketErrorKind>
     requires { IsTrue (is_index word.now) }
@@ -102,7 +102,7 @@ pub fn number(word: &[u8]) -> Result<usize, MatrixMarketErrorKind>
     }
 }
 
-/// Returns the integer that a word denotes, if it fits in `i128`.
+/// Returns the integer that a word writes, where it is an i128.
 #[tactic(auto, unfolding(sparse_parser::specs::Meaning::integer_of))]
 pub fn integer(word: &[u8]) -> Result<i128, MatrixMarketErrorKind>
     ensures { result ≡ integer_of word.now }
