@@ -5,7 +5,7 @@
 #include <stdio.h>
 
 int main(void) {
-    /* The place (1, 1) is given twice; its values are added. */
+    /* The entry (1, 1) is given twice; its values are added. */
     const size_t rows[] = {0, 0, 1, 1}, cols[] = {0, 1, 1, 1};
     const int64_t values[] = {1, 2, 2, 1};
     const nalgebra_sparse_lists triplets = {2, 2, rows, cols, values, 4};

@@ -31,7 +31,7 @@ fn obey(rt: &HostRuntime, words: &[String]) -> Result<(), Fail> {
     }
 }
 
-// Prints the least time of the runs of a task, and the checksum and the number of places of its answer.
+// Prints the least time of the runs of a task, and the checksum and the number of entries of its answer.
 fn print_best(rt: &HostRuntime, task: &str, path: &str, reps: &str) -> Result<(), Fail> {
     let best = best_run(rt, task, path, reps.parse::<usize>()?)?;
     let name = path.rsplit('/').next().unwrap_or(path);

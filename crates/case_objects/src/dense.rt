@@ -192,7 +192,7 @@ fn set_in<T: Scalar>(
     picture(alloc, &copy)
 }
 
-// Writes a value at a place, if it is in bounds.
+// Writes a value at a row and a column, if it is in bounds.
 fn write<T: Scalar>(matrix: &mut DMatrix<T>, way: Way, (row, col): (usize, usize), value: T) {
     let (nrows, ncols) = (matrix.nrows(), matrix.ncols());
     if nrows <= row || ncols <= col {
@@ -209,7 +209,7 @@ fn write<T: Scalar>(matrix: &mut DMatrix<T>, way: Way, (row, col): (usize, usize
     }
 }
 
-// The position of a place among all values.
+// The offset of an entry among all values.
 fn position(nrows: usize, row: usize, col: usize) -> Option<usize> {
     col.checked_mul(nrows)?.checked_add(row)
 }

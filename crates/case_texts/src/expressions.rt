@@ -15,9 +15,9 @@ use nalgebra_sparse::scalar::W64;
 use nalgebra_sparse::{CooMatrix, CscMatrix, CsrMatrix};
 use std::alloc::{AllocError, Global};
 
-/// A form in which expressions are evaluated.
+/// A format in which expressions are evaluated.
 trait Evaluated: Compressed<W64> + MatrixMarketExport<W64> {
-    /// Returns the form in which a run writes the same matrix.
+    /// Returns the format in which a run writes the same matrix.
     fn form() -> Form;
 
     /// Returns the value of an expression.

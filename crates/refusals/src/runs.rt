@@ -13,7 +13,7 @@ const TEXTS: [&str; 2] = [
     "%%MatrixMarket matrix array integer symmetric\n2 2\n4\n-5\n6\n",
 ];
 
-/// Returns the outcome of a run. The case has the form and the words.
+/// Returns the outcome of a run. The case has the format and the words.
 pub fn run(turn: &mut Turn, call: &str, case: &str) -> Outcome {
     let (form, words) = match case.split_once(' ') {
         Some(("rows", words)) => (Form::Rows, words),

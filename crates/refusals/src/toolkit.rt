@@ -88,7 +88,7 @@ fn picture(target: Target<'static>) -> Command<'static>
     }
 }
 
-// Obeys a command twice. The first answer is the one that is wanted.
+// Runs a command twice. The first answer is the wanted one.
 fn obey(rt: &HostRuntime, turn: &mut Turn, command: Command<'static>) -> Outcome
     requires { IsSized command }
 {
@@ -111,8 +111,8 @@ fn obey(rt: &HostRuntime, turn: &mut Turn, command: Command<'static>) -> Outcome
     answered(status, &out.into_inner(), &err.into_inner())
 }
 
-// The outcome of a command: a text and status 0, or the line of an allocation failure and status 1. A command writes its
-// answer whole.
+// The outcome of a command: a text and status 0, or the line of an allocation failure and status 1. A command writes
+// its answer whole.
 fn answered(status: u8, out: &Page, err: &Page) -> Outcome {
     match (status, err.taken()) {
         (0, b"") => Outcome::Answered(checksum_of_bytes(out.taken())),

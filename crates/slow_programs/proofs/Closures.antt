@@ -1,4 +1,4 @@
--- Sets of pairs that grow until they lack nothing.
+-- Sets of pairs that grow until they are closed under fill.
 use Rattle.std.proofs.Common.{◌≡◌, ◌≢◌, ℕ, zero, suc, ◌+◌, ◌<◌, ◌≤◌, inl, inr, ◌↔◌, List, [], ◌∷◌}
 use Rattle.std.proofs.Common.{◌++◌, length, get_or, sym, ap, ◌∙◌, subst, arith}
 use Rattle.std.specs.List.{Contains, AllPairs}
@@ -119,7 +119,7 @@ part_grows triangle p set x valid part lacks =
     (part_more triangle p set x valid part lacks) in
     omega (arith, longer, length_push set x)
 
--- a part that lacks nothing is the fill
+-- a closed part of the fill is the fill
 pub whole_is_fill : (triangle : Triangle) (p : Raw) (set : List (ℕ × ℕ))
     → IsPartOfFill triangle p set → IsWhole triangle p set
     → (i j : ℕ) → Contains set (pair i j) ↔ InFill (TriangleBase triangle p) i j

@@ -1,4 +1,4 @@
--- What the write of an entry changes of the plain matrix of a dense matrix.
+-- How a write to an element changes the plain matrix of a dense matrix.
 use Rattle.std.proofs.Common.{◌≡◌, ◌≢◌, ℕ, ◌+◌, ◌*◌, ◌<◌, Bool, true, false, List, length, set}
 use Rattle.std.proofs.Common.{get_or}
 use Rattle.std.proofs.Common.{get_or-set_same, get_or-set_other, ap, sym, ◌∙◌, refl, arith}

@@ -26,12 +26,12 @@ use Rattle.slow_programs.specs.InnerEquations.{IsColumnDivided, left_at, left_of
 use Rattle.slow_programs.proofs.DenseWrites.{unwritten, written, zeros}
 
 module _ (R : CommRing) where
-  -- with the sum of the columns before, what they leave is the entry
+  -- the remainder plus the sum of the columns before is the entry
   left_of-sum : (m l : ℕ → ℕ → R.Carrier) (d : ℕ → R.Carrier) (j i : ℕ)
       → R.add (sum_below R j (term R l d i j)) (left_of R m l d j i) ≡ m i j
   left_of-sum m l d j i = R.laws.add_comm _ _ ∙ back R (m i j) (sum_below R j (term R l d i j))
 
-  -- a term more is taken off
+  -- one more term is subtracted
   pub term_off : (m : R.Carrier) (g : ℕ → R.Carrier) (k : ℕ) (x y : R.Carrier)
       → R.add (sum_below R k g) x ≡ m → y ≡ R.add x (R.neg (g k))
       → R.add (sum_below R (k + 1) g) y ≡ m
@@ -46,7 +46,7 @@ module _ (R : CommRing) where
   is_left_of m l d j i w h = cancel_left R w (left_of R m l d j i)
       (sum_below R j (term R l d i j)) (h ∙ sym (left_of-sum m l d j i))
 
-  -- what columns leave depends on these columns alone
+  -- the remainder depends on these columns alone
   pub left_of-same : (m l l' : ℕ → ℕ → R.Carrier) (d : ℕ → R.Carrier) (j i : ℕ)
       → ((k c : ℕ) → c < j → l k c ≡ l' k c) → left_of R m l d j i ≡ left_of R m l' d j i
   left_of-same m l l' d j i same = ap (λ s. R.add (m i j) (R.neg s))
@@ -168,7 +168,7 @@ module _ (R : CommRing) {T : Type 0} (f : T → R.Carrier) (z : T) (none : f z �
     above = λ i c _. zeros R f z none l a.nrows a.nrows i c values;
   }
 
-  -- behind the last column
+  -- after the last column
   pub all_factors : (a l : Dense T) (d : List T) → AreFirstFactors R f z a l d a.nrows
       → AreDenseFactorsOf R f z a l d
   all_factors a l d first =

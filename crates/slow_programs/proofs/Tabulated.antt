@@ -133,7 +133,7 @@ module _ (R : CommRing) where
           same_plain (plain_of_coo R f (appended m (triplet row col v ∷ []))) (plain_kept R t p)
           (ap (λ a. a.rows) e) (ap (λ a. a.cols) e) places values
 
-    -- ---- as loops meet them
+    -- ---- in the form that the loops use
 
     pub lists_more : (p : Plain R) (m after : Coo T) (row col : ℕ) (v : T)
         → after ≡ appended m (triplet row col v ∷ []) → Lists R f p row col m

@@ -1,4 +1,4 @@
--- The triplets of the data lines that are left, after those that are read.
+-- The triplets read so far, followed by those of the remaining data lines.
 use Rattle.std.proofs.Common.{◌≡◌, ℕ, zero, suc, Option, ◌+◌, ◌<◌, ◌≤◌, List, [], ◌∷◌, ◌++◌, length}
 use Rattle.std.proofs.Common.{drop, get_or, slice_get, Ok, Err, refl, sym, ap, ◌∙◌, append_assoc}
 use Rattle.std.proofs.Common.{add-one, drop-cons, arith}
@@ -13,7 +13,7 @@ use Rattle.sparse_parser.specs.Meaning.{Triplet, triplets_of, triplets_of_lines}
 use Rattle.slow_programs.specs.declared.texts.lines.Line.{Line}
 use Rattle.slow_programs.specs.InnerTexts.{words_in, lines_in}
 
--- these, and then what is left
+-- these triplets, followed by those of the remaining lines
 abbrev pub prefixed : {A : Type 0} → List A → Read (List A) → Read (List A)
 prefixed first rest = rest >>= λ others. Ok (first ++ others)
 

@@ -1,4 +1,4 @@
--- The lines of a text that are written, one more at a time.
+-- The lines of a text, collected one at a time.
 use Rattle.std.proofs.Common.{◌≡◌, ℕ, suc, cond, ◌+◌, ◌<◌, ◌≤◌, Bool, true, false, List, [], ◌∷◌}
 use Rattle.std.proofs.Common.{◌++◌, length, map, take, drop, get_or, refl, sym, ap, ◌∙◌, add-one}
 use Rattle.std.proofs.Common.{drop-cons, arith}
@@ -48,7 +48,7 @@ written_none lines i words lt e none =
     ∙ ap (λ (w : List (List (List ℕ))). written_lines (take i lines) ++ w) (left_out words none)
     ∙ append-nil (written_lines (take i lines))
 
--- ---- as loops meet them
+-- ---- in the form that the loops use
 
 pub some_words : (words : List (Bor (List ℕ))) (n : ℕ) (empty : Bool) → empty ≡ (n == 0)
     → n ≡ length words → empty ≡ false → is_some_line (texts words) ≡ true
@@ -95,7 +95,7 @@ pub lines_push : (lines : List Line) (line : Line)
 lines_push [] line = refl
 lines_push (l ∷ ls) line = ap (λ (ws : List (List (List ℕ))). words_in l ∷ ws) (lines_push ls line)
 
--- a test of all that are left, where the first of them passes
+-- a test of all remaining lines, if the first of them passes
 all_left : {X : Type 0} (p : X → Bool) (xs : List X) (i : ℕ) (x : X) → i < length xs
     → get_or xs i x ≡ x → p x ≡ true → list_all p (drop (i + 1) xs) ≡ list_all p (drop i xs)
 all_left {X} p xs i x lt at passes =

@@ -1,4 +1,4 @@
--- What an answer means that is the document's.
+-- The answer equals the meaning of the document.
 use Rattle.std.proofs.Common.{◌≡◌, ℕ, List, Result, Ok, Err, IfOk, sym, subst}
 use Rattle.sparse_coo_dense.specs.Coo.{Coo}
 use Rattle.sparse_parser.specs.Reads.{Read}

@@ -1,4 +1,4 @@
--- What a set of pairs lacks to hold a triangle of a pattern and to be closed under fill.
+-- The pairs that a set lacks: those of a triangle of a pattern, and those that fill implies.
 use Rattle.std.specs.Prelude.{◌≡◌, ℕ, ◌<◌, ◌≤◌, ◌⊎◌, List, max, min}
 use Rattle.std.specs.List.{Contains}
 use Rattle.sparse_pattern.specs.Raw.{Raw}
@@ -7,7 +7,7 @@ use Rattle.sparse_factor.specs.declared.factorization.Triangle.{Triangle}
 use Rattle.sparse_factor.specs.declared.factorization.Triangle.TheVariants.{Upper, Lower, Both}
 use Rattle.slow_programs.specs.Pairs.{pair}
 
--- an entry in this row and column is of the triangle
+-- an entry in this row and column belongs to the triangle
 abbrev pub IsOfTriangle : Triangle → ℕ → ℕ → Type 0
 IsOfTriangle Upper row column = row ≤ column
 IsOfTriangle Lower row column = column ≤ row
@@ -26,7 +26,7 @@ abbrev pub IsLackingPlace : Triangle → List ℕ → ℕ → List (ℕ × ℕ) 
 IsLackingPlace triangle lane column set x = ((row : ℕ) × Contains lane row
     × IsOfTriangle triangle row column × (x ≡ base_pair row column)) × (Contains set x → ⊥)
 
--- what the pair (i, k) gives with the other pairs of column k
+-- the pairs that (i, k) and another pair of column k imply
 abbrev pub HasFillOf : ℕ → ℕ → List (ℕ × ℕ) → Type 0
 HasFillOf i k set = (j : ℕ) → Contains set (pair j k) → k < j → j ≤ i → Contains set (pair i j)
 
@@ -39,7 +39,7 @@ pub record IsWhole (triangle : Triangle) (p : Raw) (set : List (ℕ × ℕ)) : T
   pub closed : (i j k : ℕ) → Contains set (pair i k) → Contains set (pair j k) → k < j → j ≤ i
       → Contains set (pair i j)
 
--- the set lacks x, which is of the base or given by two pairs of the set
+-- x is not in the set, and is in the base or implied by two pairs of the set
 pub record IsLacking (triangle : Triangle) (p : Raw) (set : List (ℕ × ℕ)) (x : ℕ × ℕ) : Type
     0 where
   pub new : Contains set x → ⊥

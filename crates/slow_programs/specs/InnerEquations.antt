@@ -17,18 +17,18 @@ pub record HaveOneSize {T : Type 0} (a l : Dense T) (d : List T) : Type 0 where
   pub full : length l.values ≡ l.nrows * l.ncols
 
 module _ (R : CommRing) where
-  -- what the first j columns leave of m at (i, j)
+  -- the value of m at (i, j), less the terms of the first j columns
   abbrev pub left_of : (ℕ → ℕ → R.Carrier) → (ℕ → ℕ → R.Carrier) → (ℕ → R.Carrier) → ℕ → ℕ
       → R.Carrier
   left_of m l d j i = R.add (m i j) (R.neg (sum_below R j (term R l d i j)))
 
 module _ (R : CommRing) {T : Type 0} (f : T → R.Carrier) (z : T) where
-  -- the same of dense matrices
+  -- the same for dense matrices
   abbrev pub left_at : Dense T → Dense T → List T → ℕ → ℕ → R.Carrier
   left_at a l d j i = left_of R (dense_symmetric R f a).value (plain_of_dense R f l).value
       (elements R f z d) j i
 
-  -- column j below the diagonal becomes what is left there, times e, and the rest is unchanged
+  -- column j below the diagonal becomes what remains there, times e; the rest is unchanged
   pub record IsColumnDivided (a : Dense T) (d : List T) (j : ℕ) (e : R.Carrier) (x y : Dense T)
       : Type 0 where
     pub rows : y.nrows ≡ x.nrows

@@ -1,4 +1,4 @@
--- What an operation on lists of triplets makes, and how much of it is listed.
+-- The result of an operation on lists of triplets, and the part of it that is listed.
 use Rattle.std.specs.Prelude.{◌≡◌, ℕ, nat_eq, nat_lt, ◌&&◌, ◌||◌, Bool}
 use Rattle.sparse_algebra.specs.Algebra.{CommRing}
 use Rattle.sparse_algebra.specs.Plain.{Plain, plain_sum, plain_difference, plain_product}
@@ -24,6 +24,6 @@ module _ (R : CommRing) {T : Type 0} (f : T → R.Carrier) where
   plain_of_operation (operation.Transpose a) = plain_transpose R (plain_of_coo R f a.now)
   plain_of_operation (operation.Negation a) = plain_negation R (plain_of_coo R f a.now)
 
-  -- the list stands for what comes before (row, col) of the plain matrix
+  -- the list has the part of the plain matrix that comes before (row, col)
   abbrev pub Lists : Plain R → ℕ → ℕ → Coo T → Type 0
   Lists p row col list = plain_of_coo R f list ≡ plain_kept R (is_before row col) p

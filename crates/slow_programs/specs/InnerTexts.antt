@@ -1,4 +1,4 @@
--- What the lines and the entries of the slow reader stand for.
+-- The lists that lines and entries of the slow reader represent.
 use Rattle.std.specs.Prelude.{ℕ, List, [], ◌∷◌, map, Option, Some, None}
 use denote.Ref.{Bor}
 use Rattle.slow_programs.specs.declared.texts.lines.Line.{Line}

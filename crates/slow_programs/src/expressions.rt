@@ -16,10 +16,10 @@ use std::alloc::Global;
 
 mod operation;
 
-/// Returns the value of an expression over inputs, as a list that has each place once, row after row.
+/// Returns the value of an expression over inputs, as a list that has each entry once, row after row.
 ///
-/// The left operand comes before the right one, and both before their shapes. Converts an input each time it is named,
-/// keeps each operand as a list, and looks at every pair of each result. The stack grows with the depth of the
+/// The left operand comes before the right one, and both before their shapes. It converts an input each time it is
+/// named, keeps each operand as a list, and looks at every pair of each result. The stack grows with the depth of the
 /// expression.
 ///
 /// # Errors

@@ -16,7 +16,7 @@ use std::alloc::{AllocError, Global};
 
 /// Returns the pairs (row, column) of the fill of a pattern's triangle, each once.
 ///
-/// The set gains a pair that it lacks until it lacks none. It looks at every pair of pairs for each pair. Fails only if
+/// Adds a missing pair until none is missing, and searches all pairs of pairs for each. Fails only if
 /// an allocation fails.
 pub fn fill_by_pairs(
     alloc: Global,
@@ -34,7 +34,7 @@ pub fn fill_by_pairs(
     Ok(set)
 }
 
-// Returns a pair that the set lacks to hold the triangle and to be closed under fill.
+// Returns a pair that is missing in the set: one of the triangle, or one that fill implies.
 fn lacking(
     pattern: &SparsityPattern,
     triangle: Triangle,
@@ -60,7 +60,7 @@ fn lacking(
     None
 }
 
-// Returns the pair of an entry of the column that the set lacks.
+// Returns the pair of an entry of the column that is missing in the set.
 fn lacking_place(
     lane: &[usize],
     column: usize,
@@ -79,7 +79,7 @@ fn lacking_place(
     None
 }
 
-// Whether an entry in this row and column is of the triangle.
+// Whether an entry in this row and column belongs to the triangle.
 fn is_of_triangle(triangle: Triangle, row: usize, column: usize) -> bool
     ensures { IsTrue result ↔ IsOfTriangle triangle row column }
 {
@@ -90,7 +90,7 @@ fn is_of_triangle(triangle: Triangle, row: usize, column: usize) -> bool
     }
 }
 
-// Returns a pair that the set lacks, given by its pair (i, k) and another of column k.
+// Returns a missing pair that the pair (i, k) and another pair of column k imply.
 fn lacking_fill(i: usize, k: usize, set: &[(usize, usize)]) -> Option<(usize, usize)>
     ensures { MatchOption result (HasFillOf i k set.now) (IsLackingFill i k set.now) }
 {
@@ -102,7 +102,7 @@ fn lacking_fill(i: usize, k: usize, set: &[(usize, usize)]) -> Option<(usize, us
     None
 }
 
-// Whether the set has the pair (i, j).
+// Whether the set contains the pair (i, j).
 fn has(set: &[(usize, usize)], i: usize, j: usize) -> bool
     ensures { IsTrue result ↔ Contains set.now (pair i j) }
 {

@@ -58,7 +58,8 @@ fn find_columns<T: Units>(a: &DMatrix<T>, l: &mut DMatrix<T>, d: &mut [T]) -> bo
     true
 }
 
-// Sets column j of L below the diagonal to what the columns before leave there, times the inverse of the pivot.
+// Sets column j of L below the diagonal to what remains there after the columns before it are subtracted, times the
+// inverse of the pivot.
 fn divide_column<T: Ring>(a: &DMatrix<T>, l: &mut DMatrix<T>, d: &[T], j: usize, inverse: T)
     requires size { HaveOneSize a.now l.old d.now }
     requires column { j < a.now.nrows }

@@ -1,4 +1,4 @@
-//! The first fault of a pattern's raw data, by trying the spots in order up to the first with a fault.
+//! The first fault of a pattern's raw data, found by testing each rule in order.
 
 ghost use Rattle.std.specs.Prelude.{◌≤◌, ◌<◌, length, OnOk, IfErr};
 ghost use Rattle.sparse_pattern.specs.Raw.{IsValid, raw_of};
@@ -8,7 +8,7 @@ ghost use Rattle.slow_programs.specs.InnerPositions.{IsFineAt};
 
 use sparse_pattern::pattern::SparsityPatternFormatError;
 
-/// Returns the first fault of the data, or `Ok` where it is valid. Goes through the positions of all indices once for
+/// Returns the first fault of the data, or `Ok` if it is valid. Goes through the offsets of all indices once for
 /// each lane, up to the first fault.
 pub fn pattern_fault(
     major_dim: usize,
@@ -37,7 +37,7 @@ pub fn pattern_fault(
     Ok(())
 }
 
-// Goes through all positions up to the first fault, and passes over those outside the lane.
+// Goes through all offsets up to the first fault, and skips those outside the lane.
 fn lane_fault(
     minor_dim: usize,
     indices: &[usize],
@@ -56,7 +56,7 @@ fn lane_fault(
     Ok(())
 }
 
-// Tries the bound of an index, then whether it rises above the one before it in its lane.
+// Tests whether an index is in bounds, then whether it is greater than the one before it in its lane.
 fn position_fault(
     minor_dim: usize,
     indices: &[usize],

@@ -1,4 +1,4 @@
-//! The textbook's product of two lists of triplets, pair by pair.
+//! The product of two lists of triplets by its definition, one (i, j) at a time.
 
 ghost use Rattle.std.specs.Prelude.{◌≡◌};
 ghost use Rattle.sparse_algebra.specs.Plain.{plain_product};

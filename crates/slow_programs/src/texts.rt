@@ -40,7 +40,7 @@ pub fn meaning<T: MatrixMarketScalar>(
     document(alloc, &lines)
 }
 
-// What lines mean of which none is blank.
+// The meaning of lines, none of which is blank.
 #[tactic(auto, unfolding(sparse_parser::specs::InnerReading::document_of))]
 fn document<T: MatrixMarketScalar>(
     alloc: Global,
@@ -59,7 +59,7 @@ fn document<T: MatrixMarketScalar>(
     body(alloc, header, &contents)
 }
 
-// What the lines below a header mean.
+// The meaning of the lines after a header.
 #[tactic(auto, unfolding(sparse_parser::specs::InnerReading::body_of, sparse_parser::specs::InnerReading::among_entries))]
 fn body<T: MatrixMarketScalar>(
     alloc: Global,
@@ -78,7 +78,7 @@ fn body<T: MatrixMarketScalar>(
     matrix(alloc, header, size, entries)
 }
 
-// What a size line and data lines mean.
+// The meaning of a size line and data lines.
 #[tactic(auto, unfolding(sparse_parser::specs::Meaning::matrix_of))]
 fn matrix<T: MatrixMarketScalar>(
     alloc: Global,

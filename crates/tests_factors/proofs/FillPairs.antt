@@ -1,4 +1,4 @@
--- The places of a factor as a list of the pairs of its fill.
+-- The entries of a factor as a list of the pairs of its fill.
 use Rattle.std.proofs.Common.{◌≡◌, ℕ, List, length, map, ap, ◌∙◌, arith}
 use Rattle.std.specs.List.{Contains}
 use Rattle.std.proofs.lemmas.List.{get_or-map, length-map}

@@ -81,7 +81,7 @@ impl<'a, T: Ring> Operation<'a, T> {
     }
 }
 
-/// Returns the result of an operation, each place once, row after row. The places must lie inside its shape.
+/// Returns the result of an operation, each entry once, row after row. All triplets must lie inside the shape.
 pub(crate) fn tabulated<T: Ring>(
     alloc: Global,
     operation: &Operation<'_, T>,
@@ -97,7 +97,7 @@ pub(crate) fn tabulated<T: Ring>(
     Ok(list)
 }
 
-// Appends the places of a row, columns rising.
+// Appends the entries of a row in increasing order of columns.
 fn push_row<T: Ring>(
     list: &mut CooMatrix<T>,
     operation: &Operation<'_, T>,

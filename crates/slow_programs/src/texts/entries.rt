@@ -1,4 +1,4 @@
-//! What data lines mean.
+//! The meaning of data lines.
 
 ghost use Rattle.std.specs.Prelude.{◌≡◌, ◌<◌, ◌++◌, ◌&&◌, nat_lt, slice_get, IfOk, OnOk, None, map};
 ghost use Rattle.std.specs.List.{list_all};
@@ -25,8 +25,8 @@ pub struct Listed<T> {
     pub triplets: Vec<(usize, usize, T)>,
 }
 
-/// Returns what data lines mean below a header and a size line: first their number, then the entries in order, then the
-/// bounds.
+/// Returns the meaning of data lines after a header and a size line: tests first their number, then the entries in
+/// order, then the bounds.
 #[tactic(auto, unfolding(sparse_parser::specs::Meaning::listed_of))]
 pub(crate) fn counted_entries<T: MatrixMarketScalar>(
     alloc: Global,
@@ -47,7 +47,7 @@ pub(crate) fn counted_entries<T: MatrixMarketScalar>(
     }
 }
 
-// The matrix, where all triplets lie within the shape.
+// The matrix, if all triplets lie within the shape.
 fn inside<T: MatrixMarketScalar>(
     nrows: usize,
     ncols: usize,
@@ -77,7 +77,7 @@ fn all_inside<T: Copy>(nrows: usize, ncols: usize, triplets: &[(usize, usize, T)
         .all(|triplet| triplet.0 < nrows && triplet.1 < ncols)
 }
 
-// The triplets of data lines. No place is made where there is no line, since an array without rows may have any number
+// The triplets of data lines. Pairs are listed only if there is a line, since an array without rows may have any number
 // of columns.
 fn placed_entries<T: MatrixMarketScalar>(
     alloc: Global,
@@ -97,7 +97,7 @@ fn placed_entries<T: MatrixMarketScalar>(
     read_entries(alloc, header, &places, lines)
 }
 
-// All places of an array, column by column; none in the coordinate format.
+// All pairs (row, column) that an array lists, column by column; none in the coordinate format.
 fn places(
     alloc: Global,
     header: Header,
@@ -156,7 +156,7 @@ fn first_row(symmetry: Symmetry, col: usize) -> usize
     }
 }
 
-// The triplets of data lines, in order, of which an array's stand at these places.
+// The triplets of data lines, in order. Those of an array have these rows and columns.
 fn read_entries<T: MatrixMarketScalar>(
     alloc: Global,
     header: Header,
@@ -176,7 +176,7 @@ fn read_entries<T: MatrixMarketScalar>(
     Ok(Ok(list))
 }
 
-// The place of this number, where there is one.
+// The pair of this number, if there is one.
 fn place_at(places: &[(usize, usize)], at: usize) -> Option<(usize, usize)>
     ensures { result ≡ slice_get places.now at }
 {

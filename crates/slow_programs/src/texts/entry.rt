@@ -1,4 +1,4 @@
-//! What a data line means.
+//! The meaning of a data line.
 
 ghost use Rattle.std.specs.Prelude.{◌≡◌, ℕ, true, IsTrue, Option, map};
 ghost use Rattle.sparse_parser.specs.Grammar.{is_index};
@@ -19,7 +19,7 @@ use sparse_parser::header::{Field, Format, Header, Symmetry};
 /// A row and a column, counted from 0, and a value.
 pub type Triplet<T> = (usize, usize, T);
 
-/// Returns the triplets of a data line; an array's entry stands at the given place.
+/// Returns the triplets of a data line. An entry of an array has the given row and column.
 #[tactic(auto, unfolding(sparse_parser::specs::Meaning::triplets_of))]
 pub fn triplets<T: MatrixMarketScalar>(
     header: Header,
@@ -58,7 +58,7 @@ fn coordinate_entry<T: MatrixMarketScalar>(
     Ok((row, col, field_value(field, value)?))
 }
 
-// The entry of an array at its place.
+// The entry of an array, at its row and column.
 #[tactic(auto, unfolding(sparse_parser::specs::Meaning::entry_of))]
 fn array_entry<T: MatrixMarketScalar>(
     field: Field,
@@ -74,7 +74,7 @@ fn array_entry<T: MatrixMarketScalar>(
     }
 }
 
-// Whether a value of the field has as many words.
+// Whether a value of the field has this number of words.
 fn is_of_field(field: Field, words: &[&[u8]]) -> bool
     ensures { result ≡ is_of_field field (texts words.now) }
 {
@@ -86,7 +86,7 @@ fn is_of_field(field: Field, words: &[&[u8]]) -> bool
     words.len() == count
 }
 
-// The place of a row and a column counted from 1.
+// The row and the column, counted from 0, of two numbers counted from 1.
 #[tactic(auto, unfolding(sparse_parser::specs::Meaning::place_of))]
 fn place(row: &[u8], col: &[u8]) -> Result<(usize, usize), MatrixMarketErrorKind>
     requires row { IsTrue (is_index row.now) }
@@ -117,7 +117,7 @@ fn field_value<T: MatrixMarketScalar>(
     }
 }
 
-// An answer, with the kind of an error in its place.
+// An answer, with an error replaced by its kind.
 fn kind_of<T: MatrixMarketScalar>(
     answer: Result<T, MatrixMarketError>,
 ) -> Result<T, MatrixMarketErrorKind>

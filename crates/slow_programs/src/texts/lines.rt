@@ -8,7 +8,7 @@ ghost use Rattle.slow_programs.specs.InnerTexts.{texts, words_in, lines_in};
 
 use std::alloc::{AllocError, Global};
 
-/// A line, by its words.
+/// A line, as its words.
 #[derive(Drop)]
 pub struct Line<'a> {
     pub words: Vec<&'a [u8]>,
@@ -29,7 +29,7 @@ pub fn written_lines<'a>(alloc: Global, text: &'a [u8]) -> Result<Vec<Line<'a>>,
     Ok(written)
 }
 
-// The lines of a text. Between CR and LF stands an empty one.
+// The lines of a text. A CR and an LF have an empty line between them.
 fn split_lines<'a>(alloc: Global, text: &'a [u8]) -> Result<Vec<&'a [u8]>, AllocError>
     ensures { IfOk result (λ v. texts v.items ≡ slice_split is_line_end text.now) }
 {

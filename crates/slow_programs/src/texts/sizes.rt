@@ -17,11 +17,11 @@ use crate::texts::numbers::number;
 use sparse_parser::error::MatrixMarketErrorKind;
 use sparse_parser::header::{Format, Header, Symmetry};
 
-/// The rows, the columns, and the number of data lines where it is a usize.
+/// The numbers of rows and of columns, and the number of data lines if it fits in `usize`.
 pub type Sizes = (usize, usize, Option<usize>);
 
-/// Returns what a size line says below a header: first the header's rules, then the numbers, then their fit to the
-/// symmetry.
+/// Returns what a size line says after a header: tests first the header's rules, then the numbers, then whether they
+/// fit the symmetry.
 #[tactic(auto, unfolding(sparse_parser::specs::Meaning::sizes_of))]
 pub fn read_sizes(header: Header, words: &[&[u8]]) -> Result<Sizes, MatrixMarketErrorKind>
     requires { is_size (texts words.now) ≡ true }
@@ -37,7 +37,7 @@ pub fn read_sizes(header: Header, words: &[&[u8]]) -> Result<Sizes, MatrixMarket
     Ok((rows, cols, count))
 }
 
-// The numbers, as many as the format has.
+// The numbers, as many as the format requires.
 #[tactic(auto, unfolding(sparse_parser::specs::Meaning::numbers_of_size, sparse_parser::specs::Grammar::is_size))]
 fn numbers(
     format: Format,
@@ -99,7 +99,7 @@ fn is_fitting(symmetry: Symmetry, rows: usize, cols: usize) -> bool
     }
 }
 
-// How many data lines an array has, where that is a usize.
+// The number of data lines of an array, if it fits in `usize`.
 #[tactic(auto, unfolding(sparse_parser::specs::ArrayPlaces::array_count, sparse_parser::specs::Meaning::within_usize))]
 fn array_count(symmetry: Symmetry, rows: usize, cols: usize) -> Option<usize>
     ensures { result ≡ within_usize (array_count symmetry rows cols) }

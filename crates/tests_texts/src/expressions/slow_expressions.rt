@@ -12,7 +12,7 @@ use std::test::Fail;
 // The number of rows, that of columns, and triplets.
 type List = (usize, usize, &'static [(usize, usize, i64)]);
 
-// Some places occur twice, one of them with the sum zero.
+// Some entries occur twice, one of them with the sum zero.
 const SMALL: &[List] = &[
     (2, 2, &[(1, 0, 3), (0, 1, -2), (1, 0, -3), (1, 1, 5)]),
     (2, 3, &[(1, 2, 7), (0, 0, 2), (0, 2, -1)]),
