@@ -1,8 +1,8 @@
 -- The machine values of handles and of `Block`: structs of one pointer. Assumes `Logic`.
---     `pointer_good`              the machine value of a pointer has the type of pointers
---     `word p`                    the machine value of a struct whose only field is the pointer p
---     `word_good`                 `word p` has the layout of a handle, which is that of a block
---     `pointer_out`, `pointer_in`   to own a handle or a block by value is to own what it owns at its pointer
+-- - `pointer_good`: the machine value of a pointer has the type of pointers
+-- - `word p`: the machine value of a struct whose only field is the pointer p
+-- - `word_good`: `word p` has the layout of a handle, which is that of a block
+-- - `pointer_out`, `pointer_in`: to own a handle or a block by value is to own what it owns at its pointer
 use Rattle.std.proofs.Common.{◌≡◌, List, [], ◌∷◌, ◌++◌, refl, subst}
 use lib.Dec.{lit<}
 use seplogic.Ra.Ura.{Ura}

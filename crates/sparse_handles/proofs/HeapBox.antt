@@ -1,10 +1,10 @@
 -- The type `Box<T, Global>` as an argument of a generic call of std. Assumes `Logic`. A row is the type's entry in the
 -- prover's semantics: its layout, its values and what they own.
---     `passed_as`               the row of a type as a type argument
---     `heap_row`, `heap_laws`     the row of the allocator `Global` as a type argument, and the laws of this row
---     `no_drop`, `drop_goes`      the drop of the allocator, which does nothing
---     `Boxed`, `boxed`            the row of the box, and the row together with its laws
---     `static`                  each lifetime is within that of the allocator, which has no references
+-- - `passed_as`: the row of a type as a type argument
+-- - `heap_row`, `heap_laws`: the row of the allocator `Global` as a type argument, and the laws of this row
+-- - `no_drop`, `drop_goes`: the drop of the allocator, which does nothing
+-- - `Boxed`, `boxed`: the row of the box, and the row together with its laws
+-- - `static`: each lifetime is within that of the allocator, which has no references
 use mathlib.Core.List.{[], ◌∷◌, not-mem-nil}
 use mathlib.Core.Path.{refl}
 use mir.Raw.{raw}

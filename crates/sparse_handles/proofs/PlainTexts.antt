@@ -1,7 +1,7 @@
 -- Texts and plain matrices.
---     `plain-numbers`     a list of scalars has the plain matrix of the list of the integers that represent them
---     `put_meant`         after the matrix that a text means was stored in a handle, `HoldsMeaning` is true of both
---     `text-rows`         the text that is written for a CSR matrix is `text_of_plain` of its plain matrix
+-- - `plain-numbers`: a list of scalars has the plain matrix of the list of the integers that represent them
+-- - `put_meant`: a handle in which the matrix of a text was stored satisfies `HoldsMeaning`
+-- - `text-rows`: the text that is written for a CSR matrix is `text_of_plain` of its plain matrix
 use Rattle.std.proofs.Common.{◌≡◌, ℕ, List, [], ◌∷◌, ◌++◌, length, map, sym, ap, ◌∙◌, refl}
 use Rattle.std.specs.Prelude.{codes, ◌||◌, ℤ, Option, Some, Ok, Err, OnOk}
 use Rattle.core.specs.declared.result.Result.{Result}
