@@ -131,7 +131,7 @@ fn shared_factors(alloc: Global, handle: &mut FactorHandle) -> Result<Arc<Ldl<W6
     }
 }
 
-// Stores factors in a handle, in place of what it holds. Fails only if an allocation fails; the handle is then
+// Stores factors in a handle, in place of what the handle holds. Fails only if an allocation fails; the handle is then
 // unchanged.
 fn put_factors(alloc: Global, factors: Ldl<W64>, handle: &mut FactorHandle) -> Result<(), Refusal>
     ensures put { OnOk result (handle.new.value ≡ Some factors) }
@@ -147,8 +147,8 @@ fn put_factors(alloc: Global, factors: Ldl<W64>, handle: &mut FactorHandle) -> R
     }
 }
 
-// Stores factors that other handles may hold in a handle, in place of what it holds. Fails only if an allocation fails;
-// the handle is then unchanged.
+// Stores factors, which other handles may share, in a handle, in place of what the handle holds. Fails only if an
+// allocation fails; the handle is then unchanged.
 fn put_shared(
     alloc: Global,
     factors: Arc<Ldl<W64>>,
@@ -170,7 +170,7 @@ fn put_shared(
     }
 }
 
-// Stores the factors of a box in a handle, in place of what it holds.
+// Stores the factors of a box in a handle, in place of what the handle holds.
 fn put_box(alloc: Global, boxed: Box<SharedFactors>, handle: &mut FactorHandle)
     ensures { handle.new.value ≡ Some boxed.value }
 {

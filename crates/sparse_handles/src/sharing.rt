@@ -37,7 +37,7 @@ pub fn shared(alloc: Global, handle: &mut MatrixHandle) -> Result<Arc<CsrMatrix<
     }
 }
 
-/// Stores a matrix that other handles may hold in a handle, in place of what it holds.
+/// Stores a matrix, which other handles may share, in a handle, in place of what the handle holds.
 ///
 /// Fails only if an allocation fails; the handle is then unchanged.
 pub fn put_shared(
@@ -61,7 +61,7 @@ pub fn put_shared(
     }
 }
 
-/// Stores a matrix in a handle, in place of what it holds.
+/// Stores a matrix in a handle, in place of what the handle holds.
 ///
 /// Fails only if an allocation fails; the handle is then unchanged.
 pub fn put(alloc: Global, matrix: CsrMatrix<W64>, handle: &mut MatrixHandle) -> Result<(), Refusal>
@@ -86,7 +86,7 @@ pub fn clear(alloc: Global, handle: &mut MatrixHandle)
     discard(alloc, old);
 }
 
-// Stores the matrix of a box in a handle, in place of what it holds.
+// Stores the matrix of a box in a handle, in place of what the handle holds.
 fn put_box(alloc: Global, boxed: Box<SharedMatrix>, handle: &mut MatrixHandle)
     ensures { handle.new.value ≡ Some boxed.value }
 {
