@@ -1,4 +1,4 @@
-/* Squares a matrix by rows and prints its places. */
+/* Squares a matrix by rows and prints its entries. */
 #include "nalgebra_sparse.h"
 
 #include <inttypes.h>

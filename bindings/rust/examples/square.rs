@@ -1,4 +1,4 @@
-//! Squares a matrix by rows and prints its places.
+//! Squares a matrix by rows and prints its entries.
 
 use nalgebra_sparse_exact::{assemble_csr, multiply, Error};
 

@@ -1,5 +1,5 @@
--- The operands have no fault where a call is refused as singular, which is not the status of small
--- arrays.
+-- Which statuses imply valid operands: a call with the status of Singular has operands without a fault, and its status
+-- is not that of TooSmall.
 use Rattle.std.proofs.Common.{◌≡◌, ◌≢◌, ◌⊎◌, ℕ, ℤ, List, inl, inr, ap, sym, subst, ◌∙◌, arith}
 use Rattle.std.specs.Prelude.{nat_abs}
 use Rattle.sparse_algebra.specs.Algebra.{CommRing}
@@ -17,7 +17,7 @@ use Rattle.sparse_c_arrays.specs.declared.refusal.Refusal.TheVariants.{Singular 
 use Rattle.sparse_c_arrays.specs.declared.refusal.Refusal.TheVariants.{TooSmall}
 use Rattle.sparse_c_arrays.specs.declared.refusal.Refusal.TheVariants.{UnknownChoice}
 
--- the status of an unknown choice is that of a fault
+-- the status of UnknownChoice is not among those of calls whose operands have no fault
 refused_choice : (e : Refusal) → e ≡ UnknownChoice → FindsNoFault (number_of e) → ⊥
 refused_choice e is told = other 7 (omega arith) (omega arith) (omega arith)
     (subst (λ (r : Refusal). FindsNoFault (number_of r)) is told)
@@ -32,7 +32,7 @@ singular_large e is small =
     let apart : 6 ≢ 5 = omega arith in
     apart (ap nat_abs (sym (ap number_of is) ∙ small))
 
--- the matrix has a fault, or it has none and the call is refused as singular
+-- for calls whose error is that of a fault of the matrix, or Singular if the matrix has none
 module _ {Why : Type 0} (m : Compressed ℤ) (e : Refusal) where
   pub matrix_large : IsFaultOf m e ⊎ (IsSound m × (e ≡ RefusedSingular) × Why)
       → number_of e ≢ number_of TooSmall

@@ -1,5 +1,5 @@
--- The number of lanes of a combination; a difference as a sum of multiples; a sum that is merged in
--- the arrays.
+-- Combinations of two matrices: their number of rows, a difference as a sum of multiples, and the contract of a sum
+-- that is merged straight into the output arrays.
 use Rattle.std.proofs.Common.{◌≡◌, ◌≢◌, ℤ, pos, inl, inr, ap, sym, subst, ◌∙◌, refl, arith}
 use Rattle.std.specs.Prelude.{nat_abs}
 use Rattle.sparse_algebra.proofs.PlainLemmas.{same_plain}
@@ -21,7 +21,7 @@ use Rattle.sparse_c.specs.declared.arguments.Combination.{Combination}
 use Rattle.sparse_c.specs.declared.arguments.Combination.TheVariants.{Sum, Difference}
 use Rattle.sparse_c.specs.declared.arguments.Combination.TheVariants.{Multiples, Product}
 
--- a combination has the rows of the first matrix
+-- a combination has as many rows as the first matrix
 pub rows-combined : (R : CommRing) (how : Combination) (s : R.Carrier) (a : Plain R)
     (t : R.Carrier) (b : Plain R) → (combined_by R how s a t b).rows ≡ a.rows
 rows-combined R Sum s a t b = refl
@@ -45,7 +45,7 @@ module _ (R : CommRing) where
         ∙ (λ k. plain_sum R (sym (ap (λ c. plain_scaled R c a) ex ∙ once a) k)
         (sym (ap (λ c. plain_scaled R c b) ey ∙ minus_once b) k))
 
--- both operands are sound where the status says so
+-- both operands are sound at each status of a call whose operands have no fault
 pair_sound : (a b : Compressed ℤ) (status : ℤ) → (status ≡ pos 0 → IsSound a × IsSound b)
     → (status ≢ pos 0 → (e : Refusal) × (status ≡ number_of e) × IsFaultOfPair a b e)
     → FindsNoFault status → IsSound a × IsSound b
@@ -58,7 +58,7 @@ pair_sound a b status sound fault (inr (inr singular)) =
     let found = fault (λ zero. six (ap nat_abs (sym singular ∙ zero))) in
     absurd (pair_told a b found.0 found.2 (subst FindsNoFault found.1 (inr (inr singular))))
 
--- a sum that is merged in the arrays, which are not too small
+-- the contract of a call whose sum is merged into output arrays that are long enough
 pub sum_answered : {R : CommRing} (p : Plain R) (a b : Compressed ℤ) (before after : Room)
     (status : ℤ) → (status ≡ pos 0 → HoldsRows p after)
     → (status ≡ pos 0 → KeepsRest p.rows before after)
@@ -81,7 +81,7 @@ sum_answered p a b before after status written rest sound untouched fault = reco
       (found.0, found.1, inl (inr found.2));
 }
 
--- the status as the caller sees it, and the factors as they were passed
+-- the contract of a sum of multiples after its scales and its status are replaced by equal numbers
 pub seen_multiples : (R : CommRing) (a b : Compressed ℤ) {Sound : Type 0} {Fault : Refusal → Type 0}
     {s t alpha beta : ℤ} {before after : Room} {status seen : ℤ} → s ≡ alpha → t ≡ beta
     → seen ≡ status

@@ -1,4 +1,4 @@
--- Factors of symmetric matrices, and the arrays that hold them.
+-- Factors of symmetric matrices, and the contract of calls that write them to arrays.
 use Rattle.std.proofs.Common.{◌≡◌, ◌≢◌, ◌≤◌, ◌<◌, ◌⊎◌, ℕ, ℤ, pos, List, length, map, take, ap, sym}
 use Rattle.std.proofs.Common.{Result, inl, inr, subst, ◌∙◌, refl}
 use Rattle.std.specs.Prelude.{slice_index_or, IfOk, IfErr, MatchResult, OnErr, OnOk}
@@ -29,7 +29,7 @@ use Rattle.sparse_c_arrays.specs.declared.refusal.Refusal.TheVariants.{TooSmall}
 use Rattle.sparse_c_arrays.proofs.Joining.{both, found, refused}
 use Rattle.sparse_algebra.specs.Integers.{times_one, element_of}
 
--- the factors of a matrix are those of the arrays that it was made of
+-- factors of a CSC matrix m are factors of the arrays a from which m was built
 module _ (R : CommRing) {T : Type 0} (f : T → R.Carrier) (z : T) (a : Compressed ℤ)
     (m : Compressed T)
     (s : Factors T) (pattern : m.pattern ≡ a.pattern)
@@ -62,14 +62,14 @@ module _ (R : CommRing) {T : Type 0} (f : T → R.Carrier) (z : T) (a : Compress
       }
 
 module _ (R : CommRing) {T : Type 0} (f : T → R.Carrier) (z : T) (zero_is : f z ≡ R.zero) where
-  -- lists with the same ring elements have them at each index
+  -- lists that represent the same ring elements represent equal elements at each index
   same_elements : (xs : List ℤ) (ys : List T) → map (element_of R) xs ≡ map f ys → (j : ℕ)
       → element_of R (slice_index_or xs j (pos 0)) ≡ f (slice_index_or ys j z)
   unfolding element_of times_one
   same_elements xs ys same j = sym (get_or-map (element_of R) xs j (pos 0))
       ∙ (λ k. get_or (same k) j (sym zero_is k)) ∙ get_or-map f ys j z
 
-  -- an answer that is written
+  -- the result of `factors_of`, as it is written to the arrays
   module _ {V : Type 0} (items : V → List T) (a : Compressed ℤ)
       (answer : Result (Compressed T × V) Refusal)
       (factors : IfOk answer (λ s. AreFactors R f a (plain_of_cols R f s.0)
@@ -136,7 +136,7 @@ module _ (R : CommRing) {T : Type 0} (f : T → R.Carrier) (z : T) (zero_is : f 
           ],
         )) how
 
-    -- what a call promises
+    -- the whole contract
     pub factors_answered : (before after : Room) (old new : List ℤ) (status : ℤ)
         → OnOk answer (IsSound a) → IfErr answer (IsMemoryOr (IsFaultOfFactors R f a))
         → (status ≡ pos 0

@@ -1,4 +1,4 @@
--- Quotients by an integer, and the arrays that hold them.
+-- The contract of calls that divide a matrix by an integer and write the quotient to arrays.
 use Rattle.std.proofs.Common.{◌≡◌, ◌≢◌, ℕ, ℤ, pos, Result, ap, sym, subst, refl}
 use Rattle.std.specs.Prelude.{IfOk, IfErr, MatchResult, OnErr, OnOk}
 use Rattle.sparse_algebra.specs.Algebra.{CommRing}
@@ -59,7 +59,7 @@ module _ (R : CommRing) {T : Type 0} (f : T → R.Carrier) (a : Compressed ℤ) 
         (λ m p small. (plain_of_rows R f m, p, small)) (why h);
   }
 
--- the status as the caller sees it, and the divisor as it was passed
+-- this contract after the divisor and the status are replaced by equal numbers
 pub seen_quotient : (S : Scalars) {a : Compressed ℤ} {divisor passed : ℤ} {before after : Room}
     {status seen : ℤ} → divisor ≡ passed → seen ≡ status
     → Divides S.ring (S.IsFault (IsFaultOfQuotient S.ring S.value a passed)) a passed before after

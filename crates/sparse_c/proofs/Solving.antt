@@ -1,4 +1,4 @@
--- Solutions in arrays.
+-- The contract of calls that solve a system and write the solution to an array.
 use Rattle.std.proofs.Common.{◌≡◌, ◌≢◌, ◌≤◌, ℕ, ℤ, pos, ◌<◌, ◌*◌, length, take, ap, sym}
 use Rattle.std.proofs.Common.{Result, subst, ◌∙◌}
 use Rattle.std.specs.Prelude.{IfOk, IfErr, MatchResult, OnOk}
@@ -23,7 +23,7 @@ use Rattle.sparse_c_arrays.specs.declared.refusal.Refusal.{Refusal}
 use Rattle.sparse_c_arrays.specs.declared.refusal.Refusal.TheVariants.{TooSmall}
 use Rattle.sparse_c_arrays.proofs.Joining.{both, found, refused}
 
--- ---- a dense answer of a known shape, as it was written
+-- ---- a dense result of a known shape, as it is written to an array
 
 module _ {T : Type 0} (answer : Result (Dense T) Refusal) (n m : ℕ)
     (rows : IfOk answer (λ x. x.nrows ≡ n)) (cols : IfOk answer (λ x. x.ncols ≡ m))
@@ -34,8 +34,8 @@ module _ {T : Type 0} (answer : Result (Dense T) Refusal) (n m : ℕ)
       (λ (x : Dense T). P (plain_of_dense R f x)) answer
       (both (λ (x : Dense T). x.nrows ≡ n) (λ (x : Dense T). x.ncols ≡ m) answer rows cols) is
 
-  -- what holds of the answer holds of the numbers that were written; the caller sees the status as
-  -- `seen`
+  -- if the result satisfies P, so does the matrix in the array; `seen` is the status at the caller, which equals
+  -- `status`
   pub numbers_answered : {Shown : ℤ → Type 0} {Sound : Type 0} {Fault : Refusal → Type 0}
       (before after : Numbers) (status seen : ℤ) → seen ≡ status
       → after.values.ghost_name ≡ before.values.ghost_name
@@ -87,7 +87,7 @@ module _ {T : Type 0} (answer : Result (Dense T) Refusal) (n m : ℕ)
       }
 
 module _ (R : CommRing) where
-  -- what solves the system of a matrix with the same values solves that of the matrix
+  -- a solution with a matrix s is a solution with any matrix a that has the values of s
   pub solved_as : (a s x b : Plain R) (n m : ℕ) → a.cols ≡ n → s.cols ≡ n
       → HasSameValues R n n s a → IsSolution R s x b → HasSameValues R n m (plain_product R a x) b
   solved_as a s x b n m cols same equation solved i j row _ =

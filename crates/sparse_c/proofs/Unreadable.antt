@@ -1,4 +1,4 @@
--- No fault of a text has the status of small arrays.
+-- No error of a text has the status of TooSmall.
 use Rattle.std.proofs.Common.{◌≢◌, ℕ, List, pos, inl, inr, ap, sym, ◌∙◌, arith}
 use Rattle.std.specs.Prelude.{nat_abs}
 use Rattle.sparse_parser.specs.declared.error.MatrixMarketErrorKind.{MatrixMarketErrorKind}

@@ -1,5 +1,7 @@
--- What a call does over the residues modulo m it does modulo m, and where m is not listed it leaves
--- the arrays.
+-- The laws of the trait `Call`, which its impls cite: lemmas `.._listed` take the contract of a call over the type of
+-- residues modulo m to the contract of a call with the modulus m; lemmas `.._unlisted` say that a call which returns
+-- UnknownChoice and changes no array meets this contract if m is not listed. These lemmas are in specs/ since the law of
+-- an impl may cite nothing from the proofs/ of its own crate.
 use Rattle.std.specs.Prelude.{◌≡◌, ◌≤◌, ℕ, ℤ, pos, List, refl}
 use Rattle.std.proofs.Common.{inl, inr, arith}
 use Rattle.sparse_algebra.specs.ModNumbers.{mod_value}
@@ -24,7 +26,7 @@ use Rattle.sparse_c_arrays.specs.Written.{WritesRows}
 use Rattle.sparse_c_arrays.specs.declared.refusal.Refusal.{Refusal}
 use Rattle.sparse_c_arrays.specs.declared.refusal.Refusal.TheVariants.{UnknownChoice}
 
--- the status of an unknown choice is that of a fault
+-- the status of UnknownChoice is not among those of calls whose operands have no fault
 never : {X : Type 0} → FindsNoFault (number_of UnknownChoice) → X
 never told = absurd (other 7 (omega arith) (omega arith) (omega arith) told)
 
@@ -35,7 +37,7 @@ unlisted_refused : {Fault : Refusal → Type 0} {Small : Type 0} (m : ℕ) → I
     → IsRefusedFor (IsFaultModulo m Fault) Small (number_of UnknownChoice)
 unlisted_refused m none = (UnknownChoice, refl, inl (inr (inl (refl, none))))
 
--- the faults of the operands are among those of a call with a modulus
+-- an error of a call over a ring is an error of a call with a modulus
 refused_modulo : {Fault : Refusal → Type 0} {Small : Type 0} (m : ℕ) {status : ℤ}
     → IsRefusedFor Fault Small status → IsRefusedFor (IsFaultModulo m Fault) Small status
 refused_modulo m refused = (
@@ -57,7 +59,7 @@ shown_modulo m short made = record { each = λ h k lt. made.each h k lt short }
 same_arrays : (r : borrowed.Room) → AreSameArrays r r
 same_arrays r = record { offsets = refl; indices = refl; values = refl; places = refl }
 
--- ---- answers that are written in arrays
+-- ---- any contract on the arrays of a CSR matrix
 
 answers_listed : {Answer Wide : Room → Room → ℤ → Type 0} (m : ℕ) {before after : borrowed.Room}
     {status : ℤ} → m ≤ 9223372036854775808
@@ -80,7 +82,7 @@ answers_unlisted m r answer = record {
   arrays = same_arrays r;
 }
 
--- ---- matrices by rows
+-- ---- calls that write a CSR matrix
 
 module _ {Sound : Type 0} {Fault : Refusal → Type 0} where
   pub rows_listed : (m : ℕ) (a : Plain (mod_ring m)) (before after : borrowed.Room) (status : ℤ)
@@ -107,7 +109,7 @@ module _ {Sound : Type 0} {Fault : Refusal → Type 0} where
     refused = λ _. unlisted_refused m none;
   })
 
--- ---- quotients
+-- ---- division
 
 pub quotient_listed : (m : ℕ) (q : Quotient) (before after : borrowed.Room) (status : ℤ)
     → m ≤ 9223372036854775808 → DividesIn (residues_of m) q before after status
@@ -135,7 +137,7 @@ quotient_unlisted m q r none = answers_unlisted m r (record {
   refused = λ _. unlisted_refused m none;
 })
 
--- ---- factors
+-- ---- factorisation
 
 pub factors_listed : (m : ℕ) (s : Factored) (before after : FactorRoom) (status : ℤ)
     → m ≤ 9223372036854775808 → FactorisesIn (residues_of m) s before after status
@@ -182,7 +184,7 @@ factors_unlisted m s r none = record {
   places = refl;
 }
 
--- ---- dense matrices
+-- ---- calls that write a dense matrix
 
 module _ {Sound : Type 0} {Fault : Refusal → Type 0} {Holds Small : List ℤ → Type 0} {n : ℕ}
     (m : ℕ) where

@@ -1,4 +1,4 @@
-//! Triplets from outside, assembled to a matrix by rows or by columns.
+//! Assembly of a CSR or a CSC matrix from triplets, over any ring.
 
 ghost use Rattle.std.specs.Prelude.{◌≡◌, IfOk, IfErr, OnOk};
 ghost use Rattle.sparse_algebra.specs.Moduli.{mod_ring};
@@ -21,7 +21,7 @@ use std::alloc::Global;
 impl<'a> Call<Room<'a>> for Triplets<'_> {
     ghost does = { Assembles };
 
-    /// Writes the matrix of triplets. Values of triplets at the same place are added.
+    /// Writes the matrix of the triplets. The values of triplets with the same row and column are added.
     fn run<T: Number>(self, alloc: Global, out: &mut Room<'a>) -> i32 {
         let answer = assembled::<T>(alloc, self);
         finish_rows(answer, out.offsets, out.indices, out.values, out.places)
@@ -32,7 +32,7 @@ impl<'a> Call<Room<'a>> for Triplets<'_> {
     ghost unlisted = { λ m t. rows_unlisted m (assembly_of (mod_ring m) t) };
 }
 
-// The matrix of triplets by rows, or its transpose by rows, whose arrays are those of the matrix by columns.
+// Returns the CSR matrix of the triplets, or the CSR matrix of its transpose, which has the arrays of the CSC matrix.
 fn assembled<T: Number>(alloc: Global, triplets: Triplets<'_>) -> Result<CsrMatrix<T>, Refusal>
     ensures plain { IfOk result
         (λ m. plain_of_rows T.ring T.value m ≡ assembly_of T.ring triplets.entry) }

@@ -17,7 +17,7 @@ use crate::moduli::{Call, by_modulus};
 use sparse_algebra::scalar::W64;
 use std::alloc::Global;
 
-/// Writes the matrix of triplets by rows. Values of triplets at the same place are added.
+/// Writes the CSR matrix of a list of triplets. The values of triplets with the same row and column are added.
 #[unsafe(no_mangle)]
 pub extern "C" fn nalgebra_sparse_assemble_csr(
     alloc: Global,
@@ -42,7 +42,7 @@ pub extern "C" fn nalgebra_sparse_assemble_csr(
     triplets.run::<W64>(alloc, &mut room)
 }
 
-/// Writes the matrix of triplets by columns. Values of triplets at the same place are added.
+/// Writes the CSC matrix of a list of triplets. The values of triplets with the same row and column are added.
 #[unsafe(no_mangle)]
 pub extern "C" fn nalgebra_sparse_assemble_csc(
     alloc: Global,
@@ -67,7 +67,7 @@ pub extern "C" fn nalgebra_sparse_assemble_csc(
     triplets.run::<W64>(alloc, &mut room)
 }
 
-/// Writes the matrix of triplets by rows over the ring of residues modulo a listed number.
+/// Writes the CSR matrix of a list of triplets over the residues modulo a listed number.
 #[unsafe(no_mangle)]
 pub extern "C" fn nalgebra_sparse_assemble_csr_mod(
     alloc: Global,
@@ -96,7 +96,7 @@ pub extern "C" fn nalgebra_sparse_assemble_csr_mod(
     by_modulus(alloc, modulus, triplets, &mut room)
 }
 
-/// Writes the matrix of triplets by columns over the ring of residues modulo a listed number.
+/// Writes the CSC matrix of a list of triplets over the residues modulo a listed number.
 #[unsafe(no_mangle)]
 pub extern "C" fn nalgebra_sparse_assemble_csc_mod(
     alloc: Global,

@@ -1,4 +1,4 @@
-//! Sums, differences and products of matrices from outside.
+//! Sums, differences and products of CSR matrices, over any ring.
 
 ghost use Rattle.std.specs.Prelude.{◌≡◌, IfOk, IfErr, IfSome, OnOk};
 ghost use Rattle.sparse_algebra.specs.Integers.{element_of};
@@ -26,8 +26,8 @@ impl<'a> Call<Room<'a>> for Pair<'_> {
 
     ghost does = { Combines };
 
-    /// Writes the combination of two matrices by rows. A sum is merged in the arrays if they have room for the places of
-    /// both matrices, which takes no memory.
+    /// Writes the combination of two CSR matrices. If the output arrays have room for the entries of both operands, a
+    /// sum is merged straight into them, without an allocation.
     fn run<T: Number>(self, alloc: Global, out: &mut Room<'a>) -> i32 {
         let lanes = self.a.major_dim;
         let most = self.a.indices.len() + self.b.indices.len();
@@ -47,7 +47,7 @@ impl<'a> Call<Room<'a>> for Pair<'_> {
     ghost unlisted = { λ m p. rows_unlisted m (combination_of (mod_ring m) p) };
 }
 
-// Returns the factors of a sum of two matrices, or `None` of a product.
+// Returns the scales alpha and beta with which a combination is `alpha * a + beta * b`, or `None` for a product.
 fn factors<T: Number>(how: Combination, alpha: i64, beta: i64) -> Option<(T, T)>
     ensures shapes { IfSome result (λ _. IsOfOneShape how) }
     ensures sum { IfSome result (λ f. IsSumOf T.ring how (element_of T.ring alpha)
@@ -61,7 +61,7 @@ fn factors<T: Number>(how: Combination, alpha: i64, beta: i64) -> Option<(T, T)>
     }
 }
 
-// The combination of two matrices by rows.
+// Returns the combination of two CSR matrices.
 fn combined<T: Number>(alloc: Global, pair: Pair<'_>) -> Result<CsrMatrix<T>, Refusal>
     requires { CanCombine pair }
     ensures plain { IfOk result

@@ -1,4 +1,4 @@
-//! Products with a dense matrix.
+//! Products of a CSR matrix and a dense matrix.
 
 ghost use Rattle.std.specs.Prelude.{◌≡◌, ◌*◌, pos, IfOk, IfErr, OnOk};
 ghost use Rattle.sparse_algebra.specs.Moduli.{mod_ring};
@@ -27,7 +27,7 @@ use sparse_coo_dense::dense::DMatrix;
 use sparse_with_dense::mul_csr_dense;
 use std::alloc::Global;
 
-/// Writes the product of a matrix by rows and a dense matrix: `a` with `rows` rows and `inner` columns, `b` with `inner`
+/// Writes the product of a CSR matrix and a dense matrix: `a` with `rows` rows and `inner` columns, `b` with `inner`
 /// rows and `cols` columns. The dense matrices are stored column by column.
 #[unsafe(no_mangle)]
 pub extern "C" fn nalgebra_sparse_multiply_dense(
@@ -58,7 +58,7 @@ pub extern "C" fn nalgebra_sparse_multiply_dense(
     factors.run::<W64>(alloc, &mut out)
 }
 
-/// Writes that product over the ring of residues modulo a listed number.
+/// Writes the product of a CSR matrix and a dense matrix over the residues modulo a listed number.
 #[unsafe(no_mangle)]
 pub extern "C" fn nalgebra_sparse_multiply_dense_mod(
     alloc: Global,
@@ -107,7 +107,7 @@ impl<'a> Call<Numbers<'a>> for Factors<'_> {
     ghost unlisted = { λ m _. numbers_unlisted m };
 }
 
-// The product of a matrix by rows and a dense matrix.
+// Returns the product of a CSR matrix and a dense matrix.
 fn dense_product<T: Number>(alloc: Global, factors: Factors<'_>) -> Result<DMatrix<T>, Refusal>
     requires { factors.a.pattern.minor_dim ≡ factors.inner }
     ensures plain { let f = factors.entry in IfOk result (λ d. plain_of_dense T.ring T.value d

@@ -1,4 +1,4 @@
-//! Division by an integer.
+//! Division of a CSR matrix by an integer.
 
 ghost use Rattle.std.specs.Prelude.{◌≡◌, pos, IfOk, IfErr, OnOk};
 ghost use Rattle.sparse_algebra.specs.ModNumbers.{mod_value};
@@ -28,8 +28,8 @@ use sparse_csr_csc::csr::CsrMatrix;
 use sparse_with_dense::div_scalar_csr;
 use std::alloc::Global;
 
-/// Writes the quotient of a matrix by rows and an integer: each value times the inverse of the integer, at the same
-/// places.
+/// Writes the quotient of a CSR matrix and an integer: each value times the inverse of the integer, on the same
+/// pattern.
 #[unsafe(no_mangle)]
 pub extern "C" fn nalgebra_sparse_divide(
     alloc: Global,
@@ -57,7 +57,7 @@ pub extern "C" fn nalgebra_sparse_divide(
     quotient.run::<W64>(alloc, &mut room)
 }
 
-/// Writes the quotient over the ring of residues modulo a listed number.
+/// Writes the quotient of a CSR matrix and an integer over the residues modulo a listed number.
 #[unsafe(no_mangle)]
 pub extern "C" fn nalgebra_sparse_divide_mod(
     alloc: Global,
@@ -105,7 +105,7 @@ impl<'a> Call<Room<'a>> for Quotient<'_> {
     ghost unlisted = { quotient_unlisted };
 }
 
-// The quotient of a matrix by rows and an integer.
+// Returns the quotient of a CSR matrix and an integer.
 fn quotient_of<T: Number>(
     alloc: Global,
     a: Lanes<'_>,

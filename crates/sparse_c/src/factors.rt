@@ -36,8 +36,8 @@ use std::alloc::Global;
 
 /// Writes the unit lower triangular L, by columns, and the diagonal of D, for which `A = L D Lᵀ`.
 ///
-/// A is the symmetric matrix whose entries on and above the diagonal are those of a square matrix by columns. L has
-/// exactly the places of the fill that starts from this triangle.
+/// A is the symmetric matrix whose entries on and above the diagonal are those of a square CSC matrix. The pattern of L
+/// is exactly the fill of this triangle.
 #[unsafe(no_mangle)]
 pub extern "C" fn nalgebra_sparse_factor_symmetric(
     alloc: Global,
@@ -70,7 +70,7 @@ pub extern "C" fn nalgebra_sparse_factor_symmetric(
     factored.run::<W64>(alloc, &mut room)
 }
 
-/// Writes these factors over the ring of residues modulo a listed number.
+/// Writes the factors L and D of A over the residues modulo a listed number.
 #[unsafe(no_mangle)]
 pub extern "C" fn nalgebra_sparse_factor_symmetric_mod(
     alloc: Global,
@@ -133,7 +133,7 @@ impl<'a> Call<FactorRoom<'a>> for Factored<'_> {
     ghost unlisted = { factors_unlisted };
 }
 
-// The columns of L as rows, and the diagonal of D.
+// Returns the CSR matrix whose rows are the columns of L, and the diagonal of D.
 fn factors_of<T: Number>(alloc: Global, a: Lanes<'_>) -> Result<(CsrMatrix<T>, Vec<T>), Refusal>
     requires square { a.pattern.minor_dim ≡ a.pattern.major_dim }
     ensures factors { IfOk result (λ s. AreFactors T.ring T.value a.entry
@@ -152,8 +152,9 @@ fn factors_of<T: Number>(alloc: Global, a: Lanes<'_>) -> Result<(CsrMatrix<T>, V
     Ok((l.transpose_as_csr(), d))
 }
 
-// Writes the columns of L, whose rows are given, and the diagonal of D. Returns the status of the call. At a refusal
-// the arrays are unchanged; where one is too small, the number of places of L is written alone.
+// Writes the columns of L, which are the rows of a CSR matrix, and the diagonal of D. Returns the status of the call.
+// On an error the arrays are unchanged; if an array is too small, the number of entries of L is written, and nothing
+// else.
 fn finish_factors<T: Number>(
     answer: Result<(CsrMatrix<T>, Vec<T>), Refusal>,
     offsets: &mut [usize],

@@ -1,4 +1,4 @@
-//! Fill: the places of the factor of a symmetric matrix.
+//! Fill: the pattern of the factor L of a symmetric matrix.
 
 ghost use Rattle.std.specs.Prelude.{◌≡◌, ◌≢◌, pos, Err, IfOk, IfErr, OnOk};
 ghost use Rattle.sparse_pattern.specs.Raw.{raw_of, IsValid};
@@ -19,8 +19,8 @@ use sparse_factor::factorization::{CscSymbolicCholesky, Triangle};
 use sparse_pattern::pattern::SparsityPattern;
 use std::alloc::Global;
 
-/// Writes how many places the factor has that starts from a triangle of a square pattern by columns: 0 for the upper
-/// triangle, 1 for the lower one, 2 for both.
+/// Writes the number of entries of the factor L of the symmetric matrix that a triangle of a square pattern by columns
+/// gives. `triangle` is 0 for the upper triangle, 1 for the lower one, and 2 for the union of both.
 #[unsafe(no_mangle)]
 pub extern "C" fn nalgebra_sparse_fill_places(
     alloc: Global,
@@ -47,7 +47,7 @@ pub extern "C" fn nalgebra_sparse_fill_places(
     }
 }
 
-/// Writes the pattern of that factor, by columns.
+/// Writes the pattern of this factor L, by columns.
 #[unsafe(no_mangle)]
 pub extern "C" fn nalgebra_sparse_fill(
     alloc: Global,
@@ -81,7 +81,7 @@ pub extern "C" fn nalgebra_sparse_fill(
     finish_pattern(answer, out_offsets, out_indices, out_places)
 }
 
-// The pattern of the factor that starts from a triangle of a square pattern by columns.
+// Returns the pattern of the factor L of the symmetric matrix that a triangle of a square pattern by columns gives.
 fn fill_of(
     alloc: Global,
     size: usize,
@@ -101,7 +101,7 @@ fn fill_of(
     Ok(factor.into_l_pattern())
 }
 
-// The triangle with this number.
+// Returns the triangle with this number.
 fn triangle_of(number: i32) -> Result<Triangle, Refusal>
     ensures is { IfOk result (λ triangle. number ≡ triangle_number triangle) }
     ensures unknown { IfErr result (IsNoTriangle number) }

@@ -1,4 +1,4 @@
-//! Transposes, sums and products of matrices behind handles.
+//! Transposes, sums and products of matrices that handles hold.
 
 ghost use Rattle.std.specs.Prelude.{◌≡◌, ◌⊎◌, None};
 ghost use Rattle.sparse_algebra.specs.Integers.{element_of};
@@ -17,7 +17,7 @@ use sparse_handles::handle::MatrixHandle;
 use sparse_handles::operations;
 use std::alloc::Global;
 
-/// Puts the transpose of a matrix behind a handle.
+/// Stores in `out` the transpose of the matrix that `a` holds.
 #[unsafe(no_mangle)]
 pub extern "C" fn nalgebra_sparse_matrix_transpose(
     alloc: Global,
@@ -32,7 +32,7 @@ pub extern "C" fn nalgebra_sparse_matrix_transpose(
     status!(operations::transpose(alloc, a, out))
 }
 
-/// Puts the product of a number and a matrix behind a handle.
+/// Stores in `out` the matrix that `a` holds, times a number.
 #[unsafe(no_mangle)]
 pub extern "C" fn nalgebra_sparse_matrix_scale(
     alloc: Global,
@@ -49,7 +49,7 @@ pub extern "C" fn nalgebra_sparse_matrix_scale(
     status!(operations::scale(alloc, factor, a, out))
 }
 
-/// Puts the sum of two matrices behind a handle.
+/// Stores in `out` the sum of the matrices that `a` and `b` hold.
 #[unsafe(no_mangle)]
 pub extern "C" fn nalgebra_sparse_matrix_add(
     alloc: Global,
@@ -68,7 +68,7 @@ pub extern "C" fn nalgebra_sparse_matrix_add(
     status!(operations::add(alloc, a, b, out))
 }
 
-/// Puts the difference of two matrices behind a handle.
+/// Stores in `out` the difference `a - b` of the matrices that `a` and `b` hold.
 #[unsafe(no_mangle)]
 pub extern "C" fn nalgebra_sparse_matrix_subtract(
     alloc: Global,
@@ -87,7 +87,7 @@ pub extern "C" fn nalgebra_sparse_matrix_subtract(
     status!(operations::subtract(alloc, a, b, out))
 }
 
-/// Puts the sum of multiples of two matrices behind a handle.
+/// Stores in `out` the sum `alpha * a + beta * b` of multiples of the matrices that `a` and `b` hold.
 #[unsafe(no_mangle)]
 pub extern "C" fn nalgebra_sparse_matrix_add_scaled(
     alloc: Global,
@@ -109,7 +109,7 @@ pub extern "C" fn nalgebra_sparse_matrix_add_scaled(
     status!(operations::add_scaled(alloc, alpha, a, beta, b, out))
 }
 
-/// Puts the product of two matrices behind a handle.
+/// Stores in `out` the product `a * b` of the matrices that `a` and `b` hold.
 #[unsafe(no_mangle)]
 pub extern "C" fn nalgebra_sparse_matrix_multiply(
     alloc: Global,

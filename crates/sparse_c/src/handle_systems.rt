@@ -1,4 +1,4 @@
-//! Systems of equations with matrices and with factors behind handles.
+//! Systems of equations with matrices and with factors that handles hold.
 
 ghost use Rattle.std.specs.Prelude.{◌≡◌, None};
 ghost use Rattle.sparse_c_arrays.specs.Statuses.{number_of};
@@ -15,10 +15,10 @@ use sparse_handles::handle::{FactorHandle, MatrixHandle};
 use sparse_handles::solving::{Triangle, solve_triangle};
 use std::alloc::Global;
 
-/// Replaces B by the X for which `L X = B`, or `Lᵀ X = B` where `transposed` is set.
+/// Replaces B by the X for which `L X = B`, or `Lᵀ X = B` if `transposed` is set.
 ///
-/// L is the part on and below the diagonal of a matrix behind a handle. B and X have `cols` columns, one after the
-/// other.
+/// L is the lower triangle, with the diagonal, of the matrix that a handle holds. B and X are dense matrices with
+/// `cols` columns, stored column by column.
 #[unsafe(no_mangle)]
 pub extern "C" fn nalgebra_sparse_matrix_solve_lower(
     alloc: Global,
@@ -36,10 +36,10 @@ pub extern "C" fn nalgebra_sparse_matrix_solve_lower(
     status!(solve_triangle(alloc, a, Triangle::Lower, transposed, cols, values))
 }
 
-/// Replaces B by the X for which `U X = B`, or `Uᵀ X = B` where `transposed` is set.
+/// Replaces B by the X for which `U X = B`, or `Uᵀ X = B` if `transposed` is set.
 ///
-/// U is the part on and above the diagonal of a matrix behind a handle. B and X have `cols` columns, one after the
-/// other.
+/// U is the upper triangle, with the diagonal, of the matrix that a handle holds. B and X are dense matrices with
+/// `cols` columns, stored column by column.
 #[unsafe(no_mangle)]
 pub extern "C" fn nalgebra_sparse_matrix_solve_upper(
     alloc: Global,
@@ -57,9 +57,9 @@ pub extern "C" fn nalgebra_sparse_matrix_solve_upper(
     status!(solve_triangle(alloc, a, Triangle::Upper, transposed, cols, values))
 }
 
-/// Puts the exact factors L D Lᵀ of a symmetric matrix behind a handle of factors.
+/// Stores the exact factors L D Lᵀ of a symmetric matrix in a handle.
 ///
-/// The entries on and above its diagonal are those of a matrix behind a handle.
+/// The entries on and above the diagonal of the symmetric matrix are those of the matrix that `a` holds.
 #[unsafe(no_mangle)]
 pub extern "C" fn nalgebra_sparse_matrix_factor(
     alloc: Global,
@@ -74,8 +74,8 @@ pub extern "C" fn nalgebra_sparse_matrix_factor(
     status!(factor(alloc, a, out))
 }
 
-/// Replaces B by the X for which `L D Lᵀ X = B`, with the factors behind a handle. B and X have `cols` columns, one
-/// after the other.
+/// Replaces B by the X for which `L D Lᵀ X = B`, with the factors that a handle holds. B and X are dense matrices with
+/// `cols` columns, stored column by column.
 #[unsafe(no_mangle)]
 pub extern "C" fn nalgebra_sparse_factors_solve(
     alloc: Global,
@@ -92,7 +92,7 @@ pub extern "C" fn nalgebra_sparse_factors_solve(
     status!(solve_factored(alloc, factors, cols, values))
 }
 
-/// Makes a second handle of factors, which both share.
+/// Stores in `out` the factors that `factors` holds: both handles share them.
 #[unsafe(no_mangle)]
 pub extern "C" fn nalgebra_sparse_factors_clone(
     alloc: Global,
@@ -107,7 +107,7 @@ pub extern "C" fn nalgebra_sparse_factors_clone(
     status!(share_factors(alloc, factors, out))
 }
 
-/// Drops the factors behind a handle, which has none from then on.
+/// Empties a handle, and drops the factors that it holds, if it holds any.
 #[unsafe(no_mangle)]
 pub extern "C" fn nalgebra_sparse_factors_free(alloc: Global, factors: &mut FactorHandle)
     ensures { factors.new.value ≡ None }

@@ -1,4 +1,4 @@
-//! Matrices behind handles out of Matrix Market texts, and their texts.
+//! Matrix Market texts, read into handles and written from the matrices that handles hold.
 
 ghost use Rattle.std.specs.Prelude.{◌≡◌, None};
 ghost use Rattle.sparse_c_arrays.specs.Statuses.{number_of};
@@ -11,7 +11,7 @@ use sparse_handles::handle::MatrixHandle;
 use sparse_handles::texts::{put_text, write_text};
 use std::alloc::Global;
 
-/// Puts the matrix of a text in Matrix Market format behind a handle.
+/// Stores the matrix of a text in Matrix Market format in a handle.
 #[unsafe(no_mangle)]
 pub extern "C" fn nalgebra_sparse_matrix_from_text(
     alloc: Global,
@@ -24,7 +24,7 @@ pub extern "C" fn nalgebra_sparse_matrix_from_text(
     status!(put_text(alloc, text, out))
 }
 
-/// Writes the text of the matrix behind a handle in Matrix Market format, and its length.
+/// Writes the text of the matrix that a handle holds in Matrix Market format, and its length.
 #[unsafe(no_mangle)]
 pub extern "C" fn nalgebra_sparse_matrix_to_text(
     alloc: Global,

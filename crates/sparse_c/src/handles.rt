@@ -1,4 +1,4 @@
-//! Matrices behind handles: made, read, copied and freed.
+//! Handles of matrices: construction, reading, sharing and freeing.
 
 ghost use Rattle.std.specs.Prelude.{◌≡◌, None, pos};
 ghost use Rattle.sparse_compressed.specs.Compressed.{arrays_of, IsSound};
@@ -21,7 +21,7 @@ use sparse_handles::reading::{read, sizes};
 use sparse_handles::sharing::clear;
 use std::alloc::Global;
 
-/// Puts the matrix with these arrays by rows behind a handle.
+/// Stores the matrix with these CSR arrays in a handle.
 #[unsafe(no_mangle)]
 pub extern "C" fn nalgebra_sparse_matrix_from_rows(
     alloc: Global,
@@ -41,7 +41,7 @@ pub extern "C" fn nalgebra_sparse_matrix_from_rows(
     status!(put_rows(alloc, lanes!(rows, cols, offsets, indices, values), out))
 }
 
-/// Puts the matrix of triplets behind a handle.
+/// Stores the matrix of a list of triplets in a handle. The values of triplets with the same row and column are added.
 #[unsafe(no_mangle)]
 pub extern "C" fn nalgebra_sparse_matrix_from_triplets(
     alloc: Global,
@@ -62,7 +62,7 @@ pub extern "C" fn nalgebra_sparse_matrix_from_triplets(
     status!(put_triplets(alloc, (rows, cols), row_indices, col_indices, values, out))
 }
 
-/// Writes the numbers of rows, columns and places of a matrix behind a handle.
+/// Writes the numbers of rows, columns and entries of the matrix that a handle holds.
 #[unsafe(no_mangle)]
 pub extern "C" fn nalgebra_sparse_matrix_sizes(
     alloc: Global,
@@ -90,7 +90,7 @@ pub extern "C" fn nalgebra_sparse_matrix_sizes(
     }
 }
 
-/// Writes the matrix behind a handle into arrays by rows.
+/// Writes the CSR arrays of the matrix that a handle holds, and its number of entries.
 #[unsafe(no_mangle)]
 pub extern "C" fn nalgebra_sparse_matrix_read(
     alloc: Global,
@@ -112,7 +112,7 @@ pub extern "C" fn nalgebra_sparse_matrix_read(
     status!(read(alloc, a, out_offsets, out_indices, out_values, out_places))
 }
 
-/// Makes a second handle of a matrix, which both share.
+/// Stores in `out` the matrix that `a` holds: both handles share it.
 #[unsafe(no_mangle)]
 pub extern "C" fn nalgebra_sparse_matrix_clone(
     alloc: Global,
@@ -127,7 +127,7 @@ pub extern "C" fn nalgebra_sparse_matrix_clone(
     status!(share(alloc, a, out))
 }
 
-/// Drops the matrix behind a handle, which has none from then on.
+/// Empties a handle, and drops the matrix that it holds, if it holds one.
 #[unsafe(no_mangle)]
 pub extern "C" fn nalgebra_sparse_matrix_free(alloc: Global, a: &mut MatrixHandle)
     ensures { a.new.value ≡ None }

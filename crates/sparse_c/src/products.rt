@@ -1,4 +1,4 @@
-//! Products.
+//! Products of CSR matrices, and their numbers of entries.
 
 ghost use Rattle.std.specs.Prelude.{◌≡◌, ◌≢◌, pos};
 ghost use Rattle.sparse_compressed.specs.Compressed.{arrays_of, IsSound};
@@ -23,7 +23,7 @@ use sparse_c_arrays::refusal::Refusal;
 use sparse_products::serial::spmm_csr_pattern;
 use std::alloc::Global;
 
-/// Writes how many places the product of two patterns by rows has.
+/// Writes the number of entries of the product of two CSR matrices with these patterns.
 #[unsafe(no_mangle)]
 pub extern "C" fn nalgebra_sparse_multiply_places(
     alloc: Global,
@@ -62,7 +62,7 @@ pub extern "C" fn nalgebra_sparse_multiply_places(
     }
 }
 
-/// Writes the product of two matrices by rows: `a` with `rows` rows and `inner` columns, `b` with `inner` rows and
+/// Writes the product `a * b` of two CSR matrices: `a` with `rows` rows and `inner` columns, `b` with `inner` rows and
 /// `cols` columns.
 #[unsafe(no_mangle)]
 pub extern "C" fn nalgebra_sparse_multiply(
@@ -94,7 +94,7 @@ pub extern "C" fn nalgebra_sparse_multiply(
     pair!(Product, a, b).run::<W64>(alloc, &mut room)
 }
 
-/// Writes the product over the ring of residues modulo a listed number.
+/// Writes the product `a * b` over the residues modulo a listed number.
 #[unsafe(no_mangle)]
 pub extern "C" fn nalgebra_sparse_multiply_mod(
     alloc: Global,

@@ -1,4 +1,4 @@
-//! Coordinate lists out of Matrix Market texts.
+//! Coordinate lists read from Matrix Market texts.
 
 ghost use Rattle.std.specs.Prelude.{◌≡◌, ◌≢◌, pos, IfOk, IfErr};
 ghost use Rattle.sparse_algebra.specs.Numbers.{w64_number};
@@ -47,7 +47,8 @@ pub extern "C" fn nalgebra_sparse_read_sizes(
     }
 }
 
-/// Writes the triplets of a text in Matrix Market format, in its order, each mirrored one after its own.
+/// Writes the triplets of a text in Matrix Market format, in the order of the text. In a text of a symmetric or
+/// skew-symmetric matrix each triplet off the diagonal is followed by its mirrored one.
 #[unsafe(no_mangle)]
 pub extern "C" fn nalgebra_sparse_read(
     alloc: Global,
@@ -80,7 +81,7 @@ pub extern "C" fn nalgebra_sparse_read(
     )
 }
 
-// The triplets of bytes.
+// Returns the triplets of a text that is given as bytes.
 fn list_of_text(alloc: Global, text: &[u8]) -> Result<CooMatrix<W64>, Refusal>
     ensures means { IfOk result (λ m. IsTextOf text.now (values_of w64_number m)) }
     ensures fault { IfErr result (IsMemoryOr (IsFaultOfText text.now)) }
@@ -91,7 +92,7 @@ fn list_of_text(alloc: Global, text: &[u8]) -> Result<CooMatrix<W64>, Refusal>
     }
 }
 
-// The triplets of a text.
+// Returns the triplets of a text.
 fn triplets_of(alloc: Global, text: &str) -> Result<CooMatrix<W64>, Refusal>
     ensures means { IfOk result (λ m. IsTextOf text.now (values_of w64_number m)) }
     ensures fault { IfErr result (IsMemoryOr (IsErrorOfText text.now)) }

@@ -20,10 +20,10 @@ use crate::moduli::{Call, by_modulus};
 use sparse_algebra::scalar::W64;
 use std::alloc::Global;
 
-/// Writes the X for which `L X = B`, or `Lᵀ X = B` where `transposed` is set.
+/// Writes the X for which `L X = B`, or `Lᵀ X = B` if `transposed` is set.
 ///
-/// L is the part on and below the diagonal of a square matrix by columns. B and X have `cols` columns, one after the
-/// other.
+/// L is the lower triangle, with the diagonal, of a square CSC matrix. B and X are dense matrices with `cols` columns,
+/// stored column by column.
 #[unsafe(no_mangle)]
 pub extern "C" fn nalgebra_sparse_solve_lower(
     alloc: Global,
@@ -55,7 +55,7 @@ pub extern "C" fn nalgebra_sparse_solve_lower(
     system.run::<W64>(alloc, &mut out)
 }
 
-/// Writes that X over the ring of residues modulo a listed number.
+/// Writes the X for which `L X = B`, or `Lᵀ X = B`, over the residues modulo a listed number.
 #[unsafe(no_mangle)]
 pub extern "C" fn nalgebra_sparse_solve_lower_mod(
     alloc: Global,

@@ -19,7 +19,7 @@ use crate::moduli::{Call, by_modulus};
 use sparse_algebra::scalar::W64;
 use std::alloc::Global;
 
-/// Writes the sum of two matrices by rows, on the union of their places.
+/// Writes the sum `a + b` of two CSR matrices. Its pattern is the union of their patterns.
 #[unsafe(no_mangle)]
 pub extern "C" fn nalgebra_sparse_add(
     alloc: Global,
@@ -49,7 +49,7 @@ pub extern "C" fn nalgebra_sparse_add(
     pair!(Sum, a, b).run::<W64>(alloc, &mut room)
 }
 
-/// Writes the difference of two matrices by rows, on the union of their places.
+/// Writes the difference `a - b` of two CSR matrices. Its pattern is the union of their patterns.
 #[unsafe(no_mangle)]
 pub extern "C" fn nalgebra_sparse_subtract(
     alloc: Global,
@@ -79,7 +79,7 @@ pub extern "C" fn nalgebra_sparse_subtract(
     pair!(Difference, a, b).run::<W64>(alloc, &mut room)
 }
 
-/// Writes the sum of `alpha` times a matrix by rows and `beta` times another, on the union of their places.
+/// Writes the sum of multiples `alpha * a + beta * b` of two CSR matrices. Its pattern is the union of their patterns.
 #[unsafe(no_mangle)]
 pub extern "C" fn nalgebra_sparse_add_scaled(
     alloc: Global,
@@ -112,7 +112,7 @@ pub extern "C" fn nalgebra_sparse_add_scaled(
     pair!(Multiples, alpha, a, beta, b).run::<W64>(alloc, &mut room)
 }
 
-/// Writes the sum over the ring of residues modulo a listed number.
+/// Writes the sum `a + b` over the residues modulo a listed number.
 #[unsafe(no_mangle)]
 pub extern "C" fn nalgebra_sparse_add_mod(
     alloc: Global,
@@ -146,7 +146,7 @@ pub extern "C" fn nalgebra_sparse_add_mod(
     by_modulus(alloc, modulus, pair!(Sum, a, b), &mut room)
 }
 
-/// Writes the difference over the ring of residues modulo a listed number.
+/// Writes the difference `a - b` over the residues modulo a listed number.
 #[unsafe(no_mangle)]
 pub extern "C" fn nalgebra_sparse_subtract_mod(
     alloc: Global,
@@ -180,7 +180,7 @@ pub extern "C" fn nalgebra_sparse_subtract_mod(
     by_modulus(alloc, modulus, pair!(Difference, a, b), &mut room)
 }
 
-/// Writes the sum of multiples over the ring of residues modulo a listed number.
+/// Writes the sum of multiples `alpha * a + beta * b` over the residues modulo a listed number.
 #[unsafe(no_mangle)]
 pub extern "C" fn nalgebra_sparse_add_scaled_mod(
     alloc: Global,

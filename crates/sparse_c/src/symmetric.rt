@@ -23,8 +23,8 @@ use std::alloc::Global;
 
 /// Writes the X for which `A X = B`.
 ///
-/// A is the symmetric matrix whose entries on and above the diagonal are those of a square matrix by columns. B and X
-/// have `cols` columns, one after the other.
+/// A is the symmetric matrix whose entries on and above the diagonal are those of a square CSC matrix. B and X are
+/// dense matrices with `cols` columns, stored column by column.
 #[unsafe(no_mangle)]
 pub extern "C" fn nalgebra_sparse_solve_symmetric(
     alloc: Global,
@@ -55,7 +55,7 @@ pub extern "C" fn nalgebra_sparse_solve_symmetric(
     system.run::<W64>(alloc, &mut out)
 }
 
-/// Writes that X over the ring of residues modulo a listed number.
+/// Writes the X for which `A X = B` over the residues modulo a listed number.
 #[unsafe(no_mangle)]
 pub extern "C" fn nalgebra_sparse_solve_symmetric_mod(
     alloc: Global,

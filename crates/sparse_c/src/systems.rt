@@ -1,4 +1,4 @@
-//! Systems of equations from outside.
+//! Solves of systems of equations over any ring.
 
 ghost use Rattle.std.specs.Prelude.{◌≡◌, ◌<◌, IfOk, IfErr, OnOk, OnErr};
 ghost use Rattle.sparse_algebra.specs.declared.error.OperationErrorKind.TheVariants.{Singular};
@@ -43,7 +43,7 @@ impl<'a> Call<Numbers<'a>> for System<'_> {
     ghost unlisted = { λ m _. numbers_unlisted m };
 }
 
-// The solution of a system.
+// Returns the solution of a system.
 fn solution<T: Number>(alloc: Global, system: System<'_>) -> Result<DMatrix<T>, Refusal>
     requires rows { system.matrix.pattern.minor_dim ≡ system.size }
     requires cols { system.matrix.pattern.major_dim ≡ system.size }
@@ -70,7 +70,7 @@ fn solution<T: Number>(alloc: Global, system: System<'_>) -> Result<DMatrix<T>, 
     }
 }
 
-// The solution of the system with the lower triangle of a matrix by columns, or with its transpose.
+// Returns the solution of the system with the lower triangle of a CSC matrix, or with the transpose of this triangle.
 fn lower_solution<T: Number>(
     alloc: Global,
     l: Lanes<'_>,
@@ -96,7 +96,7 @@ fn lower_solution<T: Number>(
     Ok(x)
 }
 
-// Replaces B by the solution of the system with the lower triangle of a matrix, or with its transpose.
+// Solves in place with the lower triangle of `l`, or with its transpose if `transposed` is set.
 fn solve_triangle<T: Number>(
     l: &CscMatrix<T>,
     transposed: bool,
@@ -121,7 +121,8 @@ fn solve_triangle<T: Number>(
     }
 }
 
-// The solution of the symmetric system with the entries of a matrix by columns on and above its diagonal.
+// Returns the solution of the system with the symmetric matrix whose entries on and above the diagonal are those of a
+// CSC matrix.
 fn symmetric_solution<T: Number>(
     alloc: Global,
     a: Lanes<'_>,

@@ -1,4 +1,4 @@
-//! Transposes.
+//! The transpose of a CSR matrix.
 
 ghost use Rattle.std.specs.Prelude.{◌≡◌, IfOk, IfErr, OnOk};
 ghost use Rattle.sparse_compressed.specs.Compressed.{arrays_of, IsSound};
@@ -18,7 +18,7 @@ use sparse_csr_csc::csr::CsrMatrix;
 use sparse_products::transposes::transposed_csr;
 use std::alloc::Global;
 
-/// Writes the transpose of a matrix by rows, by rows too.
+/// Writes the transpose of a CSR matrix, as a CSR matrix.
 #[unsafe(no_mangle)]
 pub extern "C" fn nalgebra_sparse_transpose(
     alloc: Global,
@@ -42,7 +42,7 @@ pub extern "C" fn nalgebra_sparse_transpose(
     finish_rows(answer, out_offsets, out_indices, out_values, out_places)
 }
 
-// The transpose of a matrix by rows.
+// Returns the transpose of a CSR matrix.
 fn transposed(alloc: Global, a: Lanes<'_>) -> Result<CsrMatrix<W64>, Refusal>
     ensures plain { IfOk result (λ m. plain_of_rows ring64 w64_value m
         ≡ plain_transpose ring64 (plain_by_rows ring64 a.entry)) }

@@ -1,4 +1,4 @@
-//! Matrix Market texts out of coordinate lists.
+//! Matrix Market texts written from coordinate lists.
 
 ghost use Rattle.std.specs.Prelude.{◌≡◌, ◌≢◌, ◌<◌, length, pos, string_bytes, IfOk, IfErr, OnOk};
 ghost use Rattle.sparse_coo_dense.specs.Coo.{AreParts};
@@ -16,7 +16,7 @@ use sparse_coo_dense::coo::CooMatrix;
 use sparse_io::save_to_matrix_market_str;
 use std::alloc::Global;
 
-/// Writes the length of the text of triplets in Matrix Market format.
+/// Writes the length of the text of a list of triplets in Matrix Market format.
 #[unsafe(no_mangle)]
 pub extern "C" fn nalgebra_sparse_write_length(
     alloc: Global,
@@ -44,7 +44,7 @@ pub extern "C" fn nalgebra_sparse_write_length(
     }
 }
 
-/// Writes the text of triplets in Matrix Market format, and its length.
+/// Writes the text of a list of triplets in Matrix Market format, and its length.
 #[unsafe(no_mangle)]
 pub extern "C" fn nalgebra_sparse_write(
     alloc: Global,
@@ -75,7 +75,7 @@ pub extern "C" fn nalgebra_sparse_write(
     finish_text(answer, out_text, out_length)
 }
 
-// The text of triplets.
+// Returns the text of a list of triplets.
 fn text_of_list(
     alloc: Global,
     shape: (usize, usize),

@@ -1,7 +1,7 @@
--- What was put behind a handle is there.
---     put_done        a matrix that was put is behind the handle
---     behind          a matrix that is shared with a handle has the plain matrix behind it
---     held            it is the matrix of the handle
+-- Facts on the matrix that a handle holds.
+-- - `put_done`: a handle in which a matrix with the plain matrix a was stored satisfies `Holds`
+-- - `behind`: the plain matrix of a matrix that a handle holds is `plain_behind` of the handle
+-- - `held`: a handle that holds m holds any x that equals m
 use Rattle.std.proofs.Common.{◌≡◌, ap, sym, ◌∙◌}
 use Rattle.std.specs.Prelude.{Option, Some, Ok, Err, OnOk}
 use Rattle.core.specs.declared.result.Result.{Result}

@@ -1,8 +1,8 @@
--- The machine values of the handles and of a `Block`, which are one pointer. Assumes `Logic`.
---     pointer_good              a pointer has its type
---     word p                    the machine value at the pointer p
---     word_good                 it has the type of a handle and of a block
---     pointer_out, pointer_in   a handle or a block by value is what it owns at its pointer
+-- The machine values of handles and of `Block`: structs of one pointer. Assumes `Logic`.
+-- - `pointer_good`: the machine value of a pointer has the type of pointers
+-- - `word p`: the machine value of a struct whose only field is the pointer p
+-- - `word_good`: `word p` has the layout of a handle, which is that of a block
+-- - `pointer_out`, `pointer_in`: to own a handle or a block by value is to own what it owns at its pointer
 use Rattle.std.proofs.Common.{◌≡◌, List, [], ◌∷◌, ◌++◌, refl, subst}
 use lib.Dec.{lit<}
 use seplogic.Ra.Ura.{Ura}
@@ -32,11 +32,11 @@ pub word_good : (p : Ptr) → Good (layout handle.the_row) (word p)
 word_good (block_ptr b o) = (tt, (tt, tt))
 word_good null_ptr = (tt, (record { fits = lit< tt }, tt))
 
--- a struct of one pointer; what owns a value by it is independent of its name
+-- the shape of a struct of one pointer; ownership by such a struct does not depend on the struct's name
 abbrev pointer_shape : Shape
 pointer_shape = shape handle.the_type
 
--- the machine values of a struct that has the pointer p, and owns F by it
+-- vs is the machine value of a struct with the pointer p, and the struct owns F
 abbrev pub owned_by : Ptr → Fml → List Val → Fml
 owned_by p F vs = fsep ((Struct pointer_shape).own_val (p, tt) vs) F
 

@@ -1,10 +1,10 @@
--- A box on the heap, at a call. Assumes `Logic`.
---     passed_as               the row of a type as a call of a generic function has it
---     heap_row, heap_laws     those of the allocator
---     no_drop     the table of the drop of the allocator, which needs none
---     drop_goes               that drop does nothing
---     Boxed       the row of the box.        boxed     the same with its laws
---     static      a lifetime is within that of the allocator, which has no references
+-- The type `Box<T, Global>` as an argument of a generic call of std. Assumes `Logic`. A row is the type's entry in the
+-- prover's semantics: its layout, its values and what they own.
+-- - `passed_as`: the row of a type as a type argument
+-- - `heap_row`, `heap_laws`: the row of the allocator `Global` as a type argument, and the laws of this row
+-- - `no_drop`, `drop_goes`: the drop of the allocator, which does nothing
+-- - `Boxed`, `boxed`: the row of the box, and the row together with its laws
+-- - `static`: each lifetime is within that of the allocator, which has no references
 use mathlib.Core.List.{[], ◌∷◌, not-mem-nil}
 use mathlib.Core.Path.{refl}
 use mir.Raw.{raw}

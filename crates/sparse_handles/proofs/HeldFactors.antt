@@ -1,7 +1,7 @@
--- Factors of the matrix behind a handle.
---     factorisation       the factors of a matrix by columns are those of its plain matrix
---     factored            factors that were put are behind the handle
---     solved_held         a solution with the factors behind a handle, over the array of its right side
+-- Factors held by handles.
+-- - `factorisation`: the factors that `Ldl::factor` finds for a CSC matrix are factors of its plain matrix
+-- - `factored`: a call that stores factors of the matrix of a handle meets the contract of `factor`
+-- - `solved_held`: a dense solution written over its right-hand side meets the contract of `solve_factored`
 use Rattle.std.proofs.Common.{◌≡◌, ℕ, ℤ, ◌<◌, ◌*◌, List, length, sym, subst, ◌∙◌}
 use Rattle.std.specs.Prelude.{Option, Some, Ok, Err, OnOk}
 use Rattle.core.specs.declared.result.Result.{Result}

@@ -1,4 +1,5 @@
--- What holds at null and at a pointer to a block holds of each handle. Assumes `Logic`.
+-- Cases of a handle's pointer: what holds of an empty handle at null, and of a handle with a value at a pointer into a
+-- block, holds of every handle. Assumes `Logic`.
 use Rattle.std.proofs.Common.{ℕ, [], ◌∷◌, sym, subst}
 use seplogic.Ra.Ura.{Ura}
 use mir.Raw.{raw as bare}
@@ -28,7 +29,7 @@ module _ {M : Type 1} {𝓤 : Ura M} (𝓛 : Logic 𝓤) (R : RattleType) (F : F
   module _ (none : ent 𝓤 (sem 𝓛 F) (Runs None null_ptr))
       (some_at : (x : R.Denot) (b o : ℕ) → Testable (block_ptr b o)
       → ent 𝓤 (Had (Some x) (block_ptr b o)) (Runs (Some x) (block_ptr b o))) where
-    -- nothing lies at null
+    -- a handle with a value is not null
     at_block : (x : R.Denot) (q : Ptr) → Testable q → ent 𝓤 (Had (Some x) q) (Runs (Some x) q)
     at_block x (block_ptr b o) may = some_at x b o may
     at_block x null_ptr may =

@@ -1,7 +1,7 @@
--- Texts of matrices behind handles, and matrices of texts.
---     plain-numbers     a list has the plain matrix of the integers that represent its values
---     put_meant         a matrix that was put and has the plain matrix of what a text means is behind the handle
---     text-rows         what is written for a matrix by rows is the text of its plain matrix
+-- Texts and plain matrices.
+-- - `plain-numbers`: a list of scalars has the plain matrix of the list of the integers that represent them
+-- - `put_meant`: a handle in which the matrix of a text was stored satisfies `HoldsMeaning`
+-- - `text-rows`: the text that is written for a CSR matrix is `text_of_plain` of its plain matrix
 use Rattle.std.proofs.Common.{◌≡◌, ℕ, List, [], ◌∷◌, ◌++◌, length, map, sym, ap, ◌∙◌, refl}
 use Rattle.std.specs.Prelude.{codes, ◌||◌, ℤ, Option, Some, Ok, Err, OnOk}
 use Rattle.core.specs.declared.result.Result.{Result}

@@ -1,10 +1,10 @@
--- Solves in an array, and the triangles that are solved with.
---     dense_over          numbers over a whole array are the values of a dense matrix
---     solved_over         a dense solution that is written over the array of its right side
---     solved_behind       the same of a triangle of the matrix behind a handle
---     upper_is_lower      a solve with the upper triangle is one with the lower triangle of the transpose
---     turned_rows, turned_cols     a square matrix that is turned has its size
---     singular_turned     a triangle is singular where the lower one of the turned matrix is
+-- Solves in place, and the triangles of a matrix and of its transpose.
+-- - `dense_over`: an array that is overwritten with all values of a dense matrix has its plain matrix
+-- - `solved_over`: a dense solution written over its right-hand side satisfies `SolvesInPlace`
+-- - `solved_behind`: the same for a triangle of the matrix that a handle holds
+-- - `upper_is_lower`: the upper triangle is the transpose of the lower triangle of the transpose
+-- - `turned_rows`, `turned_cols`: `turned` keeps the numbers of rows and columns of a square matrix
+-- - `singular_turned`: a triangle is singular if the lower triangle of the `turned` matrix is
 use Rattle.std.proofs.Common.{◌≡◌, ℕ, ℤ, ◌<◌, ◌*◌, List, length, map, take, ap, sym}
 use Rattle.std.proofs.Common.{Bool, true, false, subst, ◌∙◌, refl, arith}
 use Rattle.std.specs.Prelude.{not, Option, Some}

@@ -1,4 +1,4 @@
--- Factors L D Lᵀ behind handles.
+-- What a handle of factors L D Lᵀ holds, and the errors of calls with such handles.
 use Rattle.std.specs.Prelude.{◌≡◌, ◌⊎◌, ℕ, ℤ, pos, List, [], Option, None, Some}
 use Rattle.std.specs.Int.{w64}
 use Rattle.sparse_algebra.specs.Plain.{Plain, plain_of_triplets}
@@ -19,28 +19,28 @@ use Rattle.sparse_factor.specs.Factors.{diagonal, plain_of_factors, Factors}
 abbrev pub zero64 : W64
 zero64 = record { number = pos 0; in_range = fits_zero w64 }
 
--- the plain matrix L D Lᵀ of the factors behind a handle; with none, the one with no rows and no columns
+-- the plain matrix L D Lᵀ of the factors that a handle holds; of an empty handle, the one with no rows and no columns
 abbrev pub product_behind : Option (Factors W64) → Plain ring64
 product_behind None = plain_of_triplets ring64 w64_value 0 0 []
 product_behind (Some s) = plain_of_factors ring64 w64_value zero64 s
 
--- the handle has the factors L and D of the symmetric matrix whose entries on and above the diagonal are those of a
+-- the handle holds factors L and D of the symmetric matrix whose entries on and above the diagonal are those of a
 abbrev pub HoldsFactors : Option (Factors W64) → Plain ring64 → Type 0
 HoldsFactors handle a = (s : Factors W64) × (handle ≡ Some s)
     × IsFactorisation ring64 w64_value (plain_symmetric ring64 a)
     (plain_of_cols ring64 w64_value s.l) (diagonal ring64 w64_value zero64 s.d)
 
--- there is no square matrix, or no L and D are factors of the symmetric matrix
+-- the error of a factorisation: the handle holds no square matrix, or the symmetric matrix has no factors L and D
 abbrev pub IsUnfactored : Option (Compressed W64) → Refusal → Type 0
 IsUnfactored a refusal = IsNoSquare a refusal ⊎ ((refusal ≡ Singular)
     × ((l : Plain ring64) (d : ℕ → ring64.Carrier)
     → IsFactorisation ring64 w64_value (plain_symmetric ring64 (plain_behind a)) l d → ⊥))
 
--- the refusal of a handle with no factors
+-- the error of an empty handle of factors
 abbrev pub HasNoFactors : Option (Factors W64) → Refusal → Type 0
 HasNoFactors handle refusal = (refusal ≡ EmptyHandle) × (handle ≡ None)
 
--- the handle has no factors, or the right side with m columns has another number of values
+-- the error of a solve with factors: the handle is empty, or the right-hand side does not have m values for each row
 abbrev pub HasNoSystem : Option (Factors W64) → ℕ → List ℤ → Refusal → Type 0
 HasNoSystem handle m b refusal =
     HasNoFactors handle refusal ⊎ IsMissized (product_behind handle).rows m b refusal

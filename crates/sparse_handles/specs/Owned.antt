@@ -1,4 +1,4 @@
--- What a handle owns.
+-- The memory that a handle owns.
 use Rattle.std.specs.Prelude.{Option, None, Some}
 use base.Fml.{Fml, feq}
 use base.Stored.{Coded}
@@ -10,15 +10,15 @@ use Rattle.std_alloc.specs.declared.boxed.Box.{Box}
 use Rattle.std_heap.specs.contracts.GlobalAllocator.TheImpl.{ghosts}
 use Rattle.std_heap.specs.declared.Global.{Global}
 
--- the allocator, which has one value
+-- the global allocator; its type has one value
 abbrev pub heap : Global
 heap = record { memory = record { seal = tt } }
 
--- p points to a block of the heap with the value x, and the block may be freed
+-- p points to a heap block with the value x, and its owner may free the block
 abbrev pub in_block : (R : RattleType) → Ptr → R.Denot → Fml
 in_block = box_owns (ghosts.dealloc_token heap)
 
--- there is no value and p is null, or p points to a block of the heap with the value
+-- p is null and there is no value, or p points to an owned heap block with the value
 abbrev pub owns_at : (R : RattleType) → Ptr → Option R.Denot → Fml
 owns_at R p None = feq Ptr p null_ptr
 owns_at R p (Some x) = in_block R p x

@@ -1,4 +1,4 @@
--- Matrix Market texts, and the matrices behind handles.
+-- Matrix Market texts that are read into handles or written from the matrices that handles hold.
 use Rattle.std.specs.Prelude.{◌≡◌, ◌⊎◌, ◌<◌, ℕ, ℤ, pos, Ok}
 use Rattle.std.specs.Prelude.{Err, List, Option, codes, length, IsUtf8}
 use Rattle.std.specs.Fmt.{signed_decimal}
@@ -23,40 +23,40 @@ use Rattle.sparse_market_scalar.specs.ScalarTypes.{wrapping_scalar}
 use Rattle.sparse_parser.specs.Meaning.{Means}
 use Rattle.sparse_parser.specs.declared.error.MatrixMarketErrorKind.{MatrixMarketErrorKind}
 
--- the text means a list of integers, and the handle has its matrix
+-- the text means a list of integer triplets, and the handle holds the matrix of this list
 abbrev pub HoldsMeaning : Option (Compressed W64) → List ℕ → Type 0
 HoldsMeaning handle text = (m : Coo ℤ) × Means (wrapping_scalar w64) text (Ok m)
     × Holds handle (plain_of_coo ring64 (class_of w64) m)
 
--- the text has an error of this kind
+-- the error of a text that has an error
 abbrev pub IsTextError : List ℕ → Refusal → Type 0
 IsTextError text refusal = (kind : MatrixMarketErrorKind)
     × Means (wrapping_scalar w64) text (Err kind) × (refusal ≡ refusal_of_text kind)
 
--- the bytes are not UTF-8, or the text has an error
+-- the error of bytes that are not UTF-8, or of a text that has an error
 abbrev pub IsTextFault : List ℕ → Refusal → Type 0
 IsTextFault text refusal = ((refusal ≡ Unreadable) × (IsUtf8 text → ⊥)) ⊎ IsTextError text refusal
 
--- the text of a residue: the number from -2^63 to 2^63 - 1 that represents it
+-- the text of a residue: the decimal digits of its representative from -2^63 to 2^63 - 1
 abbrev pub residue_text : ring64.Carrier → List ℕ
 residue_text c = signed_decimal (number_of w64 c)
 
--- the text of a plain matrix: a line for each place, row by row
+-- the Matrix Market text of a plain matrix: a line for each place, row by row
 abbrev pub text_of_plain : Plain ring64 → List ℕ
 text_of_plain a = written_text (codes "integer") residue_text a.rows a.cols (row_order ring64 a)
 
--- the handle has no matrix, or the buffer is shorter than the text of its matrix
+-- the error of a call that writes a text: the handle is empty, or the buffer is shorter than the text of its matrix
 abbrev pub IsTextUnwritten : Option (Compressed W64) → List ℕ → Refusal → Type 0
 IsTextUnwritten a buffer refusal = IsEmpty a refusal ⊎ ((refusal ≡ TooSmall)
     × (length buffer < length (text_of_plain (plain_behind a))))
 
--- the length of the text is told where the buffer is too small for it, and otherwise not changed
+-- on the error TooSmall the variable for the length becomes the length of the text, on any other error it is unchanged
 abbrev pub TellsLength : Refusal → ℕ → ℕ → ℕ → Type 0
 TellsLength TooSmall length old new = new ≡ length
 TellsLength _ length old new = new ≡ old
 
--- the status of a call that writes the text of the matrix behind a handle, with the buffer and the
--- length before it and after it
+-- the status of a call that writes the text of the matrix that a handle holds, the buffer before and after the call,
+-- and the variable for the length of the text before and after it
 abbrev pub WritesText : ℤ → Option (Compressed W64) → List ℕ → List ℕ → ℕ → ℕ → Type 0
 WritesText status a before after old new = let text = text_of_plain (plain_behind a) in
     ((status ≡ pos 0) × HoldsText text after new × KeepsBehind new before after)

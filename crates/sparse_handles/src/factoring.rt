@@ -1,4 +1,4 @@
-//! Exact factors behind handles: made, shared, dropped, and systems solved with them.
+//! Exact factors L D Lᵀ held by handles: factorisation, solves, sharing and dropping.
 
 ghost use Rattle.std.specs.Prelude.{◌≡◌, Err, None, Some, IfErr, IfOk, OnOk, OnErr};
 ghost use Rattle.std.specs.Arc.{arc_value};
@@ -26,13 +26,13 @@ use std::alloc::Global;
 use std::mem;
 use std::sync::Arc;
 
-/// Puts the factors L and D of the symmetric matrix whose entries on and above the diagonal are those of the matrix
-/// behind `a` behind `out`.
+/// Stores in `out` the factors L and D of a symmetric matrix, whose entries on and above the diagonal are those of the
+/// matrix that `a` holds.
 ///
 /// # Errors
 ///
-/// Returns `EmptyHandle` if there is no matrix, `ShapeMismatch` if it is not square, and `Singular` if no factors exist.
-/// Otherwise fails only if an allocation fails. `out` is then unchanged.
+/// Returns `EmptyHandle` if `a` is empty, `ShapeMismatch` if its matrix is not square, and `Singular` if no factors
+/// exist. Otherwise fails only if an allocation fails. On an error `out` is unchanged.
 pub fn factor(alloc: Global, a: &mut MatrixHandle, out: &mut FactorHandle) -> Result<(), Refusal>
     ensures kept { a.new.value ≡ a.old.value }
     ensures missing { a.old.value ≡ None → result ≡ Err EmptyHandle }
@@ -45,13 +45,13 @@ pub fn factor(alloc: Global, a: &mut MatrixHandle, out: &mut FactorHandle) -> Re
     put_factors(alloc, factors, out)
 }
 
-/// Replaces B in an array by the X for which `L D Lᵀ X = B`, with the factors behind a handle. B and X have `cols`
-/// columns, one after the other.
+/// Solves `L D Lᵀ X = B` in place with the factors that a handle holds: `values` has the values of B before the call
+/// and those of X after it. B and X are dense matrices with `cols` columns, stored column by column.
 ///
 /// # Errors
 ///
-/// Returns `EmptyHandle` if there are no factors, and `InvalidStructure` if B has another number of values. Otherwise
-/// fails only if an allocation fails. The array is then unchanged.
+/// Returns `EmptyHandle` if the handle is empty, and `InvalidStructure` if `values` does not have `cols` values for
+/// each row of L. Otherwise fails only if an allocation fails. On an error `values` is unchanged.
 pub fn solve_factored(
     alloc: Global,
     handle: &mut FactorHandle,
@@ -72,11 +72,11 @@ pub fn solve_factored(
     Ok(())
 }
 
-/// Puts the factors behind `a` behind `out` too: both share them.
+/// Stores in `out` the factors that `a` holds: both handles share them.
 ///
 /// # Errors
 ///
-/// Returns `EmptyHandle` if there are none. Otherwise fails only if an allocation fails. `out` is then unchanged.
+/// Returns `EmptyHandle` if `a` is empty. Otherwise fails only if an allocation fails. On an error `out` is unchanged.
 pub fn share_factors(
     alloc: Global,
     a: &mut FactorHandle,
@@ -92,7 +92,7 @@ pub fn share_factors(
     put_shared(alloc, factors, out)
 }
 
-/// Drops the factors behind a handle, which has none from then on.
+/// Empties a handle, and drops the factors that it holds, if it holds any.
 pub fn clear_factors(alloc: Global, handle: &mut FactorHandle)
     ensures { handle.new.value ≡ None }
 {
@@ -100,7 +100,7 @@ pub fn clear_factors(alloc: Global, handle: &mut FactorHandle)
     discard(alloc, old);
 }
 
-// The factors of the symmetric matrix whose entries on and above the diagonal are those of a matrix.
+// Returns the factors of the symmetric matrix whose entries on and above the diagonal are those of `a`.
 fn factors_of(alloc: Global, a: &CsrMatrix<W64>) -> Result<Ldl<W64>, Refusal>
     ensures factors { IfOk result (λ s. IsFactorisation ring64 w64_value
         (plain_symmetric ring64 (plain_of_rows ring64 w64_value a.now))
@@ -113,7 +113,7 @@ fn factors_of(alloc: Global, a: &CsrMatrix<W64>) -> Result<Ldl<W64>, Refusal>
     Ok(factors)
 }
 
-// The factors behind a handle, which shares them.
+// Returns the factors that a handle holds, with shared ownership: the handle holds them too.
 fn shared_factors(alloc: Global, handle: &mut FactorHandle) -> Result<Arc<Ldl<W64>>, Refusal>
     ensures kept { handle.new.value ≡ handle.old.value }
     ensures missing { handle.old.value ≡ None → result ≡ Err EmptyHandle }
@@ -131,7 +131,8 @@ fn shared_factors(alloc: Global, handle: &mut FactorHandle) -> Result<Arc<Ldl<W6
     }
 }
 
-// Replaces the factors behind a handle. Fails only if an allocation fails; the handle is then unchanged.
+// Stores factors in a handle, in place of what the handle holds. Fails only if an allocation fails; the handle is then
+// unchanged.
 fn put_factors(alloc: Global, factors: Ldl<W64>, handle: &mut FactorHandle) -> Result<(), Refusal>
     ensures put { OnOk result (handle.new.value ≡ Some factors) }
     ensures unchanged { OnErr result (handle.new.value ≡ handle.old.value) }
@@ -146,8 +147,8 @@ fn put_factors(alloc: Global, factors: Ldl<W64>, handle: &mut FactorHandle) -> R
     }
 }
 
-// Replaces the factors behind a handle by those that others may share. Fails only if an allocation fails; the handle is
-// then unchanged.
+// Stores factors, which other handles may share, in a handle, in place of what the handle holds. Fails only if an
+// allocation fails; the handle is then unchanged.
 fn put_shared(
     alloc: Global,
     factors: Arc<Ldl<W64>>,
@@ -169,7 +170,7 @@ fn put_shared(
     }
 }
 
-// Replaces the factors behind a handle by those in a box.
+// Stores the factors of a box in a handle, in place of what the handle holds.
 fn put_box(alloc: Global, boxed: Box<SharedFactors>, handle: &mut FactorHandle)
     ensures { handle.new.value ≡ Some boxed.value }
 {
@@ -177,7 +178,7 @@ fn put_box(alloc: Global, boxed: Box<SharedFactors>, handle: &mut FactorHandle)
     discard(alloc, old);
 }
 
-// Drops the factors of a handle, if it has any.
+// Drops the factors that a handle holds, if it holds any.
 fn discard(alloc: Global, handle: FactorHandle) {
     if let Some(held) = handle.into_box(alloc) {
         drop(held);

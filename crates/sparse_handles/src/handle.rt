@@ -1,4 +1,4 @@
-//! The handles, and the matrix or the factors behind them.
+//! The handles of matrices and of factors, and the heap blocks that they own.
 
 ghost use Rattle.std.specs.Prelude.{◌≡◌, MatchOption, Option, None, Some};
 ghost use Rattle.sparse_algebra.specs.declared.scalar.wrapping.W64.{W64 as W64Value};
@@ -16,7 +16,7 @@ use std::marker::{Model, Send};
 use std::ptr;
 use std::sync::Arc;
 
-/// A matrix by rows over the integers modulo 2^64, which other handles may share.
+/// A CSR matrix over the integers modulo 2^64, which several handles may share.
 #[derive(Drop)]
 pub struct SharedMatrix {
     pub(crate) matrix: Arc<CsrMatrix<W64>>,
@@ -35,7 +35,7 @@ impl Model for SharedMatrix {
     ghost view = { λ s. arc_value s.matrix };
 }
 
-/// The address of a value in a block of the heap, with the right to free the block.
+/// An owned heap block: the address of its value, with the right to free the block.
 pub(crate) struct Block<T> {
     at: *mut T,
     pub ghost value: { T },
@@ -46,7 +46,7 @@ impl<T> Model for Block<T> {
 }
 
 impl<T: Drop> Block<T> {
-    /// Returns the block of a box.
+    /// Converts a box to the block that it owns.
     pub(crate) fn of(boxed: Box<T>) -> Block<T>
         ensures { result.value ≡ boxed.value }
     {
@@ -54,7 +54,7 @@ impl<T: Drop> Block<T> {
         Block { at }
     }
 
-    /// Returns the box of the value.
+    /// Converts the block back to a box.
     fn into_box(self, alloc: Global) -> Box<T>
         ensures { result.value ≡ self.value }
     {
@@ -63,7 +63,7 @@ impl<T: Drop> Block<T> {
     }
 }
 
-/// A matrix that the library owns, or none: what C holds as one pointer, which is null if there is none.
+/// The handle of a matrix: an opaque pointer for C, which owns a heap block with the matrix. An empty handle is null.
 #[repr(C)]
 pub struct MatrixHandle {
     at: *mut (),
@@ -74,11 +74,11 @@ impl Model for MatrixHandle {
     ghost also_owns = { λ h. owns_at matrix_row h.at h.value };
 }
 
-// A shared matrix may go to another thread, and so may its block.
+// A `SharedMatrix` may be sent to another thread, and so may the block that holds it.
 unsafe impl Send for MatrixHandle {}
 
 impl MatrixHandle {
-    /// Returns a handle with no matrix.
+    /// Returns an empty handle.
     pub(crate) fn empty() -> MatrixHandle
         ensures { result.value ≡ None }
     {
@@ -87,7 +87,7 @@ impl MatrixHandle {
         }
     }
 
-    /// Returns the handle of a matrix in a block.
+    /// Converts a block with a matrix to a handle.
     pub(crate) fn of(block: Block<SharedMatrix>) -> MatrixHandle
         ensures { result.value ≡ Some block.value }
     {
@@ -95,7 +95,7 @@ impl MatrixHandle {
         MatrixHandle { at: at as *mut () }
     }
 
-    /// Returns the box of the matrix, if there is one.
+    /// Returns a box with the matrix, or `None` if the handle is empty.
     pub(crate) fn into_box(self, alloc: Global) -> Option<Box<SharedMatrix>>
         ensures { value_of result ≡ self.value }
     {
@@ -105,7 +105,7 @@ impl MatrixHandle {
         }
     }
 
-    // Returns the block of the matrix, if there is one.
+    // Returns the block with the matrix, or `None` if the handle is empty.
     fn into_block(self) -> Option<Block<SharedMatrix>>
         ensures { MatchOption result (self.value ≡ None) (λ b. self.value ≡ Some b.value) }
     {
@@ -119,7 +119,7 @@ impl MatrixHandle {
     }
 }
 
-/// Factors L and D over the integers modulo 2^64, which other handles may share.
+/// Factors L and D over the integers modulo 2^64, which several handles may share.
 #[derive(Drop)]
 pub struct SharedFactors {
     pub(crate) factors: Arc<Ldl<W64>>,
@@ -138,7 +138,7 @@ impl Model for SharedFactors {
     ghost view = { λ s. arc_value s.factors };
 }
 
-/// Factors that the library owns, or none: what C holds as one pointer, which is null if there are none.
+/// The handle of factors: an opaque pointer for C, which owns a heap block with the factors. An empty handle is null.
 #[repr(C)]
 pub struct FactorHandle {
     at: *mut (),
@@ -149,11 +149,11 @@ impl Model for FactorHandle {
     ghost also_owns = { λ h. owns_at factors_row h.at h.value };
 }
 
-// Shared factors may go to another thread, and so may their block.
+// `SharedFactors` may be sent to another thread, and so may the block that holds them.
 unsafe impl Send for FactorHandle {}
 
 impl FactorHandle {
-    /// Returns a handle with no factors.
+    /// Returns an empty handle.
     pub(crate) fn empty() -> FactorHandle
         ensures { result.value ≡ None }
     {
@@ -162,7 +162,7 @@ impl FactorHandle {
         }
     }
 
-    /// Returns the handle of factors in a block.
+    /// Converts a block with factors to a handle.
     pub(crate) fn of(block: Block<SharedFactors>) -> FactorHandle
         ensures { result.value ≡ Some block.value }
     {
@@ -170,7 +170,7 @@ impl FactorHandle {
         FactorHandle { at: at as *mut () }
     }
 
-    /// Returns the box of the factors, if there are any.
+    /// Returns a box with the factors, or `None` if the handle is empty.
     pub(crate) fn into_box(self, alloc: Global) -> Option<Box<SharedFactors>>
         ensures { value_of result ≡ self.value }
     {
@@ -180,7 +180,7 @@ impl FactorHandle {
         }
     }
 
-    // Returns the block of the factors, if there are any.
+    // Returns the block with the factors, or `None` if the handle is empty.
     fn into_block(self) -> Option<Block<SharedFactors>>
         ensures { MatchOption result (self.value ≡ None) (λ b. self.value ≡ Some b.value) }
     {

@@ -1,4 +1,6 @@
-//! Matrices behind handles: what a program in C holds for a matrix that the library owns.
+//! Handles for C: opaque pointers to matrices and to exact factors that the library owns.
+//!
+//! A handle holds a matrix or factors, or is empty. Several handles may share what they hold.
 #![tactic(auto)]
 
 pub mod factoring;

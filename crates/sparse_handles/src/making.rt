@@ -1,4 +1,4 @@
-//! Handles of matrices out of arrays from outside.
+//! Matrices built from arrays of the caller (CSR arrays or triplets) and stored in handles.
 
 ghost use Rattle.std.specs.Prelude.{◌≡◌, IfErr, OnOk, OnErr};
 ghost use Rattle.sparse_coo_dense.specs.Coo.{AreParts};
@@ -15,11 +15,12 @@ use sparse_c_arrays::triplets::list_of;
 use sparse_convert::serial::convert_coo_csr;
 use std::alloc::Global;
 
-/// Puts the matrix with these arrays by rows behind `out`.
+/// Stores in `out` the matrix with these CSR arrays.
 ///
 /// # Errors
 ///
-/// Returns the first fault of the arrays. Otherwise fails only if an allocation fails. `out` is then unchanged.
+/// Returns the error of the first fault of the arrays, if they have one. Otherwise fails only if an allocation fails.
+/// On an error `out` is unchanged.
 pub fn put_rows(alloc: Global, a: Lanes<'_>, out: &mut MatrixHandle) -> Result<(), Refusal>
     ensures done { OnOk result (Holds out.new.value (plain_by_rows ring64 a.entry)) }
     ensures sound { OnOk result (IsSound a.entry) }
@@ -30,11 +31,12 @@ pub fn put_rows(alloc: Global, a: Lanes<'_>, out: &mut MatrixHandle) -> Result<(
     put(alloc, matrix, out)
 }
 
-/// Puts the matrix of triplets behind `out`. Values of triplets at the same place are added.
+/// Stores in `out` the matrix of a list of triplets. The values of triplets with the same row and column are added.
 ///
 /// # Errors
 ///
-/// Returns the first fault of the lists. Otherwise fails only if an allocation fails. `out` is then unchanged.
+/// Returns the error of the first fault of the lists, if they have one. Otherwise fails only if an allocation fails. On
+/// an error `out` is unchanged.
 pub fn put_triplets(
     alloc: Global,
     shape: (usize, usize),

@@ -1,4 +1,4 @@
-//! Transposes, sums and products of matrices behind handles.
+//! Transposes, sums and products of matrices held by handles.
 
 ghost use Rattle.std.specs.Prelude.{◌≡◌, Err, None, Some, IfErr, IfOk, IsErrAnd};
 ghost use Rattle.std.specs.Prelude.{OnOk, OnErr};
@@ -23,11 +23,11 @@ use sparse_sums::{add_csr, add_scaled_csr, scale_csr, sub_csr};
 use std::alloc::Global;
 use std::sync::Arc;
 
-/// Puts the matrix behind `a` behind `out` too: both share it.
+/// Stores in `out` the matrix that `a` holds: both handles share it.
 ///
 /// # Errors
 ///
-/// Returns `EmptyHandle` if there is none. Otherwise fails only if an allocation fails. `out` is then unchanged.
+/// Returns `EmptyHandle` if `a` is empty. Otherwise fails only if an allocation fails. On an error `out` is unchanged.
 pub fn share(alloc: Global, a: &mut MatrixHandle, out: &mut MatrixHandle) -> Result<(), Refusal>
     ensures kept { a.new.value ≡ a.old.value }
     ensures missing { a.old.value ≡ None → result ≡ Err EmptyHandle }
@@ -39,11 +39,11 @@ pub fn share(alloc: Global, a: &mut MatrixHandle, out: &mut MatrixHandle) -> Res
     put_shared(alloc, matrix, out)
 }
 
-/// Puts the transpose of the matrix behind `a` behind `out`.
+/// Stores in `out` the transpose of the matrix that `a` holds.
 ///
 /// # Errors
 ///
-/// Returns `EmptyHandle` if there is none. Otherwise fails only if an allocation fails. `out` is then unchanged.
+/// Returns `EmptyHandle` if `a` is empty. Otherwise fails only if an allocation fails. On an error `out` is unchanged.
 pub fn transpose(alloc: Global, a: &mut MatrixHandle, out: &mut MatrixHandle) -> Result<(), Refusal>
     ensures kept { a.new.value ≡ a.old.value }
     ensures missing { a.old.value ≡ None → result ≡ Err EmptyHandle }
@@ -57,11 +57,11 @@ pub fn transpose(alloc: Global, a: &mut MatrixHandle, out: &mut MatrixHandle) ->
     put(alloc, transpose, out)
 }
 
-/// Puts the product of a number and the matrix behind `a` behind `out`.
+/// Stores in `out` the matrix that `a` holds, times a number.
 ///
 /// # Errors
 ///
-/// Returns `EmptyHandle` if there is none. Otherwise fails only if an allocation fails. `out` is then unchanged.
+/// Returns `EmptyHandle` if `a` is empty. Otherwise fails only if an allocation fails. On an error `out` is unchanged.
 pub fn scale(
     alloc: Global,
     factor: i64,
@@ -80,12 +80,12 @@ pub fn scale(
     put(alloc, multiple, out)
 }
 
-/// Puts the sum of the matrices behind `a` and `b` behind `out`.
+/// Stores in `out` the sum of the matrices that `a` and `b` hold.
 ///
 /// # Errors
 ///
-/// Returns `EmptyHandle` if one of them is missing, and `ShapeMismatch` if their shapes differ. Otherwise fails only if
-/// an allocation fails. `out` is then unchanged.
+/// Returns `EmptyHandle` if `a` or `b` is empty, and `ShapeMismatch` if the shapes of their matrices differ. Otherwise
+/// fails only if an allocation fails. On an error `out` is unchanged.
 pub fn add(
     alloc: Global,
     a: &mut MatrixHandle,
@@ -106,12 +106,12 @@ pub fn add(
     put(alloc, sum, out)
 }
 
-/// Puts the difference of the matrices behind `a` and `b` behind `out`.
+/// Stores in `out` the difference `a - b` of the matrices that `a` and `b` hold.
 ///
 /// # Errors
 ///
-/// Returns `EmptyHandle` if one of them is missing, and `ShapeMismatch` if their shapes differ. Otherwise fails only if
-/// an allocation fails. `out` is then unchanged.
+/// Returns `EmptyHandle` if `a` or `b` is empty, and `ShapeMismatch` if the shapes of their matrices differ. Otherwise
+/// fails only if an allocation fails. On an error `out` is unchanged.
 pub fn subtract(
     alloc: Global,
     a: &mut MatrixHandle,
@@ -132,12 +132,12 @@ pub fn subtract(
     put(alloc, difference, out)
 }
 
-/// Puts the sum of multiples of the matrices behind `a` and `b` behind `out`.
+/// Stores in `out` the sum `alpha * a + beta * b` of multiples of the matrices that `a` and `b` hold.
 ///
 /// # Errors
 ///
-/// Returns `EmptyHandle` if one of them is missing, and `ShapeMismatch` if their shapes differ. Otherwise fails only if
-/// an allocation fails. `out` is then unchanged.
+/// Returns `EmptyHandle` if `a` or `b` is empty, and `ShapeMismatch` if the shapes of their matrices differ. Otherwise
+/// fails only if an allocation fails. On an error `out` is unchanged.
 pub fn add_scaled(
     alloc: Global,
     alpha: i64,
@@ -162,12 +162,12 @@ pub fn add_scaled(
     put(alloc, sum, out)
 }
 
-/// Puts the product of the matrices behind `a` and `b` behind `out`.
+/// Stores in `out` the product `a * b` of the matrices that `a` and `b` hold.
 ///
 /// # Errors
 ///
-/// Returns `EmptyHandle` if one of them is missing, and `ShapeMismatch` if the first has not as many columns as the
-/// second has rows. Otherwise fails only if an allocation fails. `out` is then unchanged.
+/// Returns `EmptyHandle` if `a` or `b` is empty, and `ShapeMismatch` if the number of columns of the first matrix is
+/// not the number of rows of the second. Otherwise fails only if an allocation fails. On an error `out` is unchanged.
 pub fn multiply(
     alloc: Global,
     a: &mut MatrixHandle,
@@ -192,7 +192,7 @@ pub fn multiply(
     put(alloc, product, out)
 }
 
-// Returns the matrices behind two handles, which share them and have one shape.
+// Returns the matrices that two handles hold, with shared ownership, or `ShapeMismatch` if their shapes differ.
 fn shared_alike(
     alloc: Global,
     a: &mut MatrixHandle,

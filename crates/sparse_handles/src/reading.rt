@@ -1,4 +1,4 @@
-//! The sizes and the arrays of matrices behind handles.
+//! The shape, the number of entries and the arrays of matrices held by handles.
 
 ghost use Rattle.std.specs.Prelude.{◌≡◌, Err, None, IfOk, IfErr, OnOk, OnErr};
 ghost use Rattle.sparse_c_arrays.specs.Arrays.{places_of, room_of, HoldsRows};
@@ -13,11 +13,11 @@ use sparse_c_arrays::refusal::Refusal;
 use sparse_c_arrays::writing::write_rows;
 use std::alloc::Global;
 
-/// Returns the numbers of rows, columns and places of the matrix behind `a`.
+/// Returns the numbers of rows, columns and entries of the matrix that `a` holds.
 ///
 /// # Errors
 ///
-/// Returns `EmptyHandle` if there is none.
+/// Returns `EmptyHandle` if `a` is empty. Otherwise fails only if the matrix has too many owners (`OutOfMemory`).
 pub fn sizes(alloc: Global, a: &mut MatrixHandle) -> Result<(usize, usize, usize), Refusal>
     ensures kept { a.new.value ≡ a.old.value }
     ensures missing { a.old.value ≡ None → result ≡ Err EmptyHandle }
@@ -30,11 +30,13 @@ pub fn sizes(alloc: Global, a: &mut MatrixHandle) -> Result<(usize, usize, usize
     Ok((a.nrows(), a.ncols(), a.nnz()))
 }
 
-/// Writes the matrix behind `a` into arrays by rows, and its number of places.
+/// Writes the CSR arrays of the matrix that `a` holds, and its number of entries to `places`. Longer arrays are
+/// unchanged after the arrays of the matrix.
 ///
 /// # Errors
 ///
-/// Returns `EmptyHandle` if there is none, and `TooSmall` if an array is too small. The arrays are then unchanged.
+/// Returns `EmptyHandle` if `a` is empty, and `TooSmall` if an array is too small. Otherwise fails only if the matrix
+/// has too many owners (`OutOfMemory`). On an error the arrays and `places` are unchanged.
 pub fn read(
     alloc: Global,
     a: &mut MatrixHandle,

@@ -1,4 +1,4 @@
-//! The matrix behind a handle, shared and replaced.
+//! The matrix that a handle holds: shared, replaced and dropped.
 
 ghost use Rattle.std.specs.Prelude.{◌≡◌, Err, None, Some, IfOk, IfErr, OnOk, OnErr};
 ghost use Rattle.std.specs.Arc.{arc_value};
@@ -14,11 +14,12 @@ use std::alloc::Global;
 use std::mem;
 use std::sync::Arc;
 
-/// Returns the matrix behind a handle, which shares it.
+/// Returns the matrix that a handle holds, with shared ownership: the handle holds it too.
 ///
 /// # Errors
 ///
-/// Returns `EmptyHandle` if the handle has no matrix. Otherwise fails only where the matrix has too many owners.
+/// Returns `EmptyHandle` if the handle is empty. Otherwise fails only if the matrix has too many owners
+/// (`OutOfMemory`).
 pub fn shared(alloc: Global, handle: &mut MatrixHandle) -> Result<Arc<CsrMatrix<W64>>, Refusal>
     ensures kept { handle.new.value ≡ handle.old.value }
     ensures missing { handle.old.value ≡ None → result ≡ Err EmptyHandle }
@@ -36,7 +37,7 @@ pub fn shared(alloc: Global, handle: &mut MatrixHandle) -> Result<Arc<CsrMatrix<
     }
 }
 
-/// Replaces the matrix behind a handle by one that others may share.
+/// Stores a matrix, which other handles may share, in a handle, in place of what the handle holds.
 ///
 /// Fails only if an allocation fails; the handle is then unchanged.
 pub fn put_shared(
@@ -60,7 +61,7 @@ pub fn put_shared(
     }
 }
 
-/// Replaces the matrix behind a handle.
+/// Stores a matrix in a handle, in place of what the handle holds.
 ///
 /// Fails only if an allocation fails; the handle is then unchanged.
 pub fn put(alloc: Global, matrix: CsrMatrix<W64>, handle: &mut MatrixHandle) -> Result<(), Refusal>
@@ -77,7 +78,7 @@ pub fn put(alloc: Global, matrix: CsrMatrix<W64>, handle: &mut MatrixHandle) -> 
     }
 }
 
-/// Drops the matrix behind a handle, which has none from then on.
+/// Empties a handle, and drops the matrix that it holds, if it holds one.
 pub fn clear(alloc: Global, handle: &mut MatrixHandle)
     ensures { handle.new.value ≡ None }
 {
@@ -85,7 +86,7 @@ pub fn clear(alloc: Global, handle: &mut MatrixHandle)
     discard(alloc, old);
 }
 
-// Replaces the matrix behind a handle by the one in a box.
+// Stores the matrix of a box in a handle, in place of what the handle holds.
 fn put_box(alloc: Global, boxed: Box<SharedMatrix>, handle: &mut MatrixHandle)
     ensures { handle.new.value ≡ Some boxed.value }
 {
@@ -93,7 +94,7 @@ fn put_box(alloc: Global, boxed: Box<SharedMatrix>, handle: &mut MatrixHandle)
     discard(alloc, old);
 }
 
-// Drops the matrix of a handle, if it has one.
+// Drops the matrix that a handle holds, if it holds one.
 fn discard(alloc: Global, handle: MatrixHandle) {
     if let Some(held) = handle.into_box(alloc) {
         drop(held);

@@ -1,4 +1,4 @@
-//! Solves with triangles of matrices behind handles, in the array of the right side.
+//! Triangular solves with matrices held by handles, in place in the array of the right-hand side.
 
 ghost use Rattle.std.specs.Prelude.{◌≡◌, ◌≢◌, ◌<◌, ◌*◌, length, None, Some};
 ghost use Rattle.std.specs.Prelude.{Err, IfOk, IfErr, OnOk, OnErr};
@@ -32,7 +32,7 @@ use sparse_products::transposes::transposed_csr;
 use sparse_with_dense::spsolve_csc_lower_triangular;
 use std::alloc::{AllocError, Global};
 
-/// The part of a matrix that a system of equations has.
+/// Which triangle of a matrix is the matrix of a system of equations.
 #[derive(Clone, Copy)]
 pub enum Triangle {
     /// The part on and below the diagonal.
@@ -41,14 +41,15 @@ pub enum Triangle {
     Upper,
 }
 
-/// Replaces B in an array by the X for which `T X = B`, or `Tᵀ X = B` where `transposed` is set: T is a triangle of the
-/// matrix behind `a`. B and X have `cols` columns, one after the other.
+/// Solves `T X = B`, or `Tᵀ X = B` if `transposed` is set, in place: T is a triangle of the matrix that `a` holds, and
+/// `values` has the values of B before the call and those of X after it. B and X are dense matrices with `cols`
+/// columns, stored column by column.
 ///
 /// # Errors
 ///
-/// Returns `EmptyHandle` if there is no matrix, `ShapeMismatch` if it is not square, `InvalidStructure` if B has another
-/// number of values, and `Singular` if there is a column to solve for and some entry of the diagonal is not stored or
-/// has no inverse. Otherwise fails only if an allocation fails. The array is then unchanged.
+/// Returns `EmptyHandle` if `a` is empty, `ShapeMismatch` if its matrix is not square, `InvalidStructure` if `values`
+/// does not have `cols` values for each row, and `Singular` if `cols` is not 0 and some diagonal entry is missing or
+/// has no inverse. Otherwise fails only if an allocation fails. On an error `values` is unchanged.
 pub fn solve_triangle(
     alloc: Global,
     a: &mut MatrixHandle,
@@ -71,7 +72,7 @@ pub fn solve_triangle(
     Ok(())
 }
 
-/// Returns the number of rows and columns of a square matrix.
+/// Returns the number of rows of a square matrix, which is its number of columns.
 ///
 /// # Errors
 ///
@@ -88,7 +89,7 @@ pub(crate) fn size_of(a: &CsrMatrix<W64>) -> Result<usize, Refusal>
     Ok(a.nrows())
 }
 
-/// Writes a dense matrix over an array with as many values.
+/// Overwrites an array with the values of a dense matrix, column by column. The array must have as many values.
 pub(crate) fn put_dense(x: &DMatrix<W64>, values: &mut [i64])
     requires { length values.old ≡ x.now.nrows * x.now.ncols }
     ensures { plain_by_values ring64 x.now.nrows x.now.ncols values.new
@@ -97,7 +98,7 @@ pub(crate) fn put_dense(x: &DMatrix<W64>, values: &mut [i64])
     put_scalars(values, x.as_slice());
 }
 
-// The X for which T X = B, or Tᵀ X = B: T is a triangle of the matrix.
+// Returns the X with T X = B, or with Tᵀ X = B if `transposed` is set: T is a triangle of `a`.
 fn solution(
     alloc: Global,
     a: &CsrMatrix<W64>,
@@ -121,7 +122,7 @@ fn solution(
     Ok(x)
 }
 
-// Replaces B by the solution with a triangle of a matrix, which is copied, or with its transpose.
+// Solves in place with a triangle of `a`, or with its transpose if `transposed` is set. The matrix is copied.
 fn solve_part(
     alloc: Global,
     a: &CsrMatrix<W64>,
@@ -144,8 +145,8 @@ fn solve_part(
     Ok(())
 }
 
-/// Returns the columns of a matrix, or of its transpose where its upper triangle is asked for: that is the lower one of
-/// the transpose, whose columns are the rows of the matrix.
+/// Returns, by columns, a matrix whose lower triangle can replace the given triangle of `a` in a solve: `a` itself for
+/// the lower triangle, and the transpose of `a` for the upper triangle, which is the transpose of its lower triangle.
 ///
 /// Fails only if an allocation fails.
 pub(crate) fn columns_of(
@@ -162,7 +163,7 @@ pub(crate) fn columns_of(
     }
 }
 
-// Whether the lower triangle of these columns is solved with as the transpose.
+// Returns whether the solve takes the transpose of the lower triangle of the matrix from `columns_of`.
 fn is_turned(triangle: Triangle, transposed: bool) -> bool
     ensures { (a : Plain ring64) → triangle_of Lower result (turned triangle a)
         ≡ triangle_of triangle transposed a }
@@ -173,7 +174,7 @@ fn is_turned(triangle: Triangle, transposed: bool) -> bool
     }
 }
 
-// Replaces B by the solution with the lower triangle of a matrix, or with its transpose.
+// Solves in place with the lower triangle of `l`, or with its transpose if `transposed` is set.
 fn substitute(
     l: &CscMatrix<W64>,
     transposed: bool,

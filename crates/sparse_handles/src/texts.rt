@@ -1,4 +1,4 @@
-//! Handles of matrices out of Matrix Market texts, and texts of matrices behind handles.
+//! Matrix Market texts, read into handles and written from the matrices that handles hold.
 
 ghost use Rattle.std.specs.Prelude.{◌≡◌, Err, None, IfErr, IfOk, OnOk, OnErr};
 ghost use Rattle.std.specs.Prelude.{length, string_bytes};
@@ -26,12 +26,12 @@ use sparse_io::{load_coo_from_matrix_market_str, save_to_matrix_market_str};
 use std::alloc::{AllocError, Global};
 use std::str;
 
-/// Puts the matrix of a text in Matrix Market format behind `out`. Values at the same place are added.
+/// Stores in `out` the matrix of a text in Matrix Market format. Values with the same row and column are added.
 ///
 /// # Errors
 ///
-/// Returns `Unreadable` if the bytes are not UTF-8, and otherwise the first error of the text. Otherwise fails only if an
-/// allocation fails. `out` is then unchanged.
+/// Returns `Unreadable` if the bytes are not UTF-8, and the first error of the text, if it has one. Otherwise fails
+/// only if an allocation fails. On an error `out` is unchanged.
 pub fn put_text(alloc: Global, text: &[u8], out: &mut MatrixHandle) -> Result<(), Refusal>
     ensures done { OnOk result (HoldsMeaning out.new.value text.now) }
     ensures unchanged { OnErr result (out.new.value ≡ out.old.value) }
@@ -43,7 +43,7 @@ pub fn put_text(alloc: Global, text: &[u8], out: &mut MatrixHandle) -> Result<()
     }
 }
 
-// Puts the matrix of a text behind `out`.
+// Stores in `out` the matrix of a text.
 fn put_lines(alloc: Global, text: &str, out: &mut MatrixHandle) -> Result<(), Refusal>
     ensures done { OnOk result (HoldsMeaning out.new.value text.now) }
     ensures unchanged { OnErr result (out.new.value ≡ out.old.value) }
@@ -54,13 +54,14 @@ fn put_lines(alloc: Global, text: &str, out: &mut MatrixHandle) -> Result<(), Re
     put(alloc, matrix, out)
 }
 
-/// Writes the text of the matrix behind `a` in Matrix Market format into a buffer, and its length. It has a line for
-/// each place.
+/// Writes the matrix that `a` holds as a text in Matrix Market format into a buffer, and the length of the text to
+/// `size`. The text has a line for each entry.
 ///
 /// # Errors
 ///
-/// Returns `EmptyHandle` if there is no matrix, and `TooSmall` if the buffer is shorter than the text: its length is
-/// then written all the same. Otherwise fails only if an allocation fails. The buffer is then unchanged.
+/// Returns `EmptyHandle` if `a` is empty, and `TooSmall` if the buffer is shorter than the text; `size` is then the
+/// length of the text. Otherwise fails only if an allocation fails. On an error the buffer is unchanged, and on any
+/// error but `TooSmall` so is `size`.
 pub fn write_text(
     alloc: Global,
     a: &mut MatrixHandle,
@@ -87,7 +88,7 @@ pub fn write_text(
     Ok(())
 }
 
-// The text of the matrix behind `a`.
+// Returns the text of the matrix that `a` holds.
 fn text_of(alloc: Global, a: &mut MatrixHandle) -> Result<String, Refusal>
     ensures kept { a.new.value ≡ a.old.value }
     ensures missing { a.old.value ≡ None → result ≡ Err EmptyHandle }
@@ -99,7 +100,7 @@ fn text_of(alloc: Global, a: &mut MatrixHandle) -> Result<String, Refusal>
     Ok(text_of_rows(alloc, &a)?)
 }
 
-// The text of a matrix.
+// Returns the text of a matrix.
 fn text_of_rows(alloc: Global, a: &CsrMatrix<W64>) -> Result<String, AllocError>
     ensures { IfOk result
         (λ text. string_bytes text ≡ text_of_plain (plain_of_rows ring64 w64_value a.now)) }

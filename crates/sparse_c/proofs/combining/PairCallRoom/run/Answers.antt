@@ -28,7 +28,7 @@ returns g c =
       arrays = record { offsets = refl; indices = refl; values = refl; places = refl };
     }
 
--- ---- a sum that is merged in the arrays
+-- ---- a sum that is merged straight into the output arrays
 
 pub returns-then-most-out-2 : goal.returns-then-most-out-2
 returns-then-most-out-2 g c =

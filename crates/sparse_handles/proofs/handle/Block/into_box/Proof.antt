@@ -1,4 +1,4 @@
--- `into_box` makes the box of the pointer again.
+-- `into_box` calls `Box::from_raw` with the pointer of the block.
 use Rattle.std.proofs.Common.{◌≡◌, List, [], ◌∷◌, ◌++◌, refl, sym, ap, subst}
 use base.Share
 use mir.MapTy.{inst_fn}
@@ -93,7 +93,7 @@ into_box_spec {M} 𝓤 𝓛 𝓜 𝓡 wired T L dx glue =
       drops = no_drop;
     })
     ! a z.0.4.1.0 (λ h eh fits.
-    -- [the allocator; nothing; the block; the token; nothing; the bound of κ]
+    -- hypotheses: [the allocator; true; the heap block; the token of the lifetime κ; true; the bound of κ]
     regoal ! (λ (ws : List Val). prop (WpFn 𝓤 H 𝓣.C 𝓣.Λ fn (ws ++ (z.0.4.1.0 ++ [])) Post)) eu
     refl $
     regoal ! (λ (ws : List Val). prop (WpFn 𝓤 H 𝓣.C 𝓣.Λ fn (word at ∷ (ws ++ [])) Post)) eh refl $
@@ -128,7 +128,7 @@ into_box_spec {M} 𝓤 𝓛 𝓜 𝓡 wired T L dx glue =
     ⊛ (raw (fact 𝓤 (d.value ≡ v.value)) ⊛ raw (fact 𝓤 (d.alloc ≡ a)))))))
     (id⊢ 𝓤 _) $ await ! tt $ pick ! (λ d. split ! $ split ! $ split3 ! $
     use2 𝓛 (‵ (flft κ q)) (𝓛.lfts.lft_join κ q) $ join ! $
-    -- [the token; the box; what the call ensures]
+    -- hypotheses: [the token of κ; the box; what the call ensures]
     move ! (1 ∷ []) $
     handle_tells (boxed R (param_laws 0 T L)) ! d (u ∷ []) (λ w is good.
     rewrite ! 0 (λ (ws : List Val). ‵ (Row.own_val d ws)) (sym is) refl $

@@ -1,4 +1,4 @@
--- `of` keeps the pointer of the box, and forgets the allocator.
+-- `of` calls `Box::into_raw` and returns a block with its pointer, without the allocator of the box.
 use Rattle.std.proofs.Common.{◌≡◌, List, [], ◌∷◌, ◌++◌, refl, ap}
 use base.Share
 use mir.MapTy.{inst_fn}
@@ -70,7 +70,7 @@ of_spec {M} 𝓤 𝓛 𝓜 𝓡 wired T L dx glue =
     ∷ raw ((c z.0.0 z.0.3).requires z.1) ∷ []) ∵
     split ! $ split ! $ move ! (2 ∷ []) $ fsplit ! $
     handle_tells (boxed R (param_laws 0 T L)) ! v z.0.4.0 (λ w is fits.
-    -- [the box; nothing; the token; nothing; the bound of κ]
+    -- hypotheses: [the box; true; the token of the lifetime κ; true; the bound of κ]
     let y : k.Ghost = (
       (
         (κ, (κ, tt)),
@@ -96,7 +96,7 @@ of_spec {M} 𝓤 𝓛 𝓜 𝓡 wired T L dx glue =
     some (λ (ls : Lasts Ce y.0.0 y.0.3). ‵ (lasts Ce y.0.0 y.0.3 ls) ⊛ ‵ (in_block R p v.value)))))
     (id⊢ 𝓤 _) $ await ! tt $ pick ! (λ p. split ! $ split ! $ split3 ! $
     use2 𝓛 (‵ (flft κ q)) (𝓛.lfts.lft_join κ q) $ join ! $
-    -- [the token; the pointer; what the call ensures]
+    -- hypotheses: [the token of κ; the pointer; what the call ensures]
     move ! (1 ∷ []) $ feq_l ! (λ eu. move ! (1 ∷ []) $ pick ! (λ ls. split ! $ drop ! $
     lands_as ! (ap only eu) refl (pointer_good p) $
     sets ! (agg ! (and_then ! (get ! refl) (no_more !))) refl (word_good p) $

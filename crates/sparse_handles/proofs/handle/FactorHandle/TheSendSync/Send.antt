@@ -1,5 +1,4 @@
--- A handle may go to another thread: shared factors may, and the heap frees a block from any
--- thread.
+-- `Send` for `FactorHandle`: shared factors may be sent to another thread, and any thread may free a heap block.
 use mir.Raw.{raw}
 use base.Shift.{Keyless}
 use denote.Builtin.{RawPtr}

@@ -1,4 +1,4 @@
--- `into_block` tests the pointer for null, and keeps it otherwise.
+-- `into_block` returns `None` at a null pointer, and otherwise a block with the pointer of the handle.
 use Rattle.std.proofs.Common.{◌≡◌, ℕ, List, [], ◌∷◌, ◌++◌, refl, sym, subst}
 use lib.Dec.{lit<}
 use seplogic.Ra.Ura.{Ura}
@@ -126,7 +126,7 @@ into_block_spec 𝓤 𝓛 𝓜 𝓡 wired =
     ∷ raw ((c z.0.0 z.0.3).requires z.1) ∷ []) ∵
     split ! $ move ! (1 ∷ []) $ fsplit ! $
     pointer_out ! d.at (owns_at shared_row d.at d.value) us (λ eu.
-    -- [the block or null; nothing; ..]
+    -- hypotheses: [what the handle owns; true; ..]
     keep ! (0 ∷ 1 ∷ []) $
     by ! (subst (λ (ws : List Val). ent 𝓤 Had (Run (ws ++ []))) (sym eu)
     (at_pointer 𝓛 shared_row ftrue (λ x q. Runs 𝓛 𝓜 𝓡 d.at us x q) (none 𝓛 𝓜 𝓡 d.at us)

@@ -1,4 +1,4 @@
--- `of` keeps the pointer.
+-- `of` returns a handle with the pointer of the block.
 use Rattle.std.proofs.Common.{◌≡◌, List, [], ◌∷◌, ◌++◌, refl}
 use mir.Val.{Val}
 use base.Logic.{emp}

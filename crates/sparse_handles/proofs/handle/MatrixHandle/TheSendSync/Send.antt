@@ -1,5 +1,4 @@
--- A handle may go to another thread: a shared matrix may, and the heap frees a block from any
--- thread.
+-- `Send` for `MatrixHandle`: a shared matrix may be sent to another thread, and any thread may free a heap block.
 use mir.Raw.{raw}
 use base.Shift.{Keyless}
 use denote.Builtin.{RawPtr}

@@ -1,4 +1,4 @@
--- `empty` makes a null pointer.
+-- `empty` returns a null pointer.
 use Rattle.std.proofs.Common.{[], ◌∷◌, refl}
 use lib.Dec.{lit<}
 use base.Fml.{ftrue}
