@@ -12,7 +12,6 @@ mod Triplets
 mod MergedLanes
 mod InOrder
 mod Apart
-mod Refusals
 mod StoredTriplets
 mod Reaching
 pub mod FullLanes

@@ -83,7 +83,7 @@ fn merge_lane<T: Ring>(lane: &[(usize, T)], indices: &mut Vec<usize>, values: &m
 }
 
 /// Returns the matrix of lanes of entries that are sorted by index. Entries with the same index are added.
-#[tactic(auto, using(crate::proofs::Refusals::refused))]
+#[tactic(auto, using(sparse_algebra::proofs::EarlyReturns::early_return))]
 pub(crate) fn merge_lanes<T: Ring>(
     alloc: Global,
     minor_dim: usize,

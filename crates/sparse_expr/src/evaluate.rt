@@ -85,7 +85,7 @@ fn owned<T: Ring>(alloc: Global, matrix: Rc<CsrMatrix<T>>) -> Result<CsrMatrix<T
 
 // The value of an expression as a CSR matrix, or that of its transpose if `transposed`. The functions that it calls are
 // not inlined, so that its stack frame stays small: it calls itself for each level of the expression.
-#[tactic(auto, using(sparse_products::proofs::Refusals::refused))]
+#[tactic(auto, using(sparse_algebra::proofs::EarlyReturns::early_return))]
 fn evaluate<T: Ring>(
     alloc: Global,
     expr: &Expr,

@@ -128,7 +128,7 @@ fn matrix_of<T: Ring>(
 }
 
 // Returns the matrix that is kept, or converts the list if there is none. Keeps it if uses are left.
-#[tactic(auto, using(sparse_products::proofs::Refusals::refused))]
+#[tactic(auto, using(sparse_algebra::proofs::EarlyReturns::early_return))]
 fn shared<T: Ring>(
     alloc: Global,
     list: &CooMatrix<T>,

@@ -127,7 +127,7 @@ fn flush<W: Sink>(sink: &mut W, text: &mut String) -> Result<(), MatrixMarketErr
 }
 
 // Appends a triplet to the buffer, which is written out first if it is full.
-#[tactic(auto, using(crate::proofs::Refusals::refused))]
+#[tactic(auto, using(sparse_algebra::proofs::EarlyReturns::early_return))]
 #[inline(always)]
 fn put_triplet<T, W>(
     sink: &mut W,
@@ -169,7 +169,7 @@ where
 ///
 /// Returns `IOError` with the kind of the first write that fails; short writes are continued. Returns `OutOfMemory` if
 /// an allocation fails. In both cases a prefix of the text has been written.
-#[tactic(auto, using(crate::proofs::Refusals::refused))]
+#[tactic(auto, using(sparse_algebra::proofs::EarlyReturns::early_return))]
 pub fn save_to_matrix_market<T, W, S>(
     alloc: Global,
     sink: &mut W,

@@ -11,5 +11,4 @@ mod LaneParts
 mod TakenRows
 mod Updating
 mod MadeProducts
-pub mod Refusals
 mod Transposing

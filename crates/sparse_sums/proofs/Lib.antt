@@ -9,4 +9,3 @@ pub mod UpdatedLanes
 mod InOrder
 pub mod Updating
 mod Sampling
-mod Refusals

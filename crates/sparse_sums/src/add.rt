@@ -122,7 +122,7 @@ pub fn sub_csc<T: Ring>(
 }
 
 // Returns the sum of two matrices with the same shape, or their difference if `NEGATE`.
-#[tactic(auto, using(crate::proofs::Refusals::refused))]
+#[tactic(auto, using(sparse_algebra::proofs::EarlyReturns::early_return))]
 fn sum_or_difference<T: Ring, const NEGATE: bool>(
     alloc: Global,
     a: &CsMatrix<T>,
@@ -151,7 +151,7 @@ fn sum_or_difference<T: Ring, const NEGATE: bool>(
 
 // Appends all lanes of the sum or the difference to empty arrays. This function and `append_lane` are inlined, because
 // a call takes as long as a short lane.
-#[tactic(auto, using(crate::proofs::Refusals::refused))]
+#[tactic(auto, using(sparse_algebra::proofs::EarlyReturns::early_return))]
 #[inline(always)]
 fn append_lanes<T: Ring, const NEGATE: bool>(
     a: &CsMatrix<T>,

@@ -67,7 +67,7 @@ fn append_rest<T: Ring, const NEGATE: bool>(
 // increasing order of index. Values with the same index are added.
 //
 // Fails only if an allocation fails.
-#[tactic(auto, using(crate::proofs::Refusals::refused))]
+#[tactic(auto, using(sparse_algebra::proofs::EarlyReturns::early_return))]
 pub(crate) fn merge_lanes<T: Ring, const NEGATE: bool>(
     a: &[usize],
     a_values: &[T],

@@ -15,7 +15,7 @@ use std::alloc::{AllocError, Global};
 ///
 /// Merges two sorted lanes for each lane of the result. Time is linear in the number of entries and lanes. Memory for
 /// the indices is allocated once, for as many as both patterns have together. Fails only if an allocation fails.
-#[tactic(auto, using(crate::proofs::Refusals::refused))]
+#[tactic(auto, using(sparse_algebra::proofs::EarlyReturns::early_return))]
 pub fn spadd_pattern(
     alloc: Global,
     a: &SparsityPattern,

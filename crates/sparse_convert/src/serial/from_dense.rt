@@ -67,7 +67,7 @@ fn push_column<T: Zero + Copy>(
 /// Returns the CSC matrix of the values that are not `==` to zero.
 ///
 /// One pass over the values. Fails only if an allocation fails.
-#[tactic(auto, using(crate::proofs::Refusals::refused))]
+#[tactic(auto, using(sparse_algebra::proofs::EarlyReturns::early_return))]
 pub fn convert_dense_csc<T: Zero + Copy>(
     alloc: Global,
     dense: &DMatrix<T>,
@@ -96,7 +96,7 @@ pub fn convert_dense_csc<T: Zero + Copy>(
 ///     Ok(csr.col_indices() == [1].as_slice())
 /// }
 /// ```
-#[tactic(auto, using(crate::proofs::Refusals::refused))]
+#[tactic(auto, using(sparse_algebra::proofs::EarlyReturns::early_return))]
 pub fn convert_dense_csr<T: Zero + Copy>(
     alloc: Global,
     dense: &DMatrix<T>,
@@ -114,7 +114,7 @@ pub fn convert_dense_csr<T: Zero + Copy>(
 
 // Returns the compressed matrix of the nonzero values. Lane i has at minor index k the value
 // `values[i * lane_step + k * step]`.
-#[tactic(auto, using(crate::proofs::Refusals::refused))]
+#[tactic(auto, using(sparse_algebra::proofs::EarlyReturns::early_return))]
 fn compress_lanes<T: Zero + Copy>(
     alloc: Global,
     major_dim: usize,
@@ -150,7 +150,7 @@ fn compress_lanes<T: Zero + Copy>(
 
 // Appends the indices and values of the nonzero values of a lane, whose value at minor index k is
 // `values[start + k * step]`.
-#[tactic(auto, using(crate::proofs::Refusals::refused))]
+#[tactic(auto, using(sparse_algebra::proofs::EarlyReturns::early_return))]
 fn push_lane<T: Zero + Copy>(
     values: &[T],
     start: usize,

@@ -50,7 +50,7 @@ pub fn convert_csc_coo<T: Copy>(
 }
 
 // Returns the lanes, the minor indices and the values of all entries, as three lists, lane by lane.
-#[tactic(auto, using(crate::proofs::Refusals::refused))]
+#[tactic(auto, using(sparse_algebra::proofs::EarlyReturns::early_return))]
 fn triplet_lists<T: Copy>(
     alloc: Global,
     cs: &CsMatrix<T>,

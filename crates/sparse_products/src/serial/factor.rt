@@ -62,7 +62,7 @@ impl<'a, T> Operands<'a, T> {
 }
 
 // Returns the matrices of a product by rows. Allocates only if an operand is transposed.
-#[tactic(auto, using(crate::proofs::Refusals::refused))]
+#[tactic(auto, using(sparse_algebra::proofs::EarlyReturns::early_return))]
 pub(super) fn csr_operands<'a, T: Ring>(
     alloc: Global,
     a: Op<&'a CsrMatrix<T>>,
@@ -83,7 +83,7 @@ pub(super) fn csr_operands<'a, T: Ring>(
 
 // Returns the matrices of a product by columns, in reverse order: with lanes as rows, `b * a` is the transpose of the
 // product. Allocates only if an operand is transposed.
-#[tactic(auto, using(crate::proofs::Refusals::refused))]
+#[tactic(auto, using(sparse_algebra::proofs::EarlyReturns::early_return))]
 pub(super) fn csc_operands<'a, T: Ring>(
     alloc: Global,
     a: Op<&'a CscMatrix<T>>,

@@ -29,7 +29,7 @@ use std::alloc::Global;
 /// Two binary searches in a row of `c` for each triple (i, k, j) with (i, k) in `op(a)` and (k, j) in `op(b)`: the
 /// first pass tests the pattern, the second adds. Allocates nothing if neither operand is transposed; otherwise the
 /// transposes are computed first.
-#[tactic(auto, using(crate::proofs::Refusals::refused))]
+#[tactic(auto, using(sparse_algebra::proofs::EarlyReturns::early_return))]
 pub fn spmm_csr_prealloc<T: Ring>(
     alloc: Global,
     beta: T,
@@ -77,7 +77,7 @@ pub fn spmm_csr_prealloc<T: Ring>(
 /// Two binary searches in a column of `c` for each triple (i, k, j) with (i, k) in `op(a)` and (k, j) in `op(b)`: the
 /// first pass tests the pattern, the second adds. Allocates nothing if neither operand is transposed; otherwise the
 /// transposes are computed first.
-#[tactic(auto, using(crate::proofs::Refusals::refused))]
+#[tactic(auto, using(sparse_algebra::proofs::EarlyReturns::early_return))]
 pub fn spmm_csc_prealloc<T: Ring>(
     alloc: Global,
     beta: T,

@@ -95,7 +95,7 @@ fn multiply<T: Ring>(
 
 // Returns the product without scratch memory of the length of a row: computes the pattern, then adds the terms to
 // zeros.
-#[tactic(auto, using(crate::proofs::Refusals::refused))]
+#[tactic(auto, using(sparse_algebra::proofs::EarlyReturns::early_return))]
 fn multiply_wide<T: Ring>(alloc: Global, factors: Factors<'_, T>) -> Result<CsMatrix<T>, AllocError>
     requires { CanMultiply factors }
     ensures { IfOk result

@@ -37,7 +37,7 @@ struct Rows<T> {
 }
 
 // Returns the product `a * b` of two matrices whose lanes are rows.
-#[tactic(auto, using(crate::proofs::Refusals::refused))]
+#[tactic(auto, using(sparse_algebra::proofs::EarlyReturns::early_return))]
 pub(super) fn multiply_rows<T: Ring>(
     alloc: Global,
     factors: Factors<'_, T>,
@@ -58,7 +58,7 @@ pub(super) fn multiply_rows<T: Ring>(
 }
 
 // Returns arrays of no rows, with capacity for `room` entries, or without capacity if that memory can't be had.
-#[tactic(auto, using(crate::proofs::Refusals::refused))]
+#[tactic(auto, using(sparse_algebra::proofs::EarlyReturns::early_return))]
 fn no_rows<T: Ring>(alloc: Global, major_dim: usize, room: usize) -> Result<Rows<T>, AllocError>
     ensures offsets { IfOk result (λ rows. rows.offsets.items ≡ 0 ∷ []) }
     ensures indices { IfOk result (λ rows. rows.indices.items ≡ []) }
@@ -123,7 +123,7 @@ fn count_indices(lane: &[usize], b: &SparsityPattern) -> usize
 
 // Appends row i of the product. The scratch set is empty and the scratch row is zero before and after. Inlined:
 // otherwise calls take half of the time for short rows.
-#[tactic(auto, using(crate::proofs::Refusals::refused))]
+#[tactic(auto, using(sparse_algebra::proofs::EarlyReturns::early_return))]
 #[inline(always)]
 fn push_row<T: Ring>(
     factors: Factors<'_, T>,

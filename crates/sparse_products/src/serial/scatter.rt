@@ -23,7 +23,7 @@ use std::alloc::{AllocError, Global};
 //
 // Gustavson's algorithm (1978): the terms of each row of the product are added in a scratch row as wide as the pattern,
 // and the sums are gathered at the indices of the pattern's row.
-#[tactic(auto, using(crate::proofs::Refusals::refused))]
+#[tactic(auto, using(sparse_algebra::proofs::EarlyReturns::early_return))]
 pub(super) fn scatter_rows<T: Ring>(
     alloc: Global,
     update: Update<'_, T>,

@@ -81,7 +81,7 @@ pub fn spmm_csr_prealloc_unchecked<T: Ring>(
 ///     Ok(square == matrix)
 /// }
 /// ```
-#[tactic(auto, using(crate::proofs::Refusals::refused))]
+#[tactic(auto, using(sparse_algebra::proofs::EarlyReturns::early_return))]
 pub fn spmm_csr_prealloc_unchecked_counted<T: Ring>(
     alloc: Global,
     beta: T,
@@ -131,7 +131,7 @@ pub fn spmm_csr_prealloc_unchecked_counted<T: Ring>(
 /// `op(b)`, and one for each entry of `op(a)` and of `c`. Scratch memory for one column of `c`; none if the column is
 /// longer than the number of entries of `c` and `op(a)` together: then each triple is added by a binary search. If an
 /// operand is transposed, its transpose is computed first.
-#[tactic(auto, using(crate::proofs::Refusals::refused))]
+#[tactic(auto, using(sparse_algebra::proofs::EarlyReturns::early_return))]
 pub fn spmm_csc_prealloc_unchecked<T: Ring>(
     alloc: Global,
     beta: T,
