@@ -5,7 +5,7 @@ use Rattle.sparse_algebra.specs.Plain.{Plain, plain_product}
 use Rattle.sparse_coo_dense.specs.DensePlain.{plain_full}
 use Rattle.sparse_c.specs.Rooms.{Shows}
 use Rattle.sparse_c.specs.Scalars.{Scalars}
-use Rattle.sparse_c.specs.declared.arguments.Factors.{Factors}
+use Rattle.sparse_c.specs.declared.arguments.DenseOperands.{DenseOperands}
 use Rattle.sparse_c.specs.declared.arguments.Numbers.{Numbers}
 use Rattle.sparse_c_arrays.specs.Arrays.{plain_by_rows, plain_by_values, HoldsDense}
 use Rattle.sparse_c_arrays.specs.Refused.{IsFaultOfSystem, IsRefusedFor, IsSystemSound}
@@ -37,12 +37,12 @@ abbrev pub IsDenseTooLong : ℕ → ℕ → List ℤ → Type 0
 IsDenseTooLong rows cols values = length values < rows * cols
 
 -- the product as a dense matrix: all pairs within its shape are places
-abbrev pub product_of : (R : CommRing) → Factors → Plain R
+abbrev pub product_of : (R : CommRing) → DenseOperands → Plain R
 product_of R f = plain_full R (plain_product R (plain_by_rows R f.a)
     (plain_by_values R f.inner f.cols f.b.now))
 
 -- the contract of a call that multiplies by a dense matrix
-abbrev pub MultipliesDense : Scalars → Factors → Numbers → Numbers → ℤ → Type 0
+abbrev pub MultipliesDense : Scalars → DenseOperands → Numbers → Numbers → ℤ → Type 0
 MultipliesDense S f = WritesNumbers S (IsSystemSound f.a f.inner f.cols f.b.now)
     (IsFaultOfSystem f.a f.inner f.cols f.b.now) (HoldsDense (product_of S.ring f))
     (IsDenseTooLong f.a.pattern.major_dim f.cols) (f.a.pattern.major_dim * f.cols)

@@ -91,7 +91,7 @@ pub(crate) struct Factored<'a> {
 /// The operands of a product with a dense matrix: a CSR matrix, and the values of a dense matrix with `inner` rows and
 /// `cols` columns.
 #[derive(Drop)]
-pub(crate) struct Factors<'a> {
+pub(crate) struct DenseOperands<'a> {
     pub(crate) a: Lanes<'a>,
     pub(crate) inner: usize,
     pub(crate) cols: usize,

@@ -31,7 +31,7 @@ impl<'a> Call<Room<'a>> for Pair<'_> {
     fn run<T: Number>(self, alloc: Global, out: &mut Room<'a>) -> i32 {
         let lanes = self.a.major_dim;
         let most = self.a.indices.len() + self.b.indices.len();
-        if let Some((alpha, beta)) = factors::<T>(self.how, self.alpha, self.beta) {
+        if let Some((alpha, beta)) = scales::<T>(self.how, self.alpha, self.beta) {
             if lanes < out.offsets.len() && most <= out.indices.len() && most <= out.values.len() {
                 let Pair { a, b, .. } = self;
                 let multiples = Multiples { alpha, a, beta, b };
@@ -48,7 +48,7 @@ impl<'a> Call<Room<'a>> for Pair<'_> {
 }
 
 // Returns the scales alpha and beta with which a combination is `alpha * a + beta * b`, or `None` for a product.
-fn factors<T: Number>(how: Combination, alpha: i64, beta: i64) -> Option<(T, T)>
+fn scales<T: Number>(how: Combination, alpha: i64, beta: i64) -> Option<(T, T)>
     ensures shapes { IfSome result (λ _. IsOfOneShape how) }
     ensures sum { IfSome result (λ f. IsSumOf T.ring how (element_of T.ring alpha)
         (element_of T.ring beta) (T.value f.0) (T.value f.1)) }

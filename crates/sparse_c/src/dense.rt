@@ -16,7 +16,7 @@ ghost use Rattle.sparse_c_arrays.specs.Refused.{IsSystemSound};
 ghost use Rattle.sparse_c_arrays.specs.Statuses.{number_of};
 ghost use Rattle.sparse_c_arrays.specs.declared.refusal.Refusal.TheVariants.{UnknownChoice};
 
-use crate::arguments::{Factors, Numbers, lanes};
+use crate::arguments::{DenseOperands, Numbers, lanes};
 use crate::moduli::{Call, by_modulus};
 use sparse_algebra::scalar::W64;
 use sparse_c_arrays::dense::dense_matrix_of;
@@ -48,14 +48,14 @@ pub extern "C" fn nalgebra_sparse_multiply_dense(
         (plain_by_values ring64 inner cols b_values.now)))) (IsDenseTooLong rows cols)
         (rows * cols) out_values.old out_values.new result }
 {
-    let factors = Factors {
+    let operands = DenseOperands {
         a: lanes!(rows, inner, a_offsets, a_indices, a_values),
         inner,
         cols,
         b: b_values,
     };
     let mut out = Numbers { values: out_values };
-    factors.run::<W64>(alloc, &mut out)
+    operands.run::<W64>(alloc, &mut out)
 }
 
 /// Writes the product of a CSR matrix and a dense matrix over the residues modulo a listed number.
@@ -82,17 +82,17 @@ pub extern "C" fn nalgebra_sparse_multiply_dense_mod(
     ensures reduced { Shows (IsReduced modulus) (rows * cols) out_values.new result }
     ensures unlisted { IsNoneOf moduli modulus → result ≡ number_of UnknownChoice }
 {
-    let factors = Factors {
+    let operands = DenseOperands {
         a: lanes!(rows, inner, a_offsets, a_indices, a_values),
         inner,
         cols,
         b: b_values,
     };
     let mut out = Numbers { values: out_values };
-    by_modulus(alloc, modulus, factors, &mut out)
+    by_modulus(alloc, modulus, operands, &mut out)
 }
 
-impl<'a> Call<Numbers<'a>> for Factors<'_> {
+impl<'a> Call<Numbers<'a>> for DenseOperands<'_> {
     ghost fits = { λ f. f.a.pattern.minor_dim ≡ f.inner };
 
     ghost does = { MultipliesDense };
@@ -108,17 +108,17 @@ impl<'a> Call<Numbers<'a>> for Factors<'_> {
 }
 
 // Returns the product of a CSR matrix and a dense matrix.
-fn dense_product<T: Number>(alloc: Global, factors: Factors<'_>) -> Result<DMatrix<T>, Refusal>
-    requires { factors.a.pattern.minor_dim ≡ factors.inner }
-    ensures plain { let f = factors.entry in IfOk result (λ d. plain_of_dense T.ring T.value d
+fn dense_product<T: Number>(alloc: Global, operands: DenseOperands<'_>) -> Result<DMatrix<T>, Refusal>
+    requires { operands.a.pattern.minor_dim ≡ operands.inner }
+    ensures plain { let f = operands.entry in IfOk result (λ d. plain_of_dense T.ring T.value d
         ≡ plain_full T.ring (plain_product T.ring (plain_by_rows T.ring f.a)
         (plain_by_values T.ring f.inner f.cols f.b.now))) }
-    ensures sound { let f = factors.entry in
+    ensures sound { let f = operands.entry in
         OnOk result (IsSystemSound f.a f.inner f.cols f.b.now) }
-    ensures fault { let f = factors.entry in
+    ensures fault { let f = operands.entry in
         IfErr result (IsMemoryOr (IsFaultOfSystem f.a f.inner f.cols f.b.now)) }
 {
-    let Factors { a, inner, cols, b } = factors;
+    let DenseOperands { a, inner, cols, b } = operands;
     let a = a.rows(alloc)?;
     let b = dense_matrix_of(alloc, inner, cols, b)?;
     Ok(mul_csr_dense(alloc, &a, &b)?)

@@ -6,7 +6,7 @@ use Rattle.sparse_c_arrays.specs.Reduced.{FirstAre}
 use Rattle.sparse_c_arrays.specs.Rests.{KeepsBehind}
 use Rattle.sparse_c_arrays.proofs.Faultless.{accepted, system_told}
 use Rattle.sparse_c_arrays.proofs.Joining.{found, refused}
-use Rattle.sparse_c.proofs.dense.FactorsCallNumbers.run.Goals as goal
+use Rattle.sparse_c.proofs.dense.DenseOperandsCallNumbers.run.Goals as goal
 
 pub returns : goal.returns
 returns g c =

@@ -1,7 +1,7 @@
 use Rattle.std.proofs.Common.{ap, ◌∙◌}
 use Rattle.sparse_algebra.specs.Integers.{element_of}
 use Rattle.sparse_c.proofs.Combined.{difference_of}
-use Rattle.sparse_c.proofs.combining.factors.Goals as goal
+use Rattle.sparse_c.proofs.combining.scales.Goals as goal
 
 pub returns-in-Difference-clause-sum : goal.returns-in-Difference-clause-sum
 returns-in-Difference-clause-sum g c =
