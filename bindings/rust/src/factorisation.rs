@@ -84,7 +84,7 @@ pub struct Factorisation {
     handle: UnsafeCell<FactorHandle>,
 }
 
-// SAFETY: `Send` is proved of the handle (crates/sparse_handles). It is not `Sync`, since a call writes its operand.
+// SAFETY: `Send` is proved of the handle (crates/c_handles). It is not `Sync`, since a call writes its operand.
 unsafe impl Send for Factorisation {}
 
 impl Factorisation {

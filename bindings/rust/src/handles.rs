@@ -27,7 +27,7 @@ pub struct Matrix {
     pub(crate) handle: UnsafeCell<Handle>,
 }
 
-// SAFETY: `Send` is proved of the handle (crates/sparse_handles). `Matrix` is not `Sync`, since a call writes its
+// SAFETY: `Send` is proved of the handle (crates/c_handles). `Matrix` is not `Sync`, since a call writes its
 // operand.
 unsafe impl Send for Matrix {}
 

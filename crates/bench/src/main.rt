@@ -20,11 +20,11 @@ fn main(rt: HostRuntime) -> Result<(), Fail> {
     for word in env::args(&rt)?.skip(1) {
         words.push(word)?;
     }
-    obey(&rt, &words)
+    run_args(&rt, &words)
 }
 
 // Does what the words after the program's name say.
-fn obey(rt: &HostRuntime, words: &[String]) -> Result<(), Fail> {
+fn run_args(rt: &HostRuntime, words: &[String]) -> Result<(), Fail> {
     match words {
         [task, path, reps] => print_best(rt, task.as_str(), path.as_str(), reps.as_str()),
         _ => Ok(println!(rt; "{USAGE}")?),

@@ -174,9 +174,9 @@ fn replaced_in_col<T: Scalar>(
 // The entry of a lane at an index in bounds, replaced in the slice of its values.
 fn replaced_at<T: Scalar>(indices: &[usize], values: &mut [T], index: usize, value: T) -> Entry<T> {
     match indices.binary_search(&index) {
-        Ok(position) if position < values.len() => {
-            let old = values[position];
-            values[position] = value;
+        Ok(offset) if offset < values.len() => {
+            let old = values[offset];
+            values[offset] = value;
             Some((old, true))
         }
         _ => Some((T::zero(), false)),

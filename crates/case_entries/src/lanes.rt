@@ -235,7 +235,7 @@ fn draw_cell<T: Scalar>(
     out: &mut String,
 ) -> Result<(), AllocError> {
     match indices.binary_search(&index) {
-        Ok(position) if position < values.len() => draw_number(values[position], out),
+        Ok(offset) if offset < values.len() => draw_number(values[offset], out),
         _ => out.push_str("."),
     }
 }

@@ -39,7 +39,7 @@ pub mod wrapping {
 }
 
 /// Discards the result of a call whose only purpose is its contract.
-pub use sparse_algebra::learn;
+pub use sparse_algebra::recall;
 /// Compressed matrices: `==`, entries, transposes, filters, order by rows and by columns.
 pub use sparse_compressed::laws as compressed;
 /// Expressions: words in postfix order denote at most one tree.
@@ -52,6 +52,6 @@ pub use sparse_laws::operations;
 /// Rings over other rings: the product rule, norms, the Chinese remainder theorem.
 pub use sparse_rings::laws as rings;
 /// Triangular systems: a solution is unique.
-pub use sparse_with_dense::laws as systems;
+pub use sparse_dense_ops::laws as systems;
 /// Views: the copy of a view of a matrix is that matrix.
 pub use sparse_views::laws as views;

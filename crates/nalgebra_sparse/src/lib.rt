@@ -15,7 +15,7 @@ pub use sparse_coo_dense::{coo, dense};
 pub use sparse_csr_csc::csc::CscMatrix;
 pub use sparse_csr_csc::csr::CsrMatrix;
 pub use sparse_csr_csc::{csc, csr};
-pub use sparse_data_structs as data;
+pub use sparse_serde as data;
 pub use sparse_expr as expr;
 pub use sparse_factor::{factorization, ldl};
 pub use sparse_pattern::entry::{SparseEntry, SparseEntryMut};

@@ -13,7 +13,7 @@ pub mod serial {
         add_csc, add_csr, add_scaled_csc, add_scaled_csr, neg_csc, neg_csr, scale_csc, scale_csr,
         spadd_csc_prealloc, spadd_csr_prealloc, spadd_pattern, sub_csc, sub_csr,
     };
-    pub use sparse_with_dense::{
+    pub use sparse_dense_ops::{
         axpy_csc_col, axpy_csr_row, div_scalar_csc, div_scalar_csr, div_scalar_mut_csc,
         div_scalar_mut_csr, dot_csc_col, dot_csr_row, mul_csc_dense, mul_csr_dense, spmm_csc_dense,
         spmm_csr_dense, spsolve_csc_lower_triangular, usaxpy, usdot,

@@ -37,13 +37,13 @@ module _ (R : CommRing) where
       sym (from_sum (R.mul e e) next R.one whole)
 
   -- an element whose residual 1 - p is zero is one
-  pub from_no_rest : (p : R.Carrier) → one_minus R p ≡ R.zero → p ≡ R.one
-  from_no_rest p e = sym (zero_add R p) ∙ ap (λ z. R.add z p) (sym e) ∙ one_minus-add p
+  pub one_from_no_residual : (p : R.Carrier) → one_minus R p ≡ R.zero → p ≡ R.one
+  one_from_no_residual p e = sym (zero_add R p) ∙ ap (λ z. R.add z p) (sym e) ∙ one_minus-add p
 
   -- one minus an odd element is even: 1 - (two q + 1) = two (-q)
-  pub odd_rest : (two q x : R.Carrier) → x ≡ R.add (R.mul two q) R.one
+  pub one_minus-odd : (two q x : R.Carrier) → x ≡ R.add (R.mul two q) R.one
       → one_minus R x ≡ R.mul two (R.neg q)
-  odd_rest two q x e =
+  one_minus-odd two q x e =
       let t : R.Carrier = R.mul two (R.neg q) in
       sym (from_sum t x R.one (ap (R.add t) e ∙ sym (R.laws.add_assoc t (R.mul two q) R.one)
       ∙ ap (λ z. R.add z R.one) (sym (R.laws.distrib two (R.neg q) q)

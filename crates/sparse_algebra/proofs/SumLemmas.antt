@@ -96,9 +96,9 @@ module _ (R : CommRing) where
           ∙ sum_below-same m _ _ (λ k _. R.laws.mul_comm (c l) (R.mul (a k) (b k l))
           ∙ R.laws.mul_assoc (a k) (b k l) (c l))
 
-reads_back : {X : Type 0} (l : List X) (i j : ℕ) (y d : X) → i < length l → get_or l j d ≡ y
+get_or_after_set : {X : Type 0} (l : List X) (i j : ℕ) (y d : X) → i < length l → get_or l j d ≡ y
     → get_or (set l i y) j d ≡ y
-reads_back l i j y d h q =
+get_or_after_set l i j y d h q =
     elim (cases_eq j i) [
       | inl e ↦ subst (λ k. get_or (set l i y) k d ≡ y) (sym e)
           (get_or-set_same l i y d h)
@@ -126,7 +126,7 @@ module _ (R : CommRing) where
         let l : List X = d ∷ ys in
         let x : X = get_or l i d in
         let y : X = get_or l j d in
-        let read = reads_back l i j y d h refl in
+        let read = get_or_after_set l i j y d h refl in
         let a = sum_by-set l i d y h in
         let b = sum_by-set (set l i y) j d x (rw length-set k) in
         cancel R (sum_by R f l) (sum_by R f (set (set l i y) j x)) (f y)

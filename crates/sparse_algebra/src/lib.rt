@@ -8,6 +8,6 @@ pub mod scalar;
 
 /// Discards the result of a call. The call only tells the prover its postcondition.
 ///
-/// In `learn(c.values())` the postcondition of `values` says that the arrays of `c` are sound. The result is a
+/// In `recall(c.values())` the postcondition of `values` says that the arrays of `c` are sound. The result is a
 /// reference that nobody reads, so the compiler removes both calls: they cost nothing when the program runs.
-pub fn learn<T: Copy>(_lent: T) {}
+pub fn recall<T: Copy>(_result: T) {}

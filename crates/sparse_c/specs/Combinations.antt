@@ -11,9 +11,9 @@ use Rattle.sparse_c.specs.declared.arguments.Combination.{Combination}
 use Rattle.sparse_c.specs.declared.arguments.Combination.TheVariants.{Sum, Difference}
 use Rattle.sparse_c.specs.declared.arguments.Combination.TheVariants.{Multiples, Product}
 use Rattle.sparse_c.specs.declared.arguments.Pair.{Pair}
-use Rattle.sparse_c.specs.declared.arguments.Room.{Room}
-use Rattle.sparse_c_arrays.specs.Arrays.{plain_by_rows}
-use Rattle.sparse_c_arrays.specs.Refused.{IsFaultOfPair}
+use Rattle.sparse_c.specs.declared.arguments.OutputArrays.{OutputArrays}
+use Rattle.c_arrays.specs.Arrays.{plain_by_rows}
+use Rattle.c_arrays.specs.Refused.{IsFaultOfPair}
 
 -- the matrices have the same shape
 abbrev pub HaveOneShape : Compressed ℤ → Compressed ℤ → Type 0
@@ -52,6 +52,6 @@ module _ (R : CommRing) where
       → combined_by how s a t b ≡ plain_sum R (plain_scaled R alpha a) (plain_scaled R beta b)
 
 -- the contract of a call that combines a pair: its ring, the arrays before and after the call, and its status
-abbrev pub Combines : Scalars → Pair → Room → Room → ℤ → Type 0
+abbrev pub Combines : Scalars → Pair → OutputArrays → OutputArrays → ℤ → Type 0
 Combines S p =
     WritesIn S (IsSound p.a × IsSound p.b) (IsFaultOfPair p.a p.b) (combination_of S.ring p)

@@ -7,11 +7,11 @@ use Rattle.sparse_c.specs.Rooms.{Shows}
 use Rattle.sparse_c.specs.Scalars.{Scalars}
 use Rattle.sparse_c.specs.declared.arguments.DenseOperands.{DenseOperands}
 use Rattle.sparse_c.specs.declared.arguments.Numbers.{Numbers}
-use Rattle.sparse_c_arrays.specs.Arrays.{plain_by_rows, plain_by_values, HoldsDense}
-use Rattle.sparse_c_arrays.specs.Refused.{IsFaultOfSystem, IsRefusedFor, IsSystemSound}
-use Rattle.sparse_c_arrays.specs.Rests.{KeepsBehind}
-use Rattle.sparse_c_arrays.specs.Statuses.{FindsNoFault}
-use Rattle.sparse_c_arrays.specs.declared.refusal.Refusal.{Refusal}
+use Rattle.c_arrays.specs.Arrays.{plain_by_rows, plain_by_values, HoldsDense}
+use Rattle.c_arrays.specs.Refused.{IsFaultOfSystem, IsRefusedFor, IsSystemSound}
+use Rattle.c_arrays.specs.Rests.{KeepsBehind}
+use Rattle.c_arrays.specs.Statuses.{FindsNoFault}
+use Rattle.c_arrays.specs.declared.refusal.Refusal.{Refusal}
 
 -- the contract of a call that writes n numbers to an array, with the array before and after the call, and its status.
 -- Sound: the operands have no fault; Fault: the error of their first fault; Holds: what is written to the array at

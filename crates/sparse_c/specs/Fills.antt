@@ -4,10 +4,10 @@ use Rattle.sparse_factor.specs.Fill.{InFill, StoresByColumns, TriangleBase}
 use Rattle.sparse_factor.specs.declared.factorization.Triangle.{Triangle}
 use Rattle.sparse_factor.specs.declared.factorization.Triangle.TheVariants.{Upper, Lower, Both}
 use Rattle.sparse_pattern.specs.Raw.{Raw, IsValid, nnz_of}
-use Rattle.sparse_c_arrays.specs.Arrays.{PatternRoom, HoldsPattern}
-use Rattle.sparse_c_arrays.specs.Refused.{IsFaultOfPattern, IsPatternTooSmall}
-use Rattle.sparse_c_arrays.specs.declared.refusal.Refusal.{Refusal}
-use Rattle.sparse_c_arrays.specs.declared.refusal.Refusal.TheVariants.{UnknownChoice}
+use Rattle.c_arrays.specs.Arrays.{PatternOutputArrays, HoldsPattern}
+use Rattle.c_arrays.specs.Refused.{IsFaultOfPattern, IsPatternTooSmall}
+use Rattle.c_arrays.specs.declared.refusal.Refusal.{Refusal}
+use Rattle.c_arrays.specs.declared.refusal.Refusal.TheVariants.{UnknownChoice}
 
 abbrev pub triangle_number : Triangle → ℤ
 triangle_number Upper = pos 0
@@ -36,11 +36,11 @@ abbrev pub CountsFill : ℤ → Raw → ℕ → Type 0
 CountsFill number pattern n = (l : Raw) × IsFillOf number pattern l × (n ≡ nnz_of l)
 
 -- the arrays start with the pattern of the fill
-abbrev pub WritesFill : ℤ → Raw → PatternRoom → Type 0
+abbrev pub WritesFill : ℤ → Raw → PatternOutputArrays → Type 0
 WritesFill number pattern room = (l : Raw) × IsFillOf number pattern l × HoldsPattern l room
 
 -- an array is too short for the pattern of the fill
-abbrev pub IsFillTooSmall : ℤ → Raw → PatternRoom → Type 0
+abbrev pub IsFillTooSmall : ℤ → Raw → PatternOutputArrays → Type 0
 IsFillTooSmall number pattern room =
     (l : Raw) × IsFillOf number pattern l × IsPatternTooSmall l room
 

@@ -1,7 +1,7 @@
 -- The moduli of calls, and the error of any other modulus.
 use Rattle.std.specs.Prelude.{◌≡◌, ◌≢◌, ◌⊎◌, ℕ, List, [], ◌∷◌}
-use Rattle.sparse_c_arrays.specs.declared.refusal.Refusal.{Refusal}
-use Rattle.sparse_c_arrays.specs.declared.refusal.Refusal.TheVariants.{UnknownChoice}
+use Rattle.c_arrays.specs.declared.refusal.Refusal.{Refusal}
+use Rattle.c_arrays.specs.declared.refusal.Refusal.TheVariants.{UnknownChoice}
 
 abbrev pub moduli : List ℕ
 moduli = 2 ∷ 3 ∷ 5 ∷ 7 ∷ 11 ∷ 13 ∷ 101 ∷ 65537 ∷ 998244353 ∷ 1000000007 ∷ 2305843009213693951 ∷ []

@@ -7,10 +7,10 @@ use Rattle.sparse_c.specs.Rooms.{WritesIn}
 use Rattle.sparse_c.specs.Scalars.{Scalars}
 use Rattle.sparse_c.specs.declared.arguments.Order.{Order}
 use Rattle.sparse_c.specs.declared.arguments.Order.TheVariants.{Rows, Columns}
-use Rattle.sparse_c.specs.declared.arguments.Room.{Room}
+use Rattle.sparse_c.specs.declared.arguments.OutputArrays.{OutputArrays}
 use Rattle.sparse_c.specs.declared.arguments.Triplets.{Triplets}
-use Rattle.sparse_c_arrays.specs.Arrays.{plain_of_lists}
-use Rattle.sparse_c_arrays.specs.Refused.{IsFaultOfList}
+use Rattle.c_arrays.specs.Arrays.{plain_of_lists}
+use Rattle.c_arrays.specs.Refused.{IsFaultOfList}
 
 module _ (R : CommRing) where
   -- the plain matrix of the CSR matrix that has the same arrays as the CSR or the CSC matrix of a
@@ -24,7 +24,7 @@ module _ (R : CommRing) where
       (plain_of_lists R t.rows t.cols t.row_indices.now t.col_indices.now t.values.now)
 
 -- the contract of a call that assembles triplets: its ring, the arrays before and after the call, and its status
-abbrev pub Assembles : Scalars → Triplets → Room → Room → ℤ → Type 0
+abbrev pub Assembles : Scalars → Triplets → OutputArrays → OutputArrays → ℤ → Type 0
 Assembles S t =
     WritesIn S (AreParts t.rows t.cols t.row_indices.now t.col_indices.now t.values.now)
     (IsFaultOfList t.rows t.cols t.row_indices.now t.col_indices.now t.values.now)

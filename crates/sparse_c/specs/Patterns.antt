@@ -2,9 +2,9 @@
 use Rattle.std.specs.Prelude.{◌≡◌, ◌⊎◌, ℕ, ℤ}
 use Rattle.sparse_products.specs.Products.{IsProductOf}
 use Rattle.sparse_pattern.specs.Raw.{Raw, IsValid, nnz_of}
-use Rattle.sparse_c_arrays.specs.Refused.{IsFaultOfPattern, IsMemoryOr}
-use Rattle.sparse_c_arrays.specs.Statuses.{number_of}
-use Rattle.sparse_c_arrays.specs.declared.refusal.Refusal.{Refusal}
+use Rattle.c_arrays.specs.Refused.{IsFaultOfPattern, IsOutOfMemoryOr}
+use Rattle.c_arrays.specs.Statuses.{number_of}
+use Rattle.c_arrays.specs.declared.refusal.Refusal.{Refusal}
 
 -- n is the number of entries of the pattern of the product of a and b
 pub record CountsProduct (a b : Raw) (n : ℕ) : Type 0 where
@@ -19,4 +19,4 @@ pub record CountsProduct (a b : Raw) (n : ℕ) : Type 0 where
 -- first fault of b if a has none
 abbrev pub IsPatternPairRefused : Raw → Raw → ℤ → Type 0
 IsPatternPairRefused a b status = (refusal : Refusal) × (status ≡ number_of refusal)
-    × IsMemoryOr (λ r. IsFaultOfPattern a r ⊎ (IsValid a × IsFaultOfPattern b r)) refusal
+    × IsOutOfMemoryOr (λ r. IsFaultOfPattern a r ⊎ (IsValid a × IsFaultOfPattern b r)) refusal

@@ -2,18 +2,18 @@
 use Rattle.std.specs.Prelude.{◌≡◌, ℕ, ℤ, pos, List}
 use Rattle.sparse_algebra.specs.Plain.{Plain}
 use Rattle.sparse_c.specs.Scalars.{Scalars}
-use Rattle.sparse_c.specs.declared.arguments.Room as borrowed
-use Rattle.sparse_c_arrays.specs.Arrays.{Room, room_of}
-use Rattle.sparse_c_arrays.specs.Reduced.{FirstAre}
-use Rattle.sparse_c_arrays.specs.Written.{WritesRows}
-use Rattle.sparse_c_arrays.specs.declared.refusal.Refusal.{Refusal}
+use Rattle.sparse_c.specs.declared.arguments.OutputArrays as borrowed
+use Rattle.c_arrays.specs.Arrays.{OutputArrays, output_arrays}
+use Rattle.c_arrays.specs.Reduced.{FirstAre}
+use Rattle.c_arrays.specs.Written.{WritesRows}
+use Rattle.c_arrays.specs.declared.refusal.Refusal.{Refusal}
 
 -- the contents of the arrays
-abbrev pub held_in : borrowed.Room → Room
-held_in r = room_of r.offsets.now r.indices.now r.values.now r.places.now
+abbrev pub held_in : borrowed.OutputArrays → OutputArrays
+held_in r = output_arrays r.offsets.now r.indices.now r.values.now r.places.now
 
 -- each field borrows the same array before and after a call
-pub record AreSameArrays (before after : borrowed.Room) : Type 0 where
+pub record AreSameArrays (before after : borrowed.OutputArrays) : Type 0 where
   pub offsets : after.offsets.ghost_name ≡ before.offsets.ghost_name
   pub indices : after.indices.ghost_name ≡ before.indices.ghost_name
   pub values : after.values.ghost_name ≡ before.values.ghost_name
@@ -25,13 +25,13 @@ pub record Shows (IsShown : ℤ → Type 0) (n : ℕ) (numbers : List ℤ) (stat
 
 -- the contract of a call over a ring: Answer is true of the contents of the arrays before and after the call and of its
 -- status, and the values written satisfy S.IsShown
-pub record AnswersIn (S : Scalars) (Answer : Room → Room → ℤ → Type 0)
-    (before after : borrowed.Room) (status : ℤ) : Type 0 where
+pub record AnswersIn (S : Scalars) (Answer : OutputArrays → OutputArrays → ℤ → Type 0)
+    (before after : borrowed.OutputArrays) (status : ℤ) : Type 0 where
   pub answer : Answer (held_in before) (held_in after) status
   pub shown : Shows S.IsShown after.places.now after.values.now status
   pub arrays : AreSameArrays before after
 
 -- the contract of a call that writes a CSR matrix with the plain matrix a
-abbrev pub WritesIn : (S : Scalars) → Type 0 → (Refusal → Type 0) → Plain S.ring → borrowed.Room
-    → borrowed.Room → ℤ → Type 0
+abbrev pub WritesIn : (S : Scalars) → Type 0 → (Refusal → Type 0) → Plain S.ring → borrowed.OutputArrays
+    → borrowed.OutputArrays → ℤ → Type 0
 WritesIn S Sound Fault a = AnswersIn S (WritesRows Sound (S.IsFault Fault) a)

@@ -5,8 +5,8 @@ use Rattle.sparse_algebra.specs.ModNumbers.{mod_value}
 use Rattle.sparse_algebra.specs.Moduli.{mod_ring}
 use Rattle.sparse_algebra.specs.declared.scalar.residues.Mod.{Mod}
 use Rattle.sparse_c.specs.Moduli.{IsFaultModulo}
-use Rattle.sparse_c_arrays.specs.Reduced.{IsReduced}
-use Rattle.sparse_c_arrays.specs.declared.refusal.Refusal.{Refusal}
+use Rattle.c_arrays.specs.Reduced.{IsReduced}
+use Rattle.c_arrays.specs.declared.refusal.Refusal.{Refusal}
 
 -- a ring; a type of scalars and the ring element that each represents; IsShown, the range of the integers that are
 -- written for scalars; and IsFault, the errors of a call whose operands have the errors Fault

@@ -5,21 +5,21 @@ use Rattle.sparse_algebra.specs.Algebra.{CommRing}
 use Rattle.sparse_algebra.specs.Inverses.{HasInverse}
 use Rattle.sparse_algebra.specs.Plain.{Plain, plain_scaled, plain_transpose}
 use Rattle.sparse_compressed.specs.Compressed.{Compressed, IsSound}
-use Rattle.sparse_with_dense.specs.Solutions.{plain_lower, IsSingular, IsSolution}
+use Rattle.sparse_dense_ops.specs.Solutions.{plain_lower, IsSingular, IsSolution}
 use Rattle.sparse_c.specs.Rooms.{AnswersIn}
 use Rattle.sparse_c.specs.Scalars.{Scalars}
 use Rattle.sparse_c.specs.declared.arguments.Quotient.{Quotient}
-use Rattle.sparse_c.specs.declared.arguments.Room as borrowed
-use Rattle.sparse_c_arrays.specs.Arrays.{plain_by_cols, plain_by_rows, plain_by_values}
-use Rattle.sparse_c_arrays.specs.Arrays.{places_of, Room, HoldsRows}
+use Rattle.sparse_c.specs.declared.arguments.OutputArrays as borrowed
+use Rattle.c_arrays.specs.Arrays.{plain_by_cols, plain_by_rows, plain_by_values}
+use Rattle.c_arrays.specs.Arrays.{place_count, OutputArrays, HoldsRows}
 use Rattle.sparse_algebra.specs.Integers.{element_of}
-use Rattle.sparse_c_arrays.specs.Refused.{IsFaultOf, IsFaultOfSystem, IsRefusedFor, IsSystemSound}
-use Rattle.sparse_c_arrays.specs.Refused.{IsTooSmall}
-use Rattle.sparse_c_arrays.specs.Rests.{KeepsRest}
-use Rattle.sparse_c_arrays.specs.Statuses.{number_of, FindsNoFault}
-use Rattle.sparse_c_arrays.specs.Untouched.{IsUntouched}
-use Rattle.sparse_c_arrays.specs.declared.refusal.Refusal.{Refusal}
-use Rattle.sparse_c_arrays.specs.declared.refusal.Refusal.TheVariants.{Singular, TooSmall}
+use Rattle.c_arrays.specs.Refused.{IsFaultOf, IsFaultOfSystem, IsRefusedFor, IsSystemSound}
+use Rattle.c_arrays.specs.Refused.{IsTooSmall}
+use Rattle.c_arrays.specs.Rests.{KeepsRest}
+use Rattle.c_arrays.specs.Statuses.{number_of, FindsNoFault}
+use Rattle.c_arrays.specs.Untouched.{IsUntouched}
+use Rattle.c_arrays.specs.declared.refusal.Refusal.{Refusal}
+use Rattle.c_arrays.specs.declared.refusal.Refusal.TheVariants.{Singular, TooSmall}
 
 module _ (R : CommRing) where
   -- a, or its transpose if the flag is set
@@ -53,17 +53,17 @@ module _ (R : CommRing) where
   IsQuotientBy s q a = (y : R.Carrier) × (R.mul s y ≡ R.one) × (q ≡ plain_scaled R y a)
 
   -- the arrays start with the quotient of the CSR matrix and the integer
-  unfoldable pub WritesQuotient : Compressed ℤ → ℤ → Room → Type 0
+  unfoldable pub WritesQuotient : Compressed ℤ → ℤ → OutputArrays → Type 0
   WritesQuotient a divisor room = (q : Plain R)
       × IsQuotientBy (element_of R divisor) q (plain_by_rows R a) × HoldsRows q room
 
   -- n is the number of places of a quotient
   abbrev pub CountsQuotient : Compressed ℤ → ℤ → ℕ → Type 0
   CountsQuotient a divisor n = (q : Plain R)
-      × IsQuotientBy (element_of R divisor) q (plain_by_rows R a) × (n ≡ places_of q)
+      × IsQuotientBy (element_of R divisor) q (plain_by_rows R a) × (n ≡ place_count q)
 
   -- there is a quotient for which an array is too short
-  abbrev pub IsQuotientTooSmall : Compressed ℤ → ℤ → Room → Type 0
+  abbrev pub IsQuotientTooSmall : Compressed ℤ → ℤ → OutputArrays → Type 0
   IsQuotientTooSmall a divisor room = (q : Plain R)
       × IsQuotientBy (element_of R divisor) q (plain_by_rows R a) × IsTooSmall q room
 
@@ -83,7 +83,7 @@ module _ (R : CommRing) {T : Type 0} (f : T → R.Carrier) where
 -- the contract of a call that divides a CSR matrix by an integer, with the arrays before and after the call, and its
 -- status. Fault: the error of the call
 pub record Divides (R : CommRing) (Fault : Refusal → Type 0) (a : Compressed ℤ) (divisor : ℤ)
-    (before after : Room) (status : ℤ) : Type 0 where
+    (before after : OutputArrays) (status : ℤ) : Type 0 where
   pub written : status ≡ pos 0 → WritesQuotient R a divisor after
   pub rest : status ≡ pos 0 → KeepsRest a.pattern.major_dim before after
   pub sound : FindsNoFault status → IsSound a
@@ -92,6 +92,6 @@ pub record Divides (R : CommRing) (Fault : Refusal → Type 0) (a : Compressed �
   pub refused : status ≢ pos 0 → IsRefusedFor Fault (IsQuotientTooSmall R a divisor before) status
 
 -- the same for a call over a ring, which writes only numbers that satisfy S.IsShown
-abbrev pub DividesIn : Scalars → Quotient → borrowed.Room → borrowed.Room → ℤ → Type 0
+abbrev pub DividesIn : Scalars → Quotient → borrowed.OutputArrays → borrowed.OutputArrays → ℤ → Type 0
 DividesIn S q = AnswersIn S (Divides S.ring
     (S.IsFault (IsFaultOfQuotient S.ring S.value q.a q.divisor)) q.a q.divisor)

@@ -5,12 +5,12 @@ use Rattle.sparse_algebra.specs.Algebra.{CommRing}
 use Rattle.sparse_algebra.specs.Plain.{Plain, plain_product}
 use Rattle.sparse_compressed.specs.Compressed.{Compressed}
 use Rattle.sparse_factor.specs.Factorisations.{plain_symmetric, IsFactorisation}
-use Rattle.sparse_with_dense.specs.Solutions.{HasSameValues}
+use Rattle.sparse_dense_ops.specs.Solutions.{HasSameValues}
 use Rattle.sparse_c.specs.Solved.{HoldsMatrix, IsMatrixTooLong}
-use Rattle.sparse_c_arrays.specs.Arrays.{plain_by_cols}
-use Rattle.sparse_c_arrays.specs.Refused.{IsFaultOfSystem, IsSystemSound}
-use Rattle.sparse_c_arrays.specs.declared.refusal.Refusal.{Refusal}
-use Rattle.sparse_c_arrays.specs.declared.refusal.Refusal.TheVariants.{Singular}
+use Rattle.c_arrays.specs.Arrays.{plain_by_cols}
+use Rattle.c_arrays.specs.Refused.{IsFaultOfSystem, IsSystemSound}
+use Rattle.c_arrays.specs.declared.refusal.Refusal.{Refusal}
+use Rattle.c_arrays.specs.declared.refusal.Refusal.TheVariants.{Singular}
 
 module _ (R : CommRing) where
   -- A: the symmetric matrix whose entries on and above the diagonal are those of the CSC matrix

@@ -3,7 +3,7 @@ use Rattle.std.specs.Prelude.{◌*◌, ℕ, ℤ, List}
 use Rattle.sparse_algebra.specs.Algebra.{CommRing}
 use Rattle.sparse_algebra.specs.Plain.{Plain}
 use Rattle.sparse_compressed.specs.Compressed.{Compressed}
-use Rattle.sparse_with_dense.specs.Solutions.{IsSolution}
+use Rattle.sparse_dense_ops.specs.Solutions.{IsSolution}
 use Rattle.sparse_c.specs.Dense.{WritesNumbers}
 use Rattle.sparse_c.specs.Scalars.{Scalars}
 use Rattle.sparse_c.specs.Solved.{lower_of, HoldsMatrix, IsFaultOfLower, IsMatrixTooLong}
@@ -12,9 +12,9 @@ use Rattle.sparse_c.specs.declared.arguments.Equation.{Equation}
 use Rattle.sparse_c.specs.declared.arguments.Equation.TheVariants.{Lower, Symmetric}
 use Rattle.sparse_c.specs.declared.arguments.Numbers.{Numbers}
 use Rattle.sparse_c.specs.declared.arguments.System.{System}
-use Rattle.sparse_c_arrays.specs.Arrays.{plain_by_values}
-use Rattle.sparse_c_arrays.specs.Refused.{IsSystemSound}
-use Rattle.sparse_c_arrays.specs.declared.refusal.Refusal.{Refusal}
+use Rattle.c_arrays.specs.Arrays.{plain_by_values}
+use Rattle.c_arrays.specs.Refused.{IsSystemSound}
+use Rattle.c_arrays.specs.declared.refusal.Refusal.{Refusal}
 
 -- x solves the equation with the CSC matrix a and the right-hand side b, which has n rows and m columns
 abbrev pub Solves : (R : CommRing) → Equation → Compressed ℤ → Plain R → Plain R → ℕ → ℕ → Type 0

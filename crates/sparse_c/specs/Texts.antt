@@ -7,10 +7,10 @@ use Rattle.sparse_io.specs.Written.{text_of}
 use Rattle.sparse_market_scalar.specs.ScalarTypes.{wrapping_scalar}
 use Rattle.sparse_parser.specs.Meaning.{Means}
 use Rattle.sparse_parser.specs.declared.error.MatrixMarketErrorKind.{MatrixMarketErrorKind}
-use Rattle.sparse_c_arrays.specs.Lists.{ListRoom, HoldsList, IsListTooSmall}
-use Rattle.sparse_c_arrays.specs.Statuses.{refusal_of_text}
-use Rattle.sparse_c_arrays.specs.declared.refusal.Refusal.{Refusal}
-use Rattle.sparse_c_arrays.specs.declared.refusal.Refusal.TheVariants.{Unreadable}
+use Rattle.c_arrays.specs.Lists.{ListOutputArrays, HoldsList, IsListTooSmall}
+use Rattle.c_arrays.specs.Statuses.{refusal_of_text}
+use Rattle.c_arrays.specs.declared.refusal.Refusal.{Refusal}
+use Rattle.c_arrays.specs.declared.refusal.Refusal.TheVariants.{Unreadable}
 
 -- the text means the list m of integer triplets
 abbrev pub IsTextOf : List ℕ → Coo ℤ → Type 0
@@ -29,11 +29,11 @@ abbrev pub CountsText : List ℕ → ℕ → Type 0
 CountsText text n = (m : Coo ℤ) × IsTextOf text m × (n ≡ length m.triplets)
 
 -- the arrays start with the triplets of the list that the text means
-abbrev pub WritesTriplets : List ℕ → ListRoom → Type 0
+abbrev pub WritesTriplets : List ℕ → ListOutputArrays → Type 0
 WritesTriplets text room = (m : Coo ℤ) × IsTextOf text m × HoldsList m room
 
 -- an array is too short for the triplets of the list that the text means
-abbrev pub IsTextTooLong : List ℕ → ListRoom → Type 0
+abbrev pub IsTextTooLong : List ℕ → ListOutputArrays → Type 0
 IsTextTooLong text room = (m : Coo ℤ) × IsTextOf text m × IsListTooSmall m room
 
 -- the error of bytes that are not UTF-8

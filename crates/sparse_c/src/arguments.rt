@@ -6,11 +6,11 @@
 ghost use Rattle.std.specs.Int.{w64};
 ghost use Rattle.std.specs.Int.RustNames.{FitsSigned};
 
-use sparse_c_arrays::lanes::Lanes;
+use c_arrays::lanes::Lanes;
 
 /// The output arrays for a CSR matrix, and the variable for its number of entries, borrowed from C.
 #[derive(Drop)]
-pub(crate) struct Room<'a> {
+pub(crate) struct OutputArrays<'a> {
     pub(crate) offsets: &'a mut [usize],
     pub(crate) indices: &'a mut [usize],
     pub(crate) values: &'a mut [i64],
@@ -20,7 +20,7 @@ pub(crate) struct Room<'a> {
 /// The output arrays for the columns of L and the diagonal of D, and the variable for the number of entries of L,
 /// borrowed from C.
 #[derive(Drop)]
-pub(crate) struct FactorRoom<'a> {
+pub(crate) struct FactorOutputArrays<'a> {
     pub(crate) offsets: &'a mut [usize],
     pub(crate) indices: &'a mut [usize],
     pub(crate) values: &'a mut [i64],
@@ -117,10 +117,10 @@ pub(crate) struct System<'a> {
     pub(crate) b: &'a [i64],
 }
 
-// Builds a `Room`.
+// Builds a `OutputArrays`.
 macro_rules! room {
     ($offsets:expr, $indices:expr, $values:expr, $places:expr) => {
-        crate::arguments::Room {
+        crate::arguments::OutputArrays {
             offsets: $offsets,
             indices: $indices,
             values: $values,
@@ -132,7 +132,7 @@ macro_rules! room {
 // Builds the `Lanes` of a CSR or a CSC matrix.
 macro_rules! lanes {
     ($major_dim:expr, $minor_dim:expr, $offsets:expr, $indices:expr, $values:expr) => {
-        sparse_c_arrays::lanes::Lanes {
+        c_arrays::lanes::Lanes {
             major_dim: $major_dim,
             minor_dim: $minor_dim,
             offsets: $offsets,

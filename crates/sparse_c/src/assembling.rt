@@ -4,25 +4,25 @@ ghost use Rattle.std.specs.Prelude.{◌≡◌, IfOk, IfErr, OnOk};
 ghost use Rattle.sparse_algebra.specs.Moduli.{mod_ring};
 ghost use Rattle.sparse_coo_dense.specs.Coo.{AreParts};
 ghost use Rattle.sparse_compressed.specs.PlainOfLanes.{plain_of_rows};
-ghost use Rattle.sparse_c.specs.InnerListed.{rows_listed, rows_unlisted};
+ghost use Rattle.sparse_c.specs.InnerModulusLaws.{rows_listed, rows_unlisted};
 ghost use Rattle.sparse_c.specs.Orders.{assembly_of, Assembles};
-ghost use Rattle.sparse_c_arrays.specs.Refused.{IsFaultOfList, IsMemoryOr};
+ghost use Rattle.c_arrays.specs.Refused.{IsFaultOfList, IsOutOfMemoryOr};
 
-use crate::arguments::{Order, Room, Triplets};
+use crate::arguments::{Order, OutputArrays, Triplets};
 use crate::moduli::Call;
-use sparse_c_arrays::number::Number;
-use sparse_c_arrays::refusal::Refusal;
-use sparse_c_arrays::triplets::list_of;
-use sparse_c_arrays::writing::finish_rows;
+use c_arrays::number::Number;
+use c_arrays::refusal::Refusal;
+use c_arrays::triplets::list_of;
+use c_arrays::writing::finish_rows;
 use sparse_convert::serial::{convert_coo_csc, convert_coo_csr};
 use sparse_csr_csc::csr::CsrMatrix;
 use std::alloc::Global;
 
-impl<'a> Call<Room<'a>> for Triplets<'_> {
+impl<'a> Call<OutputArrays<'a>> for Triplets<'_> {
     ghost does = { Assembles };
 
     /// Writes the matrix of the triplets. The values of triplets with the same row and column are added.
-    fn run<T: Number>(self, alloc: Global, out: &mut Room<'a>) -> i32 {
+    fn run<T: Number>(self, alloc: Global, out: &mut OutputArrays<'a>) -> i32 {
         let answer = assembled::<T>(alloc, self);
         finish_rows(answer, out.offsets, out.indices, out.values, out.places)
     }
@@ -38,7 +38,7 @@ fn assembled<T: Number>(alloc: Global, triplets: Triplets<'_>) -> Result<CsrMatr
         (λ m. plain_of_rows T.ring T.value m ≡ assembly_of T.ring triplets.entry) }
     ensures sound { let t = triplets.entry in OnOk result
         (AreParts t.rows t.cols t.row_indices.now t.col_indices.now t.values.now) }
-    ensures fault { let t = triplets.entry in IfErr result (IsMemoryOr
+    ensures fault { let t = triplets.entry in IfErr result (IsOutOfMemoryOr
         (IsFaultOfList t.rows t.cols t.row_indices.now t.col_indices.now t.values.now)) }
 {
     let Triplets {

@@ -7,28 +7,28 @@ ghost use Rattle.sparse_compressed.specs.Compressed.{IsSound};
 ghost use Rattle.sparse_compressed.specs.PlainOfLanes.{plain_of_rows};
 ghost use Rattle.sparse_c.specs.Combinations.{combination_of, CanCombine, Combines};
 ghost use Rattle.sparse_c.specs.Combinations.{IsOfOneShape, IsSumOf};
-ghost use Rattle.sparse_c.specs.InnerListed.{rows_listed, rows_unlisted};
-ghost use Rattle.sparse_c_arrays.specs.Refused.{IsFaultOfPair, IsMemoryOr};
+ghost use Rattle.sparse_c.specs.InnerModulusLaws.{rows_listed, rows_unlisted};
+ghost use Rattle.c_arrays.specs.Refused.{IsFaultOfPair, IsOutOfMemoryOr};
 
-use crate::arguments::{Combination, Pair, Room};
+use crate::arguments::{Combination, Pair, OutputArrays};
 use crate::moduli::Call;
-use sparse_c_arrays::number::Number;
-use sparse_c_arrays::refusal::Refusal;
-use sparse_c_arrays::sums::{Multiples, write_sum};
-use sparse_c_arrays::writing::finish_rows;
+use c_arrays::number::Number;
+use c_arrays::refusal::Refusal;
+use c_arrays::sums::{Multiples, write_sum};
+use c_arrays::writing::finish_rows;
 use sparse_csr_csc::csr::CsrMatrix;
 use sparse_products::serial::mul_csr;
 use sparse_sums::{add_csr, add_scaled_csr, sub_csr};
 use std::alloc::Global;
 
-impl<'a> Call<Room<'a>> for Pair<'_> {
+impl<'a> Call<OutputArrays<'a>> for Pair<'_> {
     ghost fits = { CanCombine };
 
     ghost does = { Combines };
 
     /// Writes the combination of two CSR matrices. If the output arrays have room for the entries of both operands, a
     /// sum is merged straight into them, without an allocation.
-    fn run<T: Number>(self, alloc: Global, out: &mut Room<'a>) -> i32 {
+    fn run<T: Number>(self, alloc: Global, out: &mut OutputArrays<'a>) -> i32 {
         let lanes = self.a.major_dim;
         let most = self.a.indices.len() + self.b.indices.len();
         if let Some((alpha, beta)) = scales::<T>(self.how, self.alpha, self.beta) {
@@ -67,7 +67,7 @@ fn combined<T: Number>(alloc: Global, pair: Pair<'_>) -> Result<CsrMatrix<T>, Re
     ensures plain { IfOk result
         (λ m. plain_of_rows T.ring T.value m ≡ combination_of T.ring pair.entry) }
     ensures sound { OnOk result (IsSound pair.entry.a × IsSound pair.entry.b) }
-    ensures fault { IfErr result (IsMemoryOr (IsFaultOfPair pair.entry.a pair.entry.b)) }
+    ensures fault { IfErr result (IsOutOfMemoryOr (IsFaultOfPair pair.entry.a pair.entry.b)) }
 {
     let Pair {
         how,

@@ -6,25 +6,25 @@ ghost use Rattle.sparse_algebra.specs.Plain.{plain_product};
 ghost use Rattle.sparse_coo_dense.specs.DensePlain.{plain_full, plain_of_dense};
 ghost use Rattle.sparse_compressed.specs.Compressed.{arrays_of};
 ghost use Rattle.sparse_c.specs.Dense.{IsDenseTooLong, MultipliesDense, WritesValues};
-ghost use Rattle.sparse_c.specs.InnerListed.{numbers_listed, numbers_unlisted};
+ghost use Rattle.sparse_c.specs.InnerModulusLaws.{numbers_listed, numbers_unlisted};
 ghost use Rattle.sparse_c.specs.Moduli.{moduli, IsFaultModulo, IsNoneOf};
 ghost use Rattle.sparse_c.specs.Rooms.{Shows};
-ghost use Rattle.sparse_c_arrays.specs.Arrays.{plain_by_rows, plain_by_values, ring64, HoldsDense};
-ghost use Rattle.sparse_c_arrays.specs.Reduced.{IsReduced};
-ghost use Rattle.sparse_c_arrays.specs.Refused.{IsFaultOfSystem, IsMemoryOr};
-ghost use Rattle.sparse_c_arrays.specs.Refused.{IsSystemSound};
-ghost use Rattle.sparse_c_arrays.specs.Statuses.{number_of};
-ghost use Rattle.sparse_c_arrays.specs.declared.refusal.Refusal.TheVariants.{UnknownChoice};
+ghost use Rattle.c_arrays.specs.Arrays.{plain_by_rows, plain_by_values, ring64, HoldsDense};
+ghost use Rattle.c_arrays.specs.Reduced.{IsReduced};
+ghost use Rattle.c_arrays.specs.Refused.{IsFaultOfSystem, IsOutOfMemoryOr};
+ghost use Rattle.c_arrays.specs.Refused.{IsSystemSound};
+ghost use Rattle.c_arrays.specs.Statuses.{number_of};
+ghost use Rattle.c_arrays.specs.declared.refusal.Refusal.TheVariants.{UnknownChoice};
 
 use crate::arguments::{DenseOperands, Numbers, lanes};
 use crate::moduli::{Call, by_modulus};
 use sparse_algebra::scalar::W64;
-use sparse_c_arrays::dense::dense_matrix_of;
-use sparse_c_arrays::number::Number;
-use sparse_c_arrays::refusal::Refusal;
-use sparse_c_arrays::writing::finish_dense;
+use c_arrays::dense::dense_matrix_of;
+use c_arrays::number::Number;
+use c_arrays::refusal::Refusal;
+use c_arrays::writing::finish_dense;
 use sparse_coo_dense::dense::DMatrix;
-use sparse_with_dense::mul_csr_dense;
+use sparse_dense_ops::mul_csr_dense;
 use std::alloc::Global;
 
 /// Writes the product of a CSR matrix and a dense matrix: `a` with `rows` rows and `inner` columns, `b` with `inner`
@@ -116,7 +116,7 @@ fn dense_product<T: Number>(alloc: Global, operands: DenseOperands<'_>) -> Resul
     ensures sound { let f = operands.entry in
         OnOk result (IsSystemSound f.a f.inner f.cols f.b.now) }
     ensures fault { let f = operands.entry in
-        IfErr result (IsMemoryOr (IsFaultOfSystem f.a f.inner f.cols f.b.now)) }
+        IfErr result (IsOutOfMemoryOr (IsFaultOfSystem f.a f.inner f.cols f.b.now)) }
 {
     let DenseOperands { a, inner, cols, b } = operands;
     let a = a.rows(alloc)?;

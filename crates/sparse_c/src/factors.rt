@@ -10,26 +10,26 @@ ghost use Rattle.sparse_compressed.specs.PlainOfLanes.{plain_of_cols, plain_of_r
 ghost use Rattle.sparse_factor.specs.Factors.{diagonal};
 ghost use Rattle.sparse_c.specs.Factors.{AreFactors, Factorises, FactorisesIn, HoldsFactors};
 ghost use Rattle.sparse_c.specs.Factors.{IsFaultOfFactors};
-ghost use Rattle.sparse_c.specs.InnerListed.{factors_listed, factors_unlisted};
+ghost use Rattle.sparse_c.specs.InnerModulusLaws.{factors_listed, factors_unlisted};
 ghost use Rattle.sparse_c.specs.Moduli.{moduli, IsFaultModulo, IsNoneOf};
 ghost use Rattle.sparse_c.specs.Rooms.{Shows};
-ghost use Rattle.sparse_c_arrays.specs.Arrays.{places_of, ring64, room_of};
-ghost use Rattle.sparse_c_arrays.specs.Reduced.{FirstAre, IsReduced};
-ghost use Rattle.sparse_c_arrays.specs.Refused.{IsMemoryOr, IsTooSmall};
-ghost use Rattle.sparse_c_arrays.specs.Rests.{KeepsBehind, KeepsRest};
-ghost use Rattle.sparse_c_arrays.specs.Statuses.{number_of};
-ghost use Rattle.sparse_c_arrays.specs.declared.refusal.Refusal.TheVariants.{TooSmall};
-ghost use Rattle.sparse_c_arrays.specs.declared.refusal.Refusal.TheVariants.{UnknownChoice};
+ghost use Rattle.c_arrays.specs.Arrays.{place_count, ring64, output_arrays};
+ghost use Rattle.c_arrays.specs.Reduced.{FirstAre, IsReduced};
+ghost use Rattle.c_arrays.specs.Refused.{IsOutOfMemoryOr, IsTooSmall};
+ghost use Rattle.c_arrays.specs.Rests.{KeepsBehind, KeepsRest};
+ghost use Rattle.c_arrays.specs.Statuses.{number_of};
+ghost use Rattle.c_arrays.specs.declared.refusal.Refusal.TheVariants.{TooSmall};
+ghost use Rattle.c_arrays.specs.declared.refusal.Refusal.TheVariants.{UnknownChoice};
 
-use crate::arguments::{FactorRoom, Factored, lanes};
+use crate::arguments::{FactorOutputArrays, Factored, lanes};
 use crate::moduli::{Call, by_modulus};
-use sparse_algebra::learn;
+use sparse_algebra::recall;
 use sparse_algebra::scalar::W64;
-use sparse_c_arrays::lanes::Lanes;
-use sparse_c_arrays::number::Number;
-use sparse_c_arrays::refusal::Refusal;
-use sparse_c_arrays::scalars::put_scalars;
-use sparse_c_arrays::writing::write_rows_or_count;
+use c_arrays::lanes::Lanes;
+use c_arrays::number::Number;
+use c_arrays::refusal::Refusal;
+use c_arrays::scalars::put_scalars;
+use c_arrays::writing::write_rows_or_count;
 use sparse_csr_csc::csr::CsrMatrix;
 use sparse_factor::ldl::Ldl;
 use std::alloc::Global;
@@ -53,14 +53,14 @@ pub extern "C" fn nalgebra_sparse_factor_symmetric(
 ) -> i32
     ensures answered { let a = arrays_of size size offsets.now indices.now values.now in
         Factorises ring64 w64_value (IsFaultOfFactors ring64 w64_value a) a
-        (room_of out_offsets.old out_indices.old out_values.old out_places.old)
-        (room_of out_offsets.new out_indices.new out_values.new out_places.new)
+        (output_arrays out_offsets.old out_indices.old out_values.old out_places.old)
+        (output_arrays out_offsets.new out_indices.new out_values.new out_places.new)
         out_diagonal.old out_diagonal.new result }
 {
     let factored = Factored {
         a: lanes!(size, size, offsets, indices, values),
     };
-    let mut room = FactorRoom {
+    let mut room = FactorOutputArrays {
         offsets: out_offsets,
         indices: out_indices,
         values: out_values,
@@ -89,8 +89,8 @@ pub extern "C" fn nalgebra_sparse_factor_symmetric_mod(
         let ring = mod_ring modulus in
         Factorises ring (mod_value {m = modulus}) (IsFaultModulo modulus
         (IsFaultOfFactors ring (mod_value {m = modulus}) a)) a
-        (room_of out_offsets.old out_indices.old out_values.old out_places.old)
-        (room_of out_offsets.new out_indices.new out_values.new out_places.new)
+        (output_arrays out_offsets.old out_indices.old out_values.old out_places.old)
+        (output_arrays out_offsets.new out_indices.new out_values.new out_places.new)
         out_diagonal.old out_diagonal.new result }
     ensures reduced { Shows (IsReduced modulus) out_places.new out_values.new result }
     ensures reduced_diagonal { Shows (IsReduced modulus) size out_diagonal.new result }
@@ -99,7 +99,7 @@ pub extern "C" fn nalgebra_sparse_factor_symmetric_mod(
     let factored = Factored {
         a: lanes!(size, size, offsets, indices, values),
     };
-    let mut room = FactorRoom {
+    let mut room = FactorOutputArrays {
         offsets: out_offsets,
         indices: out_indices,
         values: out_values,
@@ -109,13 +109,13 @@ pub extern "C" fn nalgebra_sparse_factor_symmetric_mod(
     by_modulus(alloc, modulus, factored, &mut room)
 }
 
-impl<'a> Call<FactorRoom<'a>> for Factored<'_> {
+impl<'a> Call<FactorOutputArrays<'a>> for Factored<'_> {
     ghost fits = { λ s. s.a.pattern.minor_dim ≡ s.a.pattern.major_dim };
 
     ghost does = { FactorisesIn };
 
     /// Writes the factors.
-    fn run<T: Number>(self, alloc: Global, out: &mut FactorRoom<'a>) -> i32 {
+    fn run<T: Number>(self, alloc: Global, out: &mut FactorOutputArrays<'a>) -> i32 {
         let Factored { a } = self;
         let answer = factors_of::<T>(alloc, a);
         finish_factors(
@@ -142,12 +142,12 @@ fn factors_of<T: Number>(alloc: Global, a: Lanes<'_>) -> Result<(CsrMatrix<T>, V
     ensures rows { IfOk result (λ s. s.0.pattern.minor_dim ≡ a.entry.pattern.minor_dim) }
     ensures count { IfOk result (λ s. length s.1.items ≡ a.entry.pattern.minor_dim) }
     ensures sound { OnOk result (IsSound a.entry) }
-    ensures fault { IfErr result (IsMemoryOr (IsFaultOfFactors T.ring T.value a.entry)) }
+    ensures fault { IfErr result (IsOutOfMemoryOr (IsFaultOfFactors T.ring T.value a.entry)) }
 {
     let a = a.columns::<T>(alloc)?;
     let factors = Ldl::factor(alloc, &a)?;
     let l = factors.l().clone(alloc)?;
-    learn(l.values());
+    recall(l.values());
     let d = Vec::from_slice(alloc, factors.d())?;
     Ok((l.transpose_as_csr(), d))
 }
@@ -165,24 +165,24 @@ fn finish_factors<T: Number>(
 ) -> i32
     ensures written { result ≡ pos 0 → MatchResult answer
         (λ s. HoldsFactors T.ring T.value s.0 s.1.items
-        (room_of offsets.new indices.new values.new places.new) pivots.new) (λ _. ⊥) }
+        (output_arrays offsets.new indices.new values.new places.new) pivots.new) (λ _. ⊥) }
     ensures shown { result ≡ pos 0 → FirstAre T.is_shown places.new values.new }
     ensures shown_pivots { result ≡ pos 0 → MatchResult answer
         (λ s. FirstAre T.is_shown (length s.1.items) pivots.new) (λ _. ⊥) }
     ensures rest { result ≡ pos 0 → MatchResult answer (λ s. KeepsRest s.0.pattern.major_dim
-        (room_of offsets.old indices.old values.old places.old)
-        (room_of offsets.new indices.new values.new places.new)) (λ _. ⊥) }
+        (output_arrays offsets.old indices.old values.old places.old)
+        (output_arrays offsets.new indices.new values.new places.new)) (λ _. ⊥) }
     ensures rest_pivots { result ≡ pos 0 → MatchResult answer
         (λ s. KeepsBehind (length s.1.items) pivots.old pivots.new) (λ _. ⊥) }
-    ensures untouched { result ≢ pos 0 → room_of offsets.new indices.new values.new places.old
-        ≡ room_of offsets.old indices.old values.old places.old }
+    ensures untouched { result ≢ pos 0 → output_arrays offsets.new indices.new values.new places.old
+        ≡ output_arrays offsets.old indices.old values.old places.old }
     ensures needed { result ≢ pos 0
-        → IfOk answer (λ s. places.new ≡ places_of (plain_of_rows T.ring T.value s.0)) }
+        → IfOk answer (λ s. places.new ≡ place_count (plain_of_rows T.ring T.value s.0)) }
     ensures kept { OnErr answer (places.new ≡ places.old) }
     ensures untouched_pivots { result ≢ pos 0 → pivots.new ≡ pivots.old }
     ensures refused { result ≢ pos 0 → MatchResult answer
         (λ s. (result ≡ number_of TooSmall) × (IsTooSmall (plain_of_rows T.ring T.value s.0)
-        (room_of offsets.old indices.old values.old places.old)
+        (output_arrays offsets.old indices.old values.old places.old)
         ⊎ (length pivots.old < length s.1.items)))
         (λ refusal. result ≡ number_of refusal) }
 {

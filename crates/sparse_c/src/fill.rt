@@ -4,17 +4,17 @@ ghost use Rattle.std.specs.Prelude.{◌≡◌, ◌≢◌, pos, Err, IfOk, IfErr,
 ghost use Rattle.sparse_pattern.specs.Raw.{raw_of, IsValid};
 ghost use Rattle.sparse_c.specs.Fills.{triangle_number, CountsFill, IsFaultOfFill, IsFillOf};
 ghost use Rattle.sparse_c.specs.Fills.{IsFillTooSmall, IsNoTriangle, NamesNoTriangle, WritesFill};
-ghost use Rattle.sparse_c_arrays.specs.Arrays.{pattern_room_of};
-ghost use Rattle.sparse_c_arrays.specs.Refused.{IsMemoryOr, IsRefusedFor};
-ghost use Rattle.sparse_c_arrays.specs.Rests.{KeepsPatternRest};
-ghost use Rattle.sparse_c_arrays.specs.Statuses.{number_of, FindsNoFault};
-ghost use Rattle.sparse_c_arrays.specs.Untouched.{IsPatternUntouched};
-ghost use Rattle.sparse_c_arrays.specs.declared.refusal.Refusal.TheVariants.{TooSmall};
-ghost use Rattle.sparse_c_arrays.specs.declared.refusal.Refusal.TheVariants.{UnknownChoice};
+ghost use Rattle.c_arrays.specs.Arrays.{pattern_output_arrays};
+ghost use Rattle.c_arrays.specs.Refused.{IsOutOfMemoryOr, IsRefusedFor};
+ghost use Rattle.c_arrays.specs.Rests.{KeepsPatternRest};
+ghost use Rattle.c_arrays.specs.Statuses.{number_of, FindsNoFault};
+ghost use Rattle.c_arrays.specs.Untouched.{IsPatternUntouched};
+ghost use Rattle.c_arrays.specs.declared.refusal.Refusal.TheVariants.{TooSmall};
+ghost use Rattle.c_arrays.specs.declared.refusal.Refusal.TheVariants.{UnknownChoice};
 
-use sparse_c_arrays::lanes::pattern_of;
-use sparse_c_arrays::patterns::finish_pattern;
-use sparse_c_arrays::refusal::Refusal;
+use c_arrays::lanes::pattern_of;
+use c_arrays::patterns::finish_pattern;
+use c_arrays::refusal::Refusal;
 use sparse_factor::factorization::{CscSymbolicCholesky, Triangle};
 use sparse_pattern::pattern::SparsityPattern;
 use std::alloc::Global;
@@ -61,21 +61,21 @@ pub extern "C" fn nalgebra_sparse_fill(
 ) -> i32
     ensures written { let pattern = raw_of size size offsets.now indices.now in
         result ≡ pos 0 → WritesFill triangle pattern
-        (pattern_room_of out_offsets.new out_indices.new out_places.new) }
+        (pattern_output_arrays out_offsets.new out_indices.new out_places.new) }
     ensures rest { result ≡ pos 0 → KeepsPatternRest size
-        (pattern_room_of out_offsets.old out_indices.old out_places.old)
-        (pattern_room_of out_offsets.new out_indices.new out_places.new) }
+        (pattern_output_arrays out_offsets.old out_indices.old out_places.old)
+        (pattern_output_arrays out_offsets.new out_indices.new out_places.new) }
     ensures sound { FindsNoFault result → IsValid (raw_of size size offsets.now indices.now) }
     ensures unknown { NamesNoTriangle triangle → result ≡ number_of UnknownChoice }
     ensures untouched { result ≢ pos 0 → IsPatternUntouched result
-        (pattern_room_of out_offsets.old out_indices.old out_places.old)
-        (pattern_room_of out_offsets.new out_indices.new out_places.new) }
+        (pattern_output_arrays out_offsets.old out_indices.old out_places.old)
+        (pattern_output_arrays out_offsets.new out_indices.new out_places.new) }
     ensures needed { let pattern = raw_of size size offsets.now indices.now in
         result ≡ number_of TooSmall → CountsFill triangle pattern out_places.new }
     ensures refused { let pattern = raw_of size size offsets.now indices.now in
         result ≢ pos 0 → IsRefusedFor (IsFaultOfFill triangle pattern)
         (IsFillTooSmall triangle pattern
-        (pattern_room_of out_offsets.old out_indices.old out_places.old)) result }
+        (pattern_output_arrays out_offsets.old out_indices.old out_places.old)) result }
 {
     let answer = fill_of(alloc, size, triangle, offsets, indices);
     finish_pattern(answer, out_offsets, out_indices, out_places)
@@ -92,7 +92,7 @@ fn fill_of(
     ensures fill { IfOk result (IsFillOf triangle (raw_of size size offsets.now indices.now)) }
     ensures sound { OnOk result (IsValid (raw_of size size offsets.now indices.now)) }
     ensures unknown { NamesNoTriangle triangle → result ≡ Err UnknownChoice }
-    ensures fault { IfErr result (IsMemoryOr
+    ensures fault { IfErr result (IsOutOfMemoryOr
         (IsFaultOfFill triangle (raw_of size size offsets.now indices.now))) }
 {
     let triangle = triangle_of(triangle)?;

@@ -5,16 +5,16 @@ ghost use Rattle.sparse_algebra.specs.Integers.{element_of};
 ghost use Rattle.sparse_algebra.specs.Plain.{plain_difference, plain_product};
 ghost use Rattle.sparse_algebra.specs.Plain.{plain_scaled, plain_sum};
 ghost use Rattle.sparse_algebra.specs.Plain.{plain_transpose};
-ghost use Rattle.sparse_c_arrays.specs.Arrays.{ring64};
-ghost use Rattle.sparse_c_arrays.specs.Statuses.{number_of};
-ghost use Rattle.sparse_c_arrays.specs.declared.refusal.Refusal.TheVariants.{EmptyHandle, OutOfMemory};
-ghost use Rattle.sparse_handles.specs.Behind.{plain_behind, Answers, IsEmpty};
-ghost use Rattle.sparse_handles.specs.Behind.{IsUnlike, IsUnmatched};
-ghost use Rattle.sparse_handles.specs.Behind.{Holds};
+ghost use Rattle.c_arrays.specs.Arrays.{ring64};
+ghost use Rattle.c_arrays.specs.Statuses.{number_of};
+ghost use Rattle.c_arrays.specs.declared.refusal.Refusal.TheVariants.{EmptyHandle, OutOfMemory};
+ghost use Rattle.c_handles.specs.Held.{plain_held, Answers, IsEmpty};
+ghost use Rattle.c_handles.specs.Held.{IsSumError, IsProductError};
+ghost use Rattle.c_handles.specs.Held.{Holds};
 
 use crate::status::status;
-use sparse_handles::handle::MatrixHandle;
-use sparse_handles::operations;
+use c_handles::handle::MatrixHandle;
+use c_handles::operations;
 use std::alloc::Global;
 
 /// Stores in `out` the transpose of the matrix that `a` holds.
@@ -27,7 +27,7 @@ pub extern "C" fn nalgebra_sparse_matrix_transpose(
     ensures kept { a.new.value ≡ a.old.value }
     ensures missing { a.old.value ≡ None → result ≡ number_of EmptyHandle }
     ensures answer { Answers result (IsEmpty a.old.value) (out.new.value ≡ out.old.value)
-        (Holds out.new.value (plain_transpose ring64 (plain_behind a.old.value))) }
+        (Holds out.new.value (plain_transpose ring64 (plain_held a.old.value))) }
 {
     status!(operations::transpose(alloc, a, out))
 }
@@ -44,7 +44,7 @@ pub extern "C" fn nalgebra_sparse_matrix_scale(
     ensures missing { a.old.value ≡ None → result ≡ number_of EmptyHandle }
     ensures answer { Answers result (IsEmpty a.old.value) (out.new.value ≡ out.old.value)
         (Holds out.new.value
-        (plain_scaled ring64 (element_of ring64 factor) (plain_behind a.old.value))) }
+        (plain_scaled ring64 (element_of ring64 factor) (plain_held a.old.value))) }
 {
     status!(operations::scale(alloc, factor, a, out))
 }
@@ -61,9 +61,9 @@ pub extern "C" fn nalgebra_sparse_matrix_add(
     ensures first_missing { a.old.value ≡ None → result ≡ number_of EmptyHandle }
     ensures second_missing { b.old.value ≡ None
         → (result ≡ number_of EmptyHandle) ⊎ (result ≡ number_of OutOfMemory) }
-    ensures answer { Answers result (IsUnlike a.old.value b.old.value)
+    ensures answer { Answers result (IsSumError a.old.value b.old.value)
         (out.new.value ≡ out.old.value) (Holds out.new.value
-        (plain_sum ring64 (plain_behind a.old.value) (plain_behind b.old.value))) }
+        (plain_sum ring64 (plain_held a.old.value) (plain_held b.old.value))) }
 {
     status!(operations::add(alloc, a, b, out))
 }
@@ -80,9 +80,9 @@ pub extern "C" fn nalgebra_sparse_matrix_subtract(
     ensures first_missing { a.old.value ≡ None → result ≡ number_of EmptyHandle }
     ensures second_missing { b.old.value ≡ None
         → (result ≡ number_of EmptyHandle) ⊎ (result ≡ number_of OutOfMemory) }
-    ensures answer { Answers result (IsUnlike a.old.value b.old.value)
+    ensures answer { Answers result (IsSumError a.old.value b.old.value)
         (out.new.value ≡ out.old.value) (Holds out.new.value
-        (plain_difference ring64 (plain_behind a.old.value) (plain_behind b.old.value))) }
+        (plain_difference ring64 (plain_held a.old.value) (plain_held b.old.value))) }
 {
     status!(operations::subtract(alloc, a, b, out))
 }
@@ -101,10 +101,10 @@ pub extern "C" fn nalgebra_sparse_matrix_add_scaled(
     ensures first_missing { a.old.value ≡ None → result ≡ number_of EmptyHandle }
     ensures second_missing { b.old.value ≡ None
         → (result ≡ number_of EmptyHandle) ⊎ (result ≡ number_of OutOfMemory) }
-    ensures answer { Answers result (IsUnlike a.old.value b.old.value)
+    ensures answer { Answers result (IsSumError a.old.value b.old.value)
         (out.new.value ≡ out.old.value) (Holds out.new.value
-        (plain_sum ring64 (plain_scaled ring64 (element_of ring64 alpha) (plain_behind a.old.value))
-        (plain_scaled ring64 (element_of ring64 beta) (plain_behind b.old.value)))) }
+        (plain_sum ring64 (plain_scaled ring64 (element_of ring64 alpha) (plain_held a.old.value))
+        (plain_scaled ring64 (element_of ring64 beta) (plain_held b.old.value)))) }
 {
     status!(operations::add_scaled(alloc, alpha, a, beta, b, out))
 }
@@ -121,9 +121,9 @@ pub extern "C" fn nalgebra_sparse_matrix_multiply(
     ensures first_missing { a.old.value ≡ None → result ≡ number_of EmptyHandle }
     ensures second_missing { b.old.value ≡ None
         → (result ≡ number_of EmptyHandle) ⊎ (result ≡ number_of OutOfMemory) }
-    ensures answer { Answers result (IsUnmatched a.old.value b.old.value)
+    ensures answer { Answers result (IsProductError a.old.value b.old.value)
         (out.new.value ≡ out.old.value) (Holds out.new.value
-        (plain_product ring64 (plain_behind a.old.value) (plain_behind b.old.value))) }
+        (plain_product ring64 (plain_held a.old.value) (plain_held b.old.value))) }
 {
     status!(operations::multiply(alloc, a, b, out))
 }

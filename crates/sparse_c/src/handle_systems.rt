@@ -1,18 +1,18 @@
 //! Systems of equations with matrices and with factors that handles hold.
 
 ghost use Rattle.std.specs.Prelude.{◌≡◌, None};
-ghost use Rattle.sparse_c_arrays.specs.Statuses.{number_of};
-ghost use Rattle.sparse_c_arrays.specs.declared.refusal.Refusal.TheVariants.{EmptyHandle};
-ghost use Rattle.sparse_handles.specs.Behind.{plain_behind, Answers};
-ghost use Rattle.sparse_handles.specs.Factored.{product_behind, HasNoFactors, HasNoSystem};
-ghost use Rattle.sparse_handles.specs.Factored.{HoldsFactors, IsUnfactored};
-ghost use Rattle.sparse_handles.specs.Solved.{triangle_of, IsUnsolved, SolvesInPlace};
-ghost use Rattle.sparse_handles.specs.declared.solving.Triangle.TheVariants.{Lower, Upper};
+ghost use Rattle.c_arrays.specs.Statuses.{number_of};
+ghost use Rattle.c_arrays.specs.declared.refusal.Refusal.TheVariants.{EmptyHandle};
+ghost use Rattle.c_handles.specs.Held.{plain_held, Answers};
+ghost use Rattle.c_handles.specs.Factored.{product_held, HasNoFactors, HasNoSystem};
+ghost use Rattle.c_handles.specs.Factored.{HoldsFactors, IsUnfactored};
+ghost use Rattle.c_handles.specs.Solved.{triangle_of, IsUnsolved, SolvesInPlace};
+ghost use Rattle.c_handles.specs.declared.solving.Triangle.TheVariants.{Lower, Upper};
 
 use crate::status::status;
-use sparse_handles::factoring::{clear_factors, factor, share_factors, solve_factored};
-use sparse_handles::handle::{FactorHandle, MatrixHandle};
-use sparse_handles::solving::{Triangle, solve_triangle};
+use c_handles::factoring::{clear_factors, factor, share_factors, solve_factored};
+use c_handles::handle::{FactorHandle, MatrixHandle};
+use c_handles::solving::{Triangle, solve_triangle};
 use std::alloc::Global;
 
 /// Replaces B by the X for which `L X = B`, or `Lᵀ X = B` if `transposed` is set.
@@ -29,7 +29,7 @@ pub extern "C" fn nalgebra_sparse_matrix_solve_lower(
 ) -> i32
     ensures kept { a.new.value ≡ a.old.value }
     ensures missing { a.old.value ≡ None → result ≡ number_of EmptyHandle }
-    ensures answer { let m = plain_behind a.old.value in
+    ensures answer { let m = plain_held a.old.value in
         Answers result (IsUnsolved Lower a.old.value cols values.old) (values.new ≡ values.old)
         (SolvesInPlace (triangle_of Lower transposed m) m.rows cols values.old values.new) }
 {
@@ -50,7 +50,7 @@ pub extern "C" fn nalgebra_sparse_matrix_solve_upper(
 ) -> i32
     ensures kept { a.new.value ≡ a.old.value }
     ensures missing { a.old.value ≡ None → result ≡ number_of EmptyHandle }
-    ensures answer { let m = plain_behind a.old.value in
+    ensures answer { let m = plain_held a.old.value in
         Answers result (IsUnsolved Upper a.old.value cols values.old) (values.new ≡ values.old)
         (SolvesInPlace (triangle_of Upper transposed m) m.rows cols values.old values.new) }
 {
@@ -69,7 +69,7 @@ pub extern "C" fn nalgebra_sparse_matrix_factor(
     ensures kept { a.new.value ≡ a.old.value }
     ensures missing { a.old.value ≡ None → result ≡ number_of EmptyHandle }
     ensures answer { Answers result (IsUnfactored a.old.value) (out.new.value ≡ out.old.value)
-        (HoldsFactors out.new.value (plain_behind a.old.value)) }
+        (HoldsFactors out.new.value (plain_held a.old.value)) }
 {
     status!(factor(alloc, a, out))
 }
@@ -85,7 +85,7 @@ pub extern "C" fn nalgebra_sparse_factors_solve(
 ) -> i32
     ensures kept { factors.new.value ≡ factors.old.value }
     ensures missing { factors.old.value ≡ None → result ≡ number_of EmptyHandle }
-    ensures answer { let m = product_behind factors.old.value in
+    ensures answer { let m = product_held factors.old.value in
         Answers result (HasNoSystem factors.old.value cols values.old) (values.new ≡ values.old)
         (SolvesInPlace m m.rows cols values.old values.new) }
 {

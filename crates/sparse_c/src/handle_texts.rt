@@ -1,14 +1,14 @@
 //! Matrix Market texts, read into handles and written from the matrices that handles hold.
 
 ghost use Rattle.std.specs.Prelude.{◌≡◌, None};
-ghost use Rattle.sparse_c_arrays.specs.Statuses.{number_of};
-ghost use Rattle.sparse_c_arrays.specs.declared.refusal.Refusal.TheVariants.{EmptyHandle};
-ghost use Rattle.sparse_handles.specs.Behind.{Answers};
-ghost use Rattle.sparse_handles.specs.Texts.{HoldsMeaning, IsTextFault, WritesText};
+ghost use Rattle.c_arrays.specs.Statuses.{number_of};
+ghost use Rattle.c_arrays.specs.declared.refusal.Refusal.TheVariants.{EmptyHandle};
+ghost use Rattle.c_handles.specs.Held.{Answers};
+ghost use Rattle.c_handles.specs.Texts.{HoldsMeaning, IsTextFault, WritesText};
 
 use crate::status::status;
-use sparse_handles::handle::MatrixHandle;
-use sparse_handles::texts::{put_text, write_text};
+use c_handles::handle::MatrixHandle;
+use c_handles::texts::{put_text, write_text};
 use std::alloc::Global;
 
 /// Stores the matrix of a text in Matrix Market format in a handle.

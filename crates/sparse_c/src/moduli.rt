@@ -3,12 +3,12 @@
 ghost use Rattle.std.specs.Prelude.{◌≡◌, ◌≤◌, ℕ, ℤ};
 ghost use Rattle.sparse_c.specs.Moduli.{moduli, IsNoneOf};
 ghost use Rattle.sparse_c.specs.Scalars.{modulo, residues_of, scalars, Scalars};
-ghost use Rattle.sparse_c_arrays.specs.Statuses.{number_of};
-ghost use Rattle.sparse_c_arrays.specs.declared.refusal.Refusal.TheVariants.{UnknownChoice};
+ghost use Rattle.c_arrays.specs.Statuses.{number_of};
+ghost use Rattle.c_arrays.specs.declared.refusal.Refusal.TheVariants.{UnknownChoice};
 
 use sparse_algebra::scalar::Mod;
-use sparse_c_arrays::number::Number;
-use sparse_c_arrays::refusal::Refusal;
+use c_arrays::number::Number;
+use c_arrays::refusal::Refusal;
 use std::alloc::Global;
 
 /// The operands of a call that writes its result to `O`, arrays that are borrowed from C.

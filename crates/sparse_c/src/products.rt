@@ -8,18 +8,18 @@ ghost use Rattle.sparse_pattern.specs.Raw.{raw_of, IsValid};
 ghost use Rattle.sparse_c.specs.Moduli.{moduli, IsFaultModulo, IsNoneOf};
 ghost use Rattle.sparse_c.specs.Rooms.{Shows};
 ghost use Rattle.sparse_c.specs.Patterns.{CountsProduct, IsPatternPairRefused};
-ghost use Rattle.sparse_c_arrays.specs.Arrays.{plain_by_rows, ring64, room_of};
-ghost use Rattle.sparse_c_arrays.specs.Reduced.{IsReduced};
-ghost use Rattle.sparse_c_arrays.specs.Refused.{IsFaultOfPair};
-ghost use Rattle.sparse_c_arrays.specs.Statuses.{number_of, FindsNoFault};
-ghost use Rattle.sparse_c_arrays.specs.Written.{WritesRows};
-ghost use Rattle.sparse_c_arrays.specs.declared.refusal.Refusal.TheVariants.{UnknownChoice};
+ghost use Rattle.c_arrays.specs.Arrays.{plain_by_rows, ring64, output_arrays};
+ghost use Rattle.c_arrays.specs.Reduced.{IsReduced};
+ghost use Rattle.c_arrays.specs.Refused.{IsFaultOfPair};
+ghost use Rattle.c_arrays.specs.Statuses.{number_of, FindsNoFault};
+ghost use Rattle.c_arrays.specs.Written.{WritesRows};
+ghost use Rattle.c_arrays.specs.declared.refusal.Refusal.TheVariants.{UnknownChoice};
 
 use crate::arguments::{lanes, pair, room};
 use crate::moduli::{Call, by_modulus};
 use sparse_algebra::scalar::W64;
-use sparse_c_arrays::lanes::pattern_of;
-use sparse_c_arrays::refusal::Refusal;
+use c_arrays::lanes::pattern_of;
+use c_arrays::refusal::Refusal;
 use sparse_products::serial::spmm_csr_pattern;
 use std::alloc::Global;
 
@@ -85,8 +85,8 @@ pub extern "C" fn nalgebra_sparse_multiply(
         let b = arrays_of inner cols b_offsets.now b_indices.now b_values.now in
         WritesRows (IsSound a × IsSound b) (IsFaultOfPair a b)
         (plain_product ring64 (plain_by_rows ring64 a) (plain_by_rows ring64 b))
-        (room_of out_offsets.old out_indices.old out_values.old out_places.old)
-        (room_of out_offsets.new out_indices.new out_values.new out_places.new) result }
+        (output_arrays out_offsets.old out_indices.old out_values.old out_places.old)
+        (output_arrays out_offsets.new out_indices.new out_values.new out_places.new) result }
 {
     let a = lanes!(rows, inner, a_offsets, a_indices, a_values);
     let b = lanes!(inner, cols, b_offsets, b_indices, b_values);
@@ -118,8 +118,8 @@ pub extern "C" fn nalgebra_sparse_multiply_mod(
         let ring = mod_ring modulus in
         WritesRows (IsSound a × IsSound b) (IsFaultModulo modulus (IsFaultOfPair a b))
         (plain_product ring (plain_by_rows ring a) (plain_by_rows ring b))
-        (room_of out_offsets.old out_indices.old out_values.old out_places.old)
-        (room_of out_offsets.new out_indices.new out_values.new out_places.new) result }
+        (output_arrays out_offsets.old out_indices.old out_values.old out_places.old)
+        (output_arrays out_offsets.new out_indices.new out_values.new out_places.new) result }
     ensures reduced { Shows (IsReduced modulus) out_places.new out_values.new result }
     ensures unlisted { IsNoneOf moduli modulus → result ≡ number_of UnknownChoice }
 {

@@ -6,16 +6,16 @@ ghost use Rattle.sparse_parser.specs.Meaning.{values_of};
 ghost use Rattle.sparse_c.specs.Texts.{CountsText, IsErrorOfText, IsFaultOfText};
 ghost use Rattle.sparse_c.specs.Texts.{IsTextOf, IsTextTooLong};
 ghost use Rattle.sparse_c.specs.Texts.{SizesText, WritesTriplets};
-ghost use Rattle.sparse_c_arrays.specs.Lists.{list_room_of};
-ghost use Rattle.sparse_c_arrays.specs.Refused.{IsMemoryOr, IsRefusedFor};
-ghost use Rattle.sparse_c_arrays.specs.Rests.{KeepsListRest};
-ghost use Rattle.sparse_c_arrays.specs.Statuses.{number_of};
-ghost use Rattle.sparse_c_arrays.specs.Untouched.{IsListUntouched};
-ghost use Rattle.sparse_c_arrays.specs.declared.refusal.Refusal.TheVariants.{TooSmall};
+ghost use Rattle.c_arrays.specs.Lists.{list_output_arrays};
+ghost use Rattle.c_arrays.specs.Refused.{IsOutOfMemoryOr, IsRefusedFor};
+ghost use Rattle.c_arrays.specs.Rests.{KeepsListRest};
+ghost use Rattle.c_arrays.specs.Statuses.{number_of};
+ghost use Rattle.c_arrays.specs.Untouched.{IsListUntouched};
+ghost use Rattle.c_arrays.specs.declared.refusal.Refusal.TheVariants.{TooSmall};
 
 use sparse_algebra::scalar::W64;
-use sparse_c_arrays::lists::finish_list;
-use sparse_c_arrays::refusal::Refusal;
+use c_arrays::lists::finish_list;
+use c_arrays::refusal::Refusal;
 use sparse_coo_dense::coo::CooMatrix;
 use sparse_io::load_coo_from_matrix_market_str;
 use std::alloc::Global;
@@ -58,17 +58,17 @@ pub extern "C" fn nalgebra_sparse_read(
     out_values: &mut [i64],
     out_triplets: &mut usize,
 ) -> i32
-    ensures written { result ≡ pos 0 → WritesTriplets text.now (list_room_of
+    ensures written { result ≡ pos 0 → WritesTriplets text.now (list_output_arrays
         out_row_indices.new out_col_indices.new out_values.new out_triplets.new) }
-    ensures rest { result ≡ pos 0 → KeepsListRest (list_room_of
-        out_row_indices.old out_col_indices.old out_values.old out_triplets.old) (list_room_of
+    ensures rest { result ≡ pos 0 → KeepsListRest (list_output_arrays
+        out_row_indices.old out_col_indices.old out_values.old out_triplets.old) (list_output_arrays
         out_row_indices.new out_col_indices.new out_values.new out_triplets.new) }
-    ensures untouched { result ≢ pos 0 → IsListUntouched result (list_room_of
-        out_row_indices.old out_col_indices.old out_values.old out_triplets.old) (list_room_of
+    ensures untouched { result ≢ pos 0 → IsListUntouched result (list_output_arrays
+        out_row_indices.old out_col_indices.old out_values.old out_triplets.old) (list_output_arrays
         out_row_indices.new out_col_indices.new out_values.new out_triplets.new) }
     ensures needed { result ≡ number_of TooSmall → CountsText text.now out_triplets.new }
     ensures refused { result ≢ pos 0 → IsRefusedFor (IsFaultOfText text.now)
-        (IsTextTooLong text.now (list_room_of
+        (IsTextTooLong text.now (list_output_arrays
         out_row_indices.old out_col_indices.old out_values.old out_triplets.old)) result }
 {
     let answer = list_of_text(alloc, text);
@@ -84,7 +84,7 @@ pub extern "C" fn nalgebra_sparse_read(
 // Returns the triplets of a text that is given as bytes.
 fn list_of_text(alloc: Global, text: &[u8]) -> Result<CooMatrix<W64>, Refusal>
     ensures means { IfOk result (λ m. IsTextOf text.now (values_of w64_number m)) }
-    ensures fault { IfErr result (IsMemoryOr (IsFaultOfText text.now)) }
+    ensures fault { IfErr result (IsOutOfMemoryOr (IsFaultOfText text.now)) }
 {
     match str::from_utf8(text) {
         Ok(text) => triplets_of(alloc, text),
@@ -95,7 +95,7 @@ fn list_of_text(alloc: Global, text: &[u8]) -> Result<CooMatrix<W64>, Refusal>
 // Returns the triplets of a text.
 fn triplets_of(alloc: Global, text: &str) -> Result<CooMatrix<W64>, Refusal>
     ensures means { IfOk result (λ m. IsTextOf text.now (values_of w64_number m)) }
-    ensures fault { IfErr result (IsMemoryOr (IsErrorOfText text.now)) }
+    ensures fault { IfErr result (IsOutOfMemoryOr (IsErrorOfText text.now)) }
 {
     Ok(load_coo_from_matrix_market_str(alloc, text)?)
 }

@@ -9,11 +9,11 @@ ghost use Rattle.sparse_c.specs.Dense.{WritesValues};
 ghost use Rattle.sparse_c.specs.Moduli.{moduli, IsFaultModulo, IsNoneOf};
 ghost use Rattle.sparse_c.specs.Rooms.{Shows};
 ghost use Rattle.sparse_c.specs.Solved.{lower_of, HoldsSolution, IsFaultOfLower, IsSolutionTooLong};
-ghost use Rattle.sparse_c_arrays.specs.Arrays.{plain_by_values, ring64};
-ghost use Rattle.sparse_c_arrays.specs.Reduced.{IsReduced};
-ghost use Rattle.sparse_c_arrays.specs.Refused.{IsSystemSound};
-ghost use Rattle.sparse_c_arrays.specs.Statuses.{number_of};
-ghost use Rattle.sparse_c_arrays.specs.declared.refusal.Refusal.TheVariants.{UnknownChoice};
+ghost use Rattle.c_arrays.specs.Arrays.{plain_by_values, ring64};
+ghost use Rattle.c_arrays.specs.Reduced.{IsReduced};
+ghost use Rattle.c_arrays.specs.Refused.{IsSystemSound};
+ghost use Rattle.c_arrays.specs.Statuses.{number_of};
+ghost use Rattle.c_arrays.specs.declared.refusal.Refusal.TheVariants.{UnknownChoice};
 
 use crate::arguments::{Equation, Numbers, System, lanes};
 use crate::moduli::{Call, by_modulus};

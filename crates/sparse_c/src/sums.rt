@@ -7,12 +7,12 @@ ghost use Rattle.sparse_algebra.specs.Moduli.{mod_ring};
 ghost use Rattle.sparse_compressed.specs.Compressed.{arrays_of, IsSound};
 ghost use Rattle.sparse_c.specs.Moduli.{moduli, IsFaultModulo, IsNoneOf};
 ghost use Rattle.sparse_c.specs.Rooms.{Shows};
-ghost use Rattle.sparse_c_arrays.specs.Arrays.{plain_by_rows, ring64, room_of};
-ghost use Rattle.sparse_c_arrays.specs.Refused.{IsFaultOfPair};
-ghost use Rattle.sparse_c_arrays.specs.Written.{WritesRows};
-ghost use Rattle.sparse_c_arrays.specs.Reduced.{IsReduced};
-ghost use Rattle.sparse_c_arrays.specs.Statuses.{number_of};
-ghost use Rattle.sparse_c_arrays.specs.declared.refusal.Refusal.TheVariants.{UnknownChoice};
+ghost use Rattle.c_arrays.specs.Arrays.{plain_by_rows, ring64, output_arrays};
+ghost use Rattle.c_arrays.specs.Refused.{IsFaultOfPair};
+ghost use Rattle.c_arrays.specs.Written.{WritesRows};
+ghost use Rattle.c_arrays.specs.Reduced.{IsReduced};
+ghost use Rattle.c_arrays.specs.Statuses.{number_of};
+ghost use Rattle.c_arrays.specs.declared.refusal.Refusal.TheVariants.{UnknownChoice};
 
 use crate::arguments::{lanes, pair, room};
 use crate::moduli::{Call, by_modulus};
@@ -40,8 +40,8 @@ pub extern "C" fn nalgebra_sparse_add(
         let b = arrays_of rows cols b_offsets.now b_indices.now b_values.now in
         WritesRows (IsSound a × IsSound b) (IsFaultOfPair a b)
         (plain_sum ring64 (plain_by_rows ring64 a) (plain_by_rows ring64 b))
-        (room_of out_offsets.old out_indices.old out_values.old out_places.old)
-        (room_of out_offsets.new out_indices.new out_values.new out_places.new) result }
+        (output_arrays out_offsets.old out_indices.old out_values.old out_places.old)
+        (output_arrays out_offsets.new out_indices.new out_values.new out_places.new) result }
 {
     let a = lanes!(rows, cols, a_offsets, a_indices, a_values);
     let b = lanes!(rows, cols, b_offsets, b_indices, b_values);
@@ -70,8 +70,8 @@ pub extern "C" fn nalgebra_sparse_subtract(
         let b = arrays_of rows cols b_offsets.now b_indices.now b_values.now in
         WritesRows (IsSound a × IsSound b) (IsFaultOfPair a b)
         (plain_difference ring64 (plain_by_rows ring64 a) (plain_by_rows ring64 b))
-        (room_of out_offsets.old out_indices.old out_values.old out_places.old)
-        (room_of out_offsets.new out_indices.new out_values.new out_places.new) result }
+        (output_arrays out_offsets.old out_indices.old out_values.old out_places.old)
+        (output_arrays out_offsets.new out_indices.new out_values.new out_places.new) result }
 {
     let a = lanes!(rows, cols, a_offsets, a_indices, a_values);
     let b = lanes!(rows, cols, b_offsets, b_indices, b_values);
@@ -103,8 +103,8 @@ pub extern "C" fn nalgebra_sparse_add_scaled(
         WritesRows (IsSound a × IsSound b) (IsFaultOfPair a b)
         (plain_sum ring64 (plain_scaled ring64 (element_of ring64 alpha) (plain_by_rows ring64 a))
         (plain_scaled ring64 (element_of ring64 beta) (plain_by_rows ring64 b)))
-        (room_of out_offsets.old out_indices.old out_values.old out_places.old)
-        (room_of out_offsets.new out_indices.new out_values.new out_places.new) result }
+        (output_arrays out_offsets.old out_indices.old out_values.old out_places.old)
+        (output_arrays out_offsets.new out_indices.new out_values.new out_places.new) result }
 {
     let a = lanes!(rows, cols, a_offsets, a_indices, a_values);
     let b = lanes!(rows, cols, b_offsets, b_indices, b_values);
@@ -135,8 +135,8 @@ pub extern "C" fn nalgebra_sparse_add_mod(
         let ring = mod_ring modulus in
         WritesRows (IsSound a × IsSound b) (IsFaultModulo modulus (IsFaultOfPair a b))
         (plain_sum ring (plain_by_rows ring a) (plain_by_rows ring b))
-        (room_of out_offsets.old out_indices.old out_values.old out_places.old)
-        (room_of out_offsets.new out_indices.new out_values.new out_places.new) result }
+        (output_arrays out_offsets.old out_indices.old out_values.old out_places.old)
+        (output_arrays out_offsets.new out_indices.new out_values.new out_places.new) result }
     ensures reduced { Shows (IsReduced modulus) out_places.new out_values.new result }
     ensures unlisted { IsNoneOf moduli modulus → result ≡ number_of UnknownChoice }
 {
@@ -169,8 +169,8 @@ pub extern "C" fn nalgebra_sparse_subtract_mod(
         let ring = mod_ring modulus in
         WritesRows (IsSound a × IsSound b) (IsFaultModulo modulus (IsFaultOfPair a b))
         (plain_difference ring (plain_by_rows ring a) (plain_by_rows ring b))
-        (room_of out_offsets.old out_indices.old out_values.old out_places.old)
-        (room_of out_offsets.new out_indices.new out_values.new out_places.new) result }
+        (output_arrays out_offsets.old out_indices.old out_values.old out_places.old)
+        (output_arrays out_offsets.new out_indices.new out_values.new out_places.new) result }
     ensures reduced { Shows (IsReduced modulus) out_places.new out_values.new result }
     ensures unlisted { IsNoneOf moduli modulus → result ≡ number_of UnknownChoice }
 {
@@ -206,8 +206,8 @@ pub extern "C" fn nalgebra_sparse_add_scaled_mod(
         WritesRows (IsSound a × IsSound b) (IsFaultModulo modulus (IsFaultOfPair a b))
         (plain_sum ring (plain_scaled ring (element_of ring alpha) (plain_by_rows ring a))
         (plain_scaled ring (element_of ring beta) (plain_by_rows ring b)))
-        (room_of out_offsets.old out_indices.old out_values.old out_places.old)
-        (room_of out_offsets.new out_indices.new out_values.new out_places.new) result }
+        (output_arrays out_offsets.old out_indices.old out_values.old out_places.old)
+        (output_arrays out_offsets.new out_indices.new out_values.new out_places.new) result }
     ensures reduced { Shows (IsReduced modulus) out_places.new out_values.new result }
     ensures unlisted { IsNoneOf moduli modulus → result ≡ number_of UnknownChoice }
 {

@@ -4,27 +4,27 @@ ghost use Rattle.std.specs.Prelude.{◌≡◌, ◌<◌, IfOk, IfErr, OnOk, OnErr
 ghost use Rattle.sparse_algebra.specs.declared.error.OperationErrorKind.TheVariants.{Singular};
 ghost use Rattle.sparse_coo_dense.specs.DensePlain.{plain_of_dense};
 ghost use Rattle.sparse_compressed.specs.PlainOfLanes.{plain_of_cols};
-ghost use Rattle.sparse_with_dense.specs.Solutions.{plain_lower, IsSingular, IsSolution};
-ghost use Rattle.sparse_c.specs.InnerListed.{numbers_listed, numbers_unlisted};
+ghost use Rattle.sparse_dense_ops.specs.Solutions.{plain_lower, IsSingular, IsSolution};
+ghost use Rattle.sparse_c.specs.InnerModulusLaws.{numbers_listed, numbers_unlisted};
 ghost use Rattle.sparse_c.specs.Solved.{lower_of, transposed_if, IsFaultOfLower};
 ghost use Rattle.sparse_c.specs.Symmetric.{IsFaultOfSymmetric, SolvesSymmetric};
 ghost use Rattle.sparse_c.specs.Systems.{IsFaultOfEquation, Solves, SolvesSystem};
-ghost use Rattle.sparse_c_arrays.specs.Arrays.{plain_by_values};
-ghost use Rattle.sparse_c_arrays.specs.Refused.{IsMemoryOr, IsSystemSound};
+ghost use Rattle.c_arrays.specs.Arrays.{plain_by_values};
+ghost use Rattle.c_arrays.specs.Refused.{IsOutOfMemoryOr, IsSystemSound};
 
 use crate::arguments::{Equation, Numbers, System};
 use crate::moduli::Call;
 use sparse_algebra::error::OperationError;
 use sparse_algebra::operand::Op;
-use sparse_c_arrays::dense::dense_matrix_of;
-use sparse_c_arrays::lanes::Lanes;
-use sparse_c_arrays::number::Number;
-use sparse_c_arrays::refusal::Refusal;
-use sparse_c_arrays::writing::finish_dense;
+use c_arrays::dense::dense_matrix_of;
+use c_arrays::lanes::Lanes;
+use c_arrays::number::Number;
+use c_arrays::refusal::Refusal;
+use c_arrays::writing::finish_dense;
 use sparse_coo_dense::dense::DMatrix;
 use sparse_csr_csc::csc::CscMatrix;
 use sparse_factor::ldl::Ldl;
-use sparse_with_dense::spsolve_csc_lower_triangular;
+use sparse_dense_ops::spsolve_csc_lower_triangular;
 use std::alloc::Global;
 
 impl<'a> Call<Numbers<'a>> for System<'_> {
@@ -54,7 +54,7 @@ fn solution<T: Number>(alloc: Global, system: System<'_>) -> Result<DMatrix<T>, 
         s.size s.cols) }
     ensures sound { let s = system.entry in
         OnOk result (IsSystemSound s.matrix s.size s.cols s.b.now) }
-    ensures fault { let s = system.entry in IfErr result (IsMemoryOr (IsFaultOfEquation T.ring
+    ensures fault { let s = system.entry in IfErr result (IsOutOfMemoryOr (IsFaultOfEquation T.ring
         T.value s.equation s.matrix s.size s.cols s.b.now)) }
 {
     let System {
@@ -86,7 +86,7 @@ fn lower_solution<T: Number>(
         (plain_of_dense T.ring T.value x)
         (plain_by_values T.ring shape.0 shape.1 b.now)) }
     ensures sound { OnOk result (IsSystemSound l.entry shape.0 shape.1 b.now) }
-    ensures fault { IfErr result (IsMemoryOr
+    ensures fault { IfErr result (IsOutOfMemoryOr
         (IsFaultOfLower T.ring T.value l.entry shape.0 shape.1 b.now)) }
 {
     let l = l.columns::<T>(alloc)?;
@@ -137,7 +137,7 @@ fn symmetric_solution<T: Number>(
         (plain_of_dense T.ring T.value x)
         (plain_by_values T.ring shape.0 shape.1 b.now) shape.0 shape.1) }
     ensures sound { OnOk result (IsSystemSound a.entry shape.0 shape.1 b.now) }
-    ensures fault { IfErr result (IsMemoryOr
+    ensures fault { IfErr result (IsOutOfMemoryOr
         (IsFaultOfSymmetric T.ring T.value a.entry shape.0 shape.1 b.now)) }
 {
     let a = a.columns::<T>(alloc)?;

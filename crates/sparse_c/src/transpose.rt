@@ -5,15 +5,15 @@ ghost use Rattle.sparse_compressed.specs.Compressed.{arrays_of, IsSound};
 ghost use Rattle.sparse_compressed.specs.PlainOfLanes.{plain_of_rows};
 ghost use Rattle.sparse_algebra.specs.Plain.{plain_transpose};
 ghost use Rattle.sparse_algebra.specs.WrappingValues.{w64_value};
-ghost use Rattle.sparse_c_arrays.specs.Arrays.{plain_by_rows, ring64, room_of};
-ghost use Rattle.sparse_c_arrays.specs.Refused.{IsFaultOf, IsMemoryOr};
-ghost use Rattle.sparse_c_arrays.specs.Written.{WritesRows};
+ghost use Rattle.c_arrays.specs.Arrays.{plain_by_rows, ring64, output_arrays};
+ghost use Rattle.c_arrays.specs.Refused.{IsFaultOf, IsOutOfMemoryOr};
+ghost use Rattle.c_arrays.specs.Written.{WritesRows};
 
 use crate::arguments::lanes;
 use sparse_algebra::scalar::W64;
-use sparse_c_arrays::lanes::Lanes;
-use sparse_c_arrays::refusal::Refusal;
-use sparse_c_arrays::writing::finish_rows;
+use c_arrays::lanes::Lanes;
+use c_arrays::refusal::Refusal;
+use c_arrays::writing::finish_rows;
 use sparse_csr_csc::csr::CsrMatrix;
 use sparse_products::transposes::transposed_csr;
 use std::alloc::Global;
@@ -34,8 +34,8 @@ pub extern "C" fn nalgebra_sparse_transpose(
 ) -> i32
     ensures answered { let a = arrays_of rows cols offsets.now indices.now values.now in
         WritesRows (IsSound a) (IsFaultOf a) (plain_transpose ring64 (plain_by_rows ring64 a))
-        (room_of out_offsets.old out_indices.old out_values.old out_places.old)
-        (room_of out_offsets.new out_indices.new out_values.new out_places.new) result }
+        (output_arrays out_offsets.old out_indices.old out_values.old out_places.old)
+        (output_arrays out_offsets.new out_indices.new out_values.new out_places.new) result }
 {
     let a = lanes!(rows, cols, offsets, indices, values);
     let answer = transposed(alloc, a);
@@ -47,7 +47,7 @@ fn transposed(alloc: Global, a: Lanes<'_>) -> Result<CsrMatrix<W64>, Refusal>
     ensures plain { IfOk result (λ m. plain_of_rows ring64 w64_value m
         ≡ plain_transpose ring64 (plain_by_rows ring64 a.entry)) }
     ensures sound { OnOk result (IsSound a.entry) }
-    ensures fault { IfErr result (IsMemoryOr (IsFaultOf a.entry)) }
+    ensures fault { IfErr result (IsOutOfMemoryOr (IsFaultOf a.entry)) }
 {
     let a = a.rows(alloc)?;
     Ok(transposed_csr(alloc, &a)?)

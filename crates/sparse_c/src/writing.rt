@@ -3,15 +3,15 @@
 ghost use Rattle.std.specs.Prelude.{◌≡◌, ◌≢◌, ◌<◌, length, pos, string_bytes, IfOk, IfErr, OnOk};
 ghost use Rattle.sparse_coo_dense.specs.Coo.{AreParts};
 ghost use Rattle.sparse_c.specs.Texts.{text_of_lists};
-ghost use Rattle.sparse_c_arrays.specs.Lists.{HoldsText};
-ghost use Rattle.sparse_c_arrays.specs.Refused.{IsFaultOfList, IsMemoryOr, IsRefusedFor};
-ghost use Rattle.sparse_c_arrays.specs.Rests.{KeepsBehind};
-ghost use Rattle.sparse_c_arrays.specs.Statuses.{number_of, FindsNoFault};
-ghost use Rattle.sparse_c_arrays.specs.Untouched.{KeepsSize};
-ghost use Rattle.sparse_c_arrays.specs.declared.refusal.Refusal.TheVariants.{TooSmall};
+ghost use Rattle.c_arrays.specs.Lists.{HoldsText};
+ghost use Rattle.c_arrays.specs.Refused.{IsFaultOfList, IsOutOfMemoryOr, IsRefusedFor};
+ghost use Rattle.c_arrays.specs.Rests.{KeepsBehind};
+ghost use Rattle.c_arrays.specs.Statuses.{number_of, FindsNoFault};
+ghost use Rattle.c_arrays.specs.Untouched.{KeepsSize};
+ghost use Rattle.c_arrays.specs.declared.refusal.Refusal.TheVariants.{TooSmall};
 
-use sparse_c_arrays::refusal::Refusal;
-use sparse_c_arrays::texts::finish_text;
+use c_arrays::refusal::Refusal;
+use c_arrays::texts::finish_text;
 use sparse_coo_dense::coo::CooMatrix;
 use sparse_io::save_to_matrix_market_str;
 use std::alloc::Global;
@@ -87,7 +87,7 @@ fn text_of_list(
         ≡ text_of_lists shape.0 shape.1 row_indices.now col_indices.now values.now) }
     ensures sound { OnOk result
         (AreParts shape.0 shape.1 row_indices.now col_indices.now values.now) }
-    ensures fault { IfErr result (IsMemoryOr
+    ensures fault { IfErr result (IsOutOfMemoryOr
         (IsFaultOfList shape.0 shape.1 row_indices.now col_indices.now values.now)) }
 {
     let (rows, cols) = shape;

@@ -11,9 +11,9 @@ use Rattle.sparse_pattern.proofs.BuiltLanes.{IsBuilt, lane_built, all_built}
 use Rattle.sparse_pattern.proofs.PushedLanes.{offset_kept, offset_last}
 use Rattle.sparse_compressed.specs.Compressed.{Compressed, arrays_of, IsSound}
 use Rattle.sparse_compressed.specs.PlainOfLanes.{plain_of_rows}
-use Rattle.sparse_compressed.specs.InnerRows.{lane_value}
+use Rattle.sparse_compressed.specs.InnerLaneValue.{lane_value}
 use Rattle.sparse_compressed.proofs.Arrays.{has_is_place, proper_rows}
-use Rattle.sparse_compressed.proofs.KeptLanes.{between_front, between_end}
+use Rattle.sparse_compressed.proofs.KeptLanes.{slice_range-prefix, between_end}
 use Rattle.sparse_compressed.proofs.LaneValues.{lane_value_is}
 
 module _ (R : CommRing) {T : Type 0} (f : T → R.Carrier) where
@@ -51,8 +51,8 @@ module _ (R : CommRing) {T : Type 0} (f : T → R.Carrier) where
         rw (
           kept i (omega arith),
           kept (i + 1) (omega arith),
-          between_front indices lane s e v.ordered v.inside,
-          between_front values lane_values s e
+          slice_range-prefix indices lane s e v.ordered v.inside,
+          slice_range-prefix values lane_values s e
               v.ordered (omega (arith, v.inside, was.count)),
         ) (was.values_are i j lt)
 

@@ -23,9 +23,9 @@ use Rattle.sparse_compressed.proofs.LaneValues.{values_of}
 
 module _ {X : Type 0} where
   -- a range within a prefix
-  pub between_front : (xs ys : List X) (a b : ℕ) → a ≤ b → b ≤ length xs
+  pub slice_range-prefix : (xs ys : List X) (a b : ℕ) → a ≤ b → b ≤ length xs
       → slice_range (xs ++ ys) a b ≡ slice_range xs a b
-  between_front xs ys a b le within =
+  slice_range-prefix xs ys a b le within =
       ap (take (b - a)) (drop-append-le a xs ys (omega arith))
       ∙ take-append-le (b - a) (drop a xs) ys (omega (arith, length-drop a xs))
 
@@ -62,9 +62,9 @@ module _ {T : Type 0} (R : ℕ × ℕ × T → Bool → Type 0) (m : Compressed 
           kept = rw (
             earlier k (omega arith),
             earlier (k + 1) (omega arith),
-            between_front indices more (get_or offsets k 0) (get_or offsets (k + 1) 0) l.ordered
+            slice_range-prefix indices more (get_or offsets k 0) (get_or offsets (k + 1) 0) l.ordered
                 l.inside,
-            between_front values more_values (get_or offsets k 0)
+            slice_range-prefix values more_values (get_or offsets k 0)
                 (get_or offsets (k + 1) 0) l.ordered (omega (arith, l.inside, h.value_count)),
           ) l.kept;
         }

@@ -19,10 +19,10 @@ use Rattle.sparse_algebra.proofs.SumLemmas.{where_yes, where_no}
 use Rattle.sparse_pattern.proofs.PatternLanes.{length-lane, get_or-lane, lane_rises}
 use Rattle.sparse_compressed.specs.Compressed.{Compressed, IsSound, zip_values}
 use Rattle.sparse_compressed.specs.PlainOfLanes.{plain_of_rows}
-use Rattle.sparse_compressed.proofs.Arrays.{unnamed, value_at_position, has_is_place}
-use Rattle.sparse_compressed.specs.InnerRows.{lane_value}
+use Rattle.sparse_compressed.proofs.Arrays.{value_at-none, value_at_offset, has_is_place}
+use Rattle.sparse_compressed.specs.InnerLaneValue.{lane_value}
 use Rattle.sparse_pattern.proofs.LaneLists.{lane_has}
-use Rattle.sparse_compressed.proofs.RowSums.{eq_refl}
+use Rattle.sparse_compressed.proofs.AddedLanes.{eq_refl}
 
 module _ (R : CommRing) {T : Type 0} (f : T → R.Carrier) where
   yes : (k j : ℕ) (c : R.Carrier) → k ≡ j → where_true R (nat_eq k j) c ≡ c
@@ -91,7 +91,7 @@ module _ (R : CommRing) {T : Type 0} (f : T → R.Carrier) (z : T) (m : Compress
             (omega (arith, place.in_lane.to)) ∙ ap (λ p. get_or m.values p z) back in
             lane_value_at R f z j q (lane_of m.pattern i) (values_of m i) length-values
             (lane_rises m.pattern i valid) within there ∙ ap f value
-            ∙ sym (value_at_position R f m.pattern sound.valid m.values sound.count z i j place.at
+            ∙ sym (value_at_offset R f m.pattern sound.valid m.values sound.count z i j place.at
             (place.in_lane, place.index))
         | inr miss ↦
             let none : (q : ℕ) → q < length (lane_of m.pattern i)
@@ -102,7 +102,7 @@ module _ (R : CommRing) {T : Type 0} (f : T → R.Carrier) (z : T) (m : Compress
             let hit = (has_is_place R f m.pattern sound.valid m.values sound.count i j).1 place in
             cc in
             lane_value_none R f j (lane_of m.pattern i) (values_of m i) none
-            ∙ sym (unnamed R f i j (zip_values (entries_of m.pattern) m.values) miss)
+            ∙ sym (value_at-none R f i j (zip_values (entries_of m.pattern) m.values) miss)
       ]
 
 module _ (R : CommRing) {T : Type 0} (f : T → R.Carrier) where

@@ -9,12 +9,12 @@ use Rattle.sparse_algebra.specs.Algebra.{CommRing}
 use Rattle.sparse_pattern.specs.Raw.{Raw}
 use Rattle.sparse_algebra.specs.Plain.{plain_transpose}
 use Rattle.sparse_pattern.specs.TransposedPattern.{IsTransposedPattern, AreTransposedValues}
-use Rattle.sparse_pattern.proofs.SamePlaces.{same_from_places}
-use Rattle.sparse_compressed.specs.Compressed.{Compressed, compressed_of, IsSound, IsPosition}
+use Rattle.sparse_pattern.proofs.SameEntries.{equal_from_entries}
+use Rattle.sparse_compressed.specs.Compressed.{Compressed, compressed_of, IsSound, IsOffset}
 use Rattle.sparse_compressed.specs.PlainOfLanes.{plain_of_rows}
 use Rattle.sparse_compressed.specs.TransposedMatrix.{IsTranspose}
-use Rattle.sparse_pattern.proofs.Positions.{lane_of_position}
-use Rattle.sparse_compressed.proofs.Arrays.{value_at_position, has_is_place, stands, proper_rows}
+use Rattle.sparse_pattern.proofs.OffsetsInLanes.{lane_of_offset}
+use Rattle.sparse_compressed.proofs.Arrays.{value_at_offset, has_is_place, plain_of_rows-from_places, proper_rows}
 
 module _ {T : Type 0} where
   -- a transposed pattern with the transposed values is the transpose
@@ -48,7 +48,7 @@ module _ {T : Type 0} where
       ∙ ap (compressed_of m.pattern) values
     where
       patterns : k.pattern ≡ m.pattern
-      patterns = same_from_places k.pattern m.pattern sk.valid sm.valid record {
+      patterns = equal_from_entries k.pattern m.pattern sk.valid sm.valid record {
         major_dim = again.pattern.major_dim ∙ once.pattern.minor_dim;
         minor_dim = again.pattern.minor_dim ∙ once.pattern.major_dim;
         places = λ i j. (
@@ -62,13 +62,13 @@ module _ {T : Type 0} where
           ∙ sym sm.count) (λ p z within.
           let lt : p < length m.pattern.indices = omega
           (arith, sk.count, ap (λ d. length d.indices) patterns) in
-          let lane = lane_of_position m.pattern sm.valid p lt in
+          let lane = lane_of_offset m.pattern sm.valid p lt in
           let j = slice_index m.pattern.indices p in
-          let here : IsPosition m.pattern lane.0 j p = (lane.1, refl) in
+          let here : IsOffset m.pattern lane.0 j p = (lane.1, refl) in
           let place = (once.pattern.places lane.0 j).1 record
           { at = p; in_lane = lane.1; index = refl } in
-          let there : IsPosition n.pattern j lane.0 place.at = (place.in_lane, place.index) in
-          let home : IsPosition k.pattern lane.0 j p = subst (λ d. IsPosition d lane.0 j p)
+          let there : IsOffset n.pattern j lane.0 place.at = (place.in_lane, place.index) in
+          let home : IsOffset k.pattern lane.0 j p = subst (λ d. IsOffset d lane.0 j p)
           (sym patterns) here in
           same_read k.values m.values p p z (again.values j lane.0 place.at p there home
           ∙ once.values lane.0 j p place.at here there))
@@ -81,7 +81,7 @@ module _ {T : Type 0} where
   pub plain_transposed : (R : CommRing) (f : T → R.Carrier) (z : T) (m n : Compressed T) → IsSound m
       → IsSound n → IsTranspose m n → plain_of_rows R f n ≡ plain_transpose R (plain_of_rows R f m)
   plain_transposed R f z m n sm sn h =
-      stands R f z n (plain_transpose R (plain_of_rows R f m)) sn (λ i j. proper_rows R f m j i)
+      plain_of_rows-from_places R f z n (plain_transpose R (plain_of_rows R f m)) sn (λ i j. proper_rows R f m j i)
       h.pattern.major_dim h.pattern.minor_dim
       (λ i j.
       let has = has_is_place R f m.pattern sm.valid m.values sm.count j i in
@@ -89,6 +89,6 @@ module _ {T : Type 0} where
       (λ x. has.1 (same.0 x), λ x. same.1 (has.0 x)))
       (λ i j q at.
       let place = (h.pattern.places j i).0 record { at = q; in_lane = at.0; index = at.1 } in
-      let here : IsPosition m.pattern j i place.at = (place.in_lane, place.index) in
+      let here : IsOffset m.pattern j i place.at = (place.in_lane, place.index) in
       ap f (same_read n.values m.values q place.at z (h.values j i place.at q here at))
-      ∙ sym (value_at_position R f m.pattern sm.valid m.values sm.count z j i place.at here))
+      ∙ sym (value_at_offset R f m.pattern sm.valid m.values sm.count z j i place.at here))

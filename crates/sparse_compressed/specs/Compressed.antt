@@ -55,5 +55,5 @@ module _ {T : Type 0} where
   compressed_eq E = eq_of_both (on (λ m. m.pattern) raw_eq) (on (λ m. m.values) (pointwise E))
 
 -- p is the offset of the entry (i, j)
-abbrev pub IsPosition : Raw → ℕ → ℕ → ℕ → Type 0
-IsPosition d i j p = IsInLane d i p × (slice_index d.indices p ≡ j)
+abbrev pub IsOffset : Raw → ℕ → ℕ → ℕ → Type 0
+IsOffset d i j p = IsInLane d i p × (slice_index d.indices p ≡ j)

@@ -35,6 +35,6 @@ module _ {T : Type 0} where
   is_diagonal t = nat_eq t.0 t.1
 
 -- the same shape as m
-pub record HasSizesOf {T : Type 0} (m now : Compressed T) : Type 0 where
+pub record HasShapeOf {T : Type 0} (m now : Compressed T) : Type 0 where
   pub major_dim : now.pattern.major_dim ≡ m.pattern.major_dim
   pub minor_dim : now.pattern.minor_dim ≡ m.pattern.minor_dim

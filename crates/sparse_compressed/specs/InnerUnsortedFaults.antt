@@ -5,7 +5,7 @@ use Rattle.sparse_pattern.specs.declared.error.SparseFormatErrorKind.{SparseForm
 use Rattle.sparse_pattern.specs.declared.error.SparseFormatErrorKind.TheVariants as kind
 use Rattle.sparse_compressed.specs.Compressed.{Compressed}
 use Rattle.sparse_compressed.specs.InnerLaneSorting.{HasFall}
-use Rattle.sparse_compressed.specs.UnsortedFaults.{UnsortedSpot, HasRepeat}
+use Rattle.sparse_compressed.specs.UnsortedFaults.{UnsortedRule, HasRepeat}
 use Rattle.sparse_compressed.specs.UnsortedFaults.{HasUnsortedFault, NeedsSorting}
 use Rattle.sparse_compressed.specs.UnsortedFaults.{unsorted_kind, unsorted_rank}
 use Rattle.sparse_compressed.specs.UnsortedFaults as at
@@ -47,8 +47,8 @@ IsLaneFault i bound xs (LaneEnd k) = ⊥
 
 module _ {T : Type 0} (m : Compressed T) where
   -- this is the first rule that the arrays violate
-  abbrev pub IsFirstAt : UnsortedSpot → Type 0
-  IsFirstAt spot = IsFirst unsorted_rank (HasUnsortedFault m) spot
+  abbrev pub IsFirstAt : UnsortedRule → Type 0
+  IsFirstAt rule = IsFirst unsorted_rank (HasUnsortedFault m) rule
 
   -- the fault is the first of the arrays, or an allocation failed and some lane must be sorted
   abbrev pub IsReported : UnsortedFault → Type 0

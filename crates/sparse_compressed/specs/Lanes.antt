@@ -64,9 +64,9 @@ module _ {T : Type 0} where
   IsLaneEntryOf l j None = l.minor_dim ≤ j
 
   -- the minor dimensions are equal, and so are the indices
-  abbrev pub lane_places_eq : Lane T → Lane T → Bool
-  lane_places_eq = eq_of_both (on (λ l. l.minor_dim) ◌==◌) (on (λ l. l.indices) (pointwise ◌==◌))
+  abbrev pub lane_indices_eq : Lane T → Lane T → Bool
+  lane_indices_eq = eq_of_both (on (λ l. l.minor_dim) ◌==◌) (on (λ l. l.indices) (pointwise ◌==◌))
 
   -- the result of `==`
   abbrev pub lane_eq : (T → T → Bool) → Lane T → Lane T → Bool
-  lane_eq E = eq_of_both lane_places_eq (on (λ l. l.values) (pointwise E))
+  lane_eq E = eq_of_both lane_indices_eq (on (λ l. l.values) (pointwise E))

@@ -7,8 +7,8 @@ use Rattle.sparse_pattern.specs.declared.entry.SparseEntry.TheVariants.{NonZero,
 use Rattle.sparse_compressed.specs.Compressed.{Compressed}
 
 -- the offset of the entry (i, j), or None if it is not stored
-abbrev pub place_of : Raw → ℕ → ℕ → Option ℕ
-place_of d i j = option_map (λ k. start_of d i + k) (position (λ x. x == j) (lane_of d i))
+abbrev pub find_offset : Raw → ℕ → ℕ → Option ℕ
+find_offset d i j = option_map (λ k. start_of d i + k) (position (λ x. x == j) (lane_of d i))
 
 -- both indices are within bounds
 pub record IsInBounds (d : Raw) (i j : ℕ) : Type 0 where
@@ -18,9 +18,9 @@ pub record IsInBounds (d : Raw) (i j : ℕ) : Type 0 where
 module _ {T : Type 0} where
   -- the value at the offset of the entry (i, j), or Zero if it is not stored
   abbrev pub IsEntryAt : Compressed T → ℕ → ℕ → SparseEntry T → Type 0
-  IsEntryAt m i j (NonZero x) = (p : ℕ) × (place_of m.pattern i j ≡ Some p)
+  IsEntryAt m i j (NonZero x) = (p : ℕ) × (find_offset m.pattern i j ≡ Some p)
       × (x.now ≡ slice_index_or m.values p x.now)
-  IsEntryAt m i j Zero = place_of m.pattern i j ≡ None
+  IsEntryAt m i j Zero = find_offset m.pattern i j ≡ None
 
   -- the entry at a pair within bounds, and None out of bounds
   abbrev pub IsEntryOf : Compressed T → ℕ → ℕ → Option (SparseEntry T) → Type 0

@@ -13,26 +13,26 @@ use Rattle.sparse_compressed.specs.Compressed.{Compressed, IsSound, lane_triplet
 -- values, no offset, the number of offsets, the first or the last offset; then for each lane its
 -- end before its start, its end past the indices, an index out of bounds, an index that occurs
 -- twice
-pub data UnsortedSpot : Type 0 where
-  ValueCount : UnsortedSpot
-  NoOffsets : UnsortedSpot
-  OffsetCount : UnsortedSpot
-  FirstLast : UnsortedSpot
-  LaneFall : ℕ → UnsortedSpot
-  LaneEnd : ℕ → UnsortedSpot
-  LaneBounds : ℕ → UnsortedSpot
-  LaneRepeat : ℕ → UnsortedSpot
+pub data UnsortedRule : Type 0 where
+  ValueCount : UnsortedRule
+  NoOffsets : UnsortedRule
+  OffsetCount : UnsortedRule
+  FirstLast : UnsortedRule
+  LaneFall : ℕ → UnsortedRule
+  LaneEnd : ℕ → UnsortedRule
+  LaneBounds : ℕ → UnsortedRule
+  LaneRepeat : ℕ → UnsortedRule
 
 -- a number occurs twice in the list
 pub record HasRepeat (xs : List ℕ) : Type 0 where
   pub one : ℕ
   pub other : ℕ
-  pub apart : one < other
+  pub increasing : one < other
   pub within : other < length xs
   pub same : slice_index xs one ≡ slice_index xs other
 
 -- the order of the rules, as above: lane by lane, and within a lane by kind
-abbrev pub unsorted_rank : UnsortedSpot → ℕ × ℕ × ℕ
+abbrev pub unsorted_rank : UnsortedRule → ℕ × ℕ × ℕ
 unsorted_rank ValueCount = (0, 0, 0)
 unsorted_rank NoOffsets = (1, 0, 0)
 unsorted_rank OffsetCount = (2, 0, 0)
@@ -43,7 +43,7 @@ unsorted_rank (LaneBounds i) = (i + 4, 2, 0)
 unsorted_rank (LaneRepeat i) = (i + 4, 3, 0)
 
 -- the kind of the error that reports a violation of the rule
-abbrev pub unsorted_kind : UnsortedSpot → SparseFormatErrorKind
+abbrev pub unsorted_kind : UnsortedRule → SparseFormatErrorKind
 unsorted_kind ValueCount = InvalidStructure
 unsorted_kind NoOffsets = InvalidStructure
 unsorted_kind OffsetCount = InvalidStructure
@@ -55,7 +55,7 @@ unsorted_kind (LaneRepeat i) = DuplicateEntry
 
 module _ {T : Type 0} where
   -- the arrays violate this rule
-  abbrev pub HasUnsortedFault : Compressed T → UnsortedSpot → Type 0
+  abbrev pub HasUnsortedFault : Compressed T → UnsortedRule → Type 0
   HasUnsortedFault m ValueCount = length m.values ≢ length m.pattern.indices
   HasUnsortedFault m NoOffsets = length m.pattern.offsets ≡ 0
   HasUnsortedFault m OffsetCount = length m.pattern.offsets ≢ m.pattern.major_dim + 1
@@ -69,11 +69,11 @@ module _ {T : Type 0} where
       × Any (λ j. m.pattern.minor_dim ≤ j) (lane_of m.pattern i)
   HasUnsortedFault m (LaneRepeat i) = (i < m.pattern.major_dim) × HasRepeat (lane_of m.pattern i)
 
-  abbrev pub IsFaultless : Compressed T → Type 0
-  IsFaultless m = (s : UnsortedSpot) → HasUnsortedFault m s → ⊥
+  abbrev pub HasNoFault : Compressed T → Type 0
+  HasNoFault m = (s : UnsortedRule) → HasUnsortedFault m s → ⊥
 
   -- the number of values, the number of offsets, and the first and the last offset have no fault
-  pub record HasFineCounts (m : Compressed T) : Type 0 where
+  pub record HasValidCounts (m : Compressed T) : Type 0 where
     pub values : length m.values ≡ length m.pattern.indices
     pub offsets : length m.pattern.offsets ≡ m.pattern.major_dim + 1
     pub first : slice_index m.pattern.offsets 0 ≡ 0
@@ -82,13 +82,13 @@ module _ {T : Type 0} where
   -- the counts and the first and the last offset have no fault, but the arrays are not sound: some
   -- lane is unsorted or has a fault
   abbrev pub NeedsSorting : Compressed T → Type 0
-  NeedsSorting m = HasFineCounts m × ¬ IsSound m
+  NeedsSorting m = HasValidCounts m × ¬ IsSound m
 
   -- the error has the kind of the first fault of the arrays
   pub record IsUnsortedRefusal (m : Compressed T) (kind : SparseFormatErrorKind) : Type 0 where
-    pub spot : UnsortedSpot
-    pub first : IsFirst unsorted_rank (HasUnsortedFault m) spot
-    pub is : kind ≡ unsorted_kind spot
+    pub rule : UnsortedRule
+    pub first : IsFirst unsorted_rank (HasUnsortedFault m) rule
+    pub is : kind ≡ unsorted_kind rule
 
   -- a sound matrix with the shape and the offsets of the given arrays and a permutation of their
   -- triplets, so each lane is sorted

@@ -13,7 +13,7 @@ use Rattle.sparse_pattern.specs.declared.entry.Found.{Found}
 use Rattle.sparse_pattern.specs.declared.entry.Found.TheVariants.{Value, Nothing}
 use Rattle.sparse_pattern.specs.declared.entry.Missing.TheVariants.{OutOfBounds, NotStored}
 use Rattle.sparse_compressed.specs.Compressed.{Compressed}
-use Rattle.sparse_compressed.specs.StoredEntries.{IsInBounds, place_of}
+use Rattle.sparse_compressed.specs.StoredEntries.{IsInBounds, find_offset}
 use Rattle.sparse_compressed.specs.Lanes.{Lane}
 use Rattle.sparse_compressed.specs.contracts.CsMatrix.{the_row}
 
@@ -33,26 +33,26 @@ module _ {T : Type 0} where
   -- the matrix with another value at the entry (i, j)
   abbrev pub with_value : Compressed T → ℕ → ℕ → T → Compressed T
   with_value m i j w = record m {
-    values = slice_set m.values (unwrap_or (place_of m.pattern i j) 0)
+    values = slice_set m.values (unwrap_or (find_offset m.pattern i j) 0)
         w;
   }
 
   -- the entry (i, j) is stored, and x has its value
   pub record IsValueAt (m : Compressed T) (i j : ℕ) (x : MutBor T) : Type 0 where
     pub position : ℕ
-    pub stored : place_of m.pattern i j ≡ Some position
+    pub stored : find_offset m.pattern i j ≡ Some position
     pub value : x.now ≡ slice_index_or m.values position x.now
 
   -- the value at the pair, or that none is stored there, or that the pair is out of bounds
   abbrev pub IsFoundAt : Compressed T → ℕ → ℕ → Found T → Type 0
   IsFoundAt m i j (Value x) = IsInBounds m.pattern i j × IsValueAt m i j x
-  IsFoundAt m i j (Nothing NotStored) = IsInBounds m.pattern i j × (place_of m.pattern i j ≡ None)
+  IsFoundAt m i j (Nothing NotStored) = IsInBounds m.pattern i j × (find_offset m.pattern i j ≡ None)
   IsFoundAt m i j (Nothing OutOfBounds) = ¬ IsInBounds m.pattern i j
 
   -- the entry at the pair, or Zero if none is stored
   abbrev pub IsEntryMutAt : Compressed T → ℕ → ℕ → SparseEntryMut T → Type 0
   IsEntryMutAt m i j (NonZero x) = IsValueAt m i j x
-  IsEntryMutAt m i j Zero = place_of m.pattern i j ≡ None
+  IsEntryMutAt m i j Zero = find_offset m.pattern i j ≡ None
 
   -- the entry at a pair within bounds, and None out of bounds
   abbrev pub IsEntryMutOf : Compressed T → ℕ → ℕ → Option (SparseEntryMut T) → Type 0
@@ -83,11 +83,11 @@ module _ {T : Type 0} where
   IsLaneEntryMutOf l j None = l.minor_dim ≤ j
 
   -- the same entry, for reading
-  abbrev pub IsLentEntryOf : Lane T → ℕ → Option (SparseEntry T) → Type 0
-  IsLentEntryOf l j (Some (entry.NonZero x)) = (j < l.minor_dim)
+  abbrev pub IsMutLaneEntryOf : Lane T → ℕ → Option (SparseEntry T) → Type 0
+  IsMutLaneEntryOf l j (Some (entry.NonZero x)) = (j < l.minor_dim)
       × ((p : ℕ) × IsStoredIn l j p × (x.now ≡ slice_index_or l.values p x.now))
-  IsLentEntryOf l j (Some entry.Zero) = (j < l.minor_dim) × ((p : ℕ) → ¬ IsStoredIn l j p)
-  IsLentEntryOf l j None = l.minor_dim ≤ j
+  IsMutLaneEntryOf l j (Some entry.Zero) = (j < l.minor_dim) × ((p : ℕ) → ¬ IsStoredIn l j p)
+  IsMutLaneEntryOf l j None = l.minor_dim ≤ j
 
 module _ (T : RattleType) (s : MutBor (Compressed T.Denot)) where
   -- after the borrow the matrix has the values last written through the slice

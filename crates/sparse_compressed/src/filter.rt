@@ -3,7 +3,7 @@
 ghost use Rattle.std.specs.Prelude.{◌≡◌, ℕ, Bool, OnOk, IfOk, length};
 ghost use Rattle.std.specs.List.{filter, zip};
 ghost use Rattle.sparse_compressed.specs.Compressed.{IsSound, lane_triplets};
-ghost use Rattle.sparse_compressed.specs.Filter.{Answers, AnswersAs, HasSizesOf, IsKept};
+ghost use Rattle.sparse_compressed.specs.Filter.{Answers, AnswersAs, HasShapeOf, IsKept};
 ghost use Rattle.sparse_compressed.specs.InnerFilter.{AreKeptLanes, IsGrown};
 
 use crate::CsMatrix;
@@ -20,7 +20,7 @@ impl<T: Copy> CsMatrix<T> {
     where
         P: Fn(usize, usize, &T) -> bool,
         requires { P.IsAlwaysCallable predicate }
-        ensures sizes { IfOk result (HasSizesOf self.now) }
+        ensures same_shape { IfOk result (HasShapeOf self.now) }
         ensures kept { IfOk result
             (λ m. IsKept (Answers P.Fn predicate) (lane_triplets self.now) (lane_triplets m)) }
         ensures tested { (test : ℕ × ℕ × T → Bool) → AnswersAs P.Fn predicate test

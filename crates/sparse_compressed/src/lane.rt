@@ -3,11 +3,11 @@
 ghost use Rattle.std.specs.Prelude.{◌≡◌, ◌<◌, ◌==◌, ⊤, length, position, IfSome};
 ghost use Rattle.std.specs.List.Sorted.{IsStrictlyIncreasing};
 ghost use Rattle.sparse_pattern.specs.Raw.{lane_of};
-ghost use Rattle.sparse_compressed.specs.StoredEntries.{place_of};
+ghost use Rattle.sparse_compressed.specs.StoredEntries.{find_offset};
 ghost use Rattle.sparse_compressed.specs.Lanes.{IsLaneEntryAt, IsLaneEntryOf};
 ghost use Rattle.sparse_compressed.specs.Lanes.{IsSoundLane, lane_parts};
 
-use sparse_algebra::learn;
+use sparse_algebra::recall;
 use sparse_pattern::entry::SparseEntry;
 use sparse_pattern::pattern::SparsityPattern;
 use std::alloc::AllocError;
@@ -45,7 +45,7 @@ impl<'a> LaneIndices<'a> {
         requires { major_index < pattern.now.major_dim }
         ensures { result ≡ lane_of pattern.now major_index }
     {
-        learn(pattern.major_offsets());
+        recall(pattern.major_offsets());
         LaneIndices::new(pattern.lane(major_index))
     }
 
@@ -65,7 +65,7 @@ impl<'a> LaneIndices<'a> {
     }
 
     /// Returns the offset of `minor_index` from the start of the lane, or `None` if it is not stored. Binary search.
-    pub fn position_of(&self, minor_index: usize) -> Option<usize>
+    pub fn offset_of(&self, minor_index: usize) -> Option<usize>
         ensures position { result ≡ position (λ x. x == minor_index) self.now }
         ensures within { IfSome result (λ at. at < length self.now) }
     {
@@ -77,13 +77,13 @@ impl<'a> LaneIndices<'a> {
 /// search in the lane.
 ///
 /// `lane` must be within bounds.
-pub fn position_of(pattern: &SparsityPattern, lane: usize, index: usize) -> Option<usize>
+pub fn offset_of(pattern: &SparsityPattern, lane: usize, index: usize) -> Option<usize>
     requires { lane < pattern.now.major_dim }
-    ensures position { result ≡ place_of pattern.now lane index }
+    ensures position { result ≡ find_offset pattern.now lane index }
     ensures within { IfSome result (λ p. p < length pattern.now.indices) }
 {
     let (start, _) = pattern.lane_bounds(lane);
-    match LaneIndices::of_lane(pattern, lane).position_of(index) {
+    match LaneIndices::of_lane(pattern, lane).offset_of(index) {
         Some(at) => Some(start + at),
         None => None,
     }
@@ -188,7 +188,7 @@ impl<'a, T> CsLane<'a, T> {
         requires { minor_index < self.now.minor_dim }
         ensures { IsLaneEntryAt self.now minor_index result }
     {
-        match self.minor_indices.position_of(minor_index) {
+        match self.minor_indices.offset_of(minor_index) {
             Some(at) => SparseEntry::NonZero(&self.values[at]),
             None => SparseEntry::Zero,
         }

@@ -21,11 +21,11 @@ mod view;
 pub mod writing;
 mod zeros_identity;
 
-pub use lane::{CsLane, LaneIndices, position_of};
+pub use lane::{CsLane, LaneIndices, offset_of};
 pub use lane_iter::CsLaneIter;
 pub use lane_iter_mut::{CsLaneIterMut, CsLaneMut};
 pub use sorted::SortedFault;
-use sparse_algebra::learn;
+use sparse_algebra::recall;
 use sparse_pattern::pattern::{SparsityPattern, SparsityPatternIter};
 use std::alloc::{AllocError, Global};
 use std::marker::Model;
@@ -63,7 +63,7 @@ impl<T> CsMatrix<T> {
         ensures is { result ≡ compressed_of pattern values.items }
         ensures sound { IsSound result }
     {
-        learn(pattern.major_offsets());
+        recall(pattern.major_offsets());
         CsMatrix {
             sparsity_pattern: pattern,
             values,

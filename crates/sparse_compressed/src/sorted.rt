@@ -48,7 +48,7 @@ impl<T: Drop> CsMatrix<T> {
         ensures fault { IfErr result
             (IsFirstSortedFault (arrays_of major_dim minor_dim major_offsets.items
             minor_indices.items values.items)) }
-        ensures taken { IsSound
+        ensures accepted { IsSound
             (arrays_of major_dim minor_dim major_offsets.items minor_indices.items values.items)
             → IsOk result }
     {
@@ -73,7 +73,7 @@ impl<T: Drop> CsMatrix<T> {
         ensures sound { IfOk result IsSound }
         ensures fault { IfErr result (λ e. (e ≡ SortedFault.ValueCount)
             × (length values.items ≢ length pattern.indices)) }
-        ensures taken { length values.items ≡ length pattern.indices → IsOk result }
+        ensures accepted { length values.items ≡ length pattern.indices → IsOk result }
     {
         if values.len() != pattern.nnz() {
             return Err(SortedFault::ValueCount);

@@ -12,7 +12,7 @@ use Rattle.sparse_convert.specs.InnerMerged.{AreMerged, AreLanesMerged, KeepsFir
 use Rattle.sparse_convert.specs.InnerInOrder.{AreInOrder}
 use Rattle.sparse_convert.proofs.Merging.{empty_merged}
 use Rattle.sparse_convert.proofs.MergedLanes.{no_lanes_merged, lanes_merged_more, merged_with}
-use Rattle.sparse_convert.proofs.Offsets.{offset_front, offset_end, offsets_less, offsets_more}
+use Rattle.sparse_convert.proofs.Offsets.{offset_prefix, offset_end, offsets_less, offsets_more}
 use Rattle.sparse_convert.proofs.Offsets.{offsets_ordered}
 use Rattle.sparse_convert.proofs.PlacedByKey.{pushed_here, pushed_other}
 use Rattle.sparse_convert.proofs.Triplets.{lane_past, triplet_count}
@@ -76,8 +76,8 @@ module _ {R : CommRing} {T : Type 0} {f : T → R.Carrier} {z : T} where
       before : (i : ℕ) → i < n → AreMerged R f z (triplets_of_lane ts i) is vs
           (slice_index starts i) (slice_index starts (i + 1))
       before i lt =
-          let front = offset_front n starts (length is) (offsets_less h.lanes.offsets).count in
-          rw (front i (omega arith), front (i + 1) (omega arith)) at
+          let prefix = offset_prefix n starts (length is) (offsets_less h.lanes.offsets).count in
+          rw (prefix i (omega arith), prefix (i + 1) (omega arith)) at
           (h.lanes.merged i (omega arith))
 
       -- the open lane
@@ -85,15 +85,15 @@ module _ {R : CommRing} {T : Type 0} {f : T → R.Carrier} {z : T} where
           (length is)
       open_lane =
           let count = (offsets_less h.lanes.offsets).count in
-          let front = offset_front n starts (length is) count n (omega arith) in
-          rw (front, offset_end n starts (length is) count) at (h.lanes.merged n (omega arith))
+          let prefix = offset_prefix n starts (length is) count n (omega arith) in
+          rw (prefix, offset_end n starts (length is) count) at (h.lanes.merged n (omega arith))
 
       pub open_start : slice_index starts n ≤ length is
       open_start =
           let count = (offsets_less h.lanes.offsets).count in
           omega (
             arith,
-            offset_front n starts (length is) count n (omega arith),
+            offset_prefix n starts (length is) count n (omega arith),
             offset_end n starts (length is) count,
             h.lanes.offsets.ordered n (omega arith),
           )

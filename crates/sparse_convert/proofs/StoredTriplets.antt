@@ -14,9 +14,9 @@ use Rattle.sparse_pattern.specs.Raw.{Raw, IsValid, entries_of}
 use Rattle.sparse_pattern.proofs.LaneOrder.{length-entries}
 use Rattle.sparse_compressed.specs.Compressed.{Compressed, IsSound, zip_values}
 use Rattle.sparse_compressed.specs.Compressed.{lane_triplets, transposed}
-use Rattle.sparse_pattern.proofs.Positions.{lane_of_position}
+use Rattle.sparse_pattern.proofs.OffsetsInLanes.{lane_of_offset}
 use Rattle.sparse_compressed.proofs.Arrays.{entry_at, pairs_of-triplets}
-use Rattle.sparse_compressed.proofs.Inside.{lane_triplets-inside}
+use Rattle.sparse_compressed.proofs.TripletBounds.{lane_triplets-inside}
 use Rattle.sparse_convert.proofs.Folds.{any-map, any-same, sum_by-map}
 
 -- the minor indices of the entries are the indices of the pattern
@@ -27,7 +27,7 @@ indices-entries d valid =
     same_lists _ _ long (λ p z within.
     let lt : p < length d.indices = omega (arith, long, within) in
     let inside : p < length (entries_of d) = omega (arith, length-entries d valid) in
-    let lane = lane_of_position d valid p lt in
+    let lane = lane_of_offset d valid p lt in
     get_or-map (λ (p : ℕ × ℕ). p.1) (entries_of d) p (0, 0) z inside
     ∙ ap (λ e. e.1) (entry_at d valid lane.0 p lane.1) ∙ get_or_default d.indices p 0 z lt)
 

@@ -18,7 +18,7 @@ use Rattle.sparse_coo_dense.specs.Coo.{AreParts, zip_triplets}
 use Rattle.sparse_coo_dense.proofs.TripletLists.{bounded, length-triplets, row_at, rows-zip}
 use Rattle.sparse_coo_dense.proofs.TripletLists.{triplet_at}
 use Rattle.sparse_compressed.proofs.Arrays.{value_at}
-use Rattle.sparse_convert.specs.InnerTripletLanes.{AreTriplets, LanesClimb, entries_of_lane}
+use Rattle.sparse_convert.specs.InnerTripletLanes.{AreTriplets, LanesStrictlyIncrease, entries_of_lane}
 use Rattle.sparse_convert.specs.InnerTripletLanes.{triplets_of_lane, index_sum, plain_of_lanes}
 use Rattle.sparse_convert.proofs.ByKey.{no_element, same_key, sorted-map}
 use Rattle.sparse_convert.proofs.Folds.{any-filter, any-map, sum_by-filter, sum_by-map, where_and}
@@ -125,9 +125,9 @@ module _ {T : Type 0} {n : ℕ} {majors minors : List ℕ} {values : List T}
       ])
 
   -- if the minor indices of each lane's triplets are strictly increasing, those of its entries are
-  pub lane_climbs : LanesClimb majors minors → (i : ℕ)
+  pub lane_strictly_increases : LanesStrictlyIncrease majors minors → (i : ℕ)
       → AllPairs (λ e o. e.0 < o.0) (triplets_of_lane ts i)
-  lane_climbs climb i p q d lt within =
+  lane_strictly_increases increasing i p q d lt within =
       let lane = filter (λ t. eqb t.0 i) ts in
       let pair : ℕ × ℕ × T → ℕ × T = λ t. (t.1, t.2) in
       let size = length-map lane pair in
@@ -136,7 +136,7 @@ module _ {T : Type 0} {n : ℕ} {majors minors : List ℕ} {values : List T}
         arith,
         ap (λ e. e.0) (get_or-map pair lane p u d (omega arith)),
         ap (λ e. e.0) (get_or-map pair lane q u d (omega arith)),
-        lane_pairs (λ a b. a < b) climb i p q u lt (omega arith),
+        lane_pairs (λ a b. a < b) increasing i p q u lt (omega arith),
       )
 
 -- a lane has an index exactly if a triplet has that row and column
@@ -157,11 +157,11 @@ module _ (R : CommRing) {T : Type 0} (f : T → R.Carrier) where
       ∙ sum_by-same R _ _ (λ t. sym (where_and R (eqb t.0 i) (eqb t.1 j) (f t.2))) ts
 
   -- lanes of the triplets of each row, in any order, have the plain matrix of the triplets
-  pub lanes_stand : (rows cols : ℕ) (offsets : List ℕ) (entries : List (ℕ × T))
+  pub lanes_represent : (rows cols : ℕ) (offsets : List ℕ) (entries : List (ℕ × T))
       (ts : List (ℕ × ℕ × T))
       → ((i : ℕ) → IsPermutation (triplets_of_lane ts i) (entries_of_lane offsets entries i))
       → plain_of_lanes R f rows cols offsets entries ≡ plain_of_triplets R f rows cols ts
-  lanes_stand rows cols offsets entries ts moved =
+  lanes_represent rows cols offsets entries ts moved =
       same_plain (plain_of_lanes R f rows cols offsets entries) (plain_of_triplets R f rows cols ts)
       refl refl
       (λ i j. sym (list_any-IsPermutation (λ e. eqb e.0 j) (triplets_of_lane ts i)

@@ -50,13 +50,13 @@ module _ {T : Type 0} where
 
     -- x is converted to the first of the representations, that to the next, and so on; the last one
     -- is z
-    abbrev pub Leads : Representation T → List (Representation T) → Representation T → Type 0
-    Leads x [] z = x ≡ z
-    Leads x (y ∷ ys) z = IsSoundRepresentation y × IsConverted x y × Leads y ys z
+    abbrev pub ConvertsThrough : Representation T → List (Representation T) → Representation T → Type 0
+    ConvertsThrough x [] z = x ≡ z
+    ConvertsThrough x (y ∷ ys) z = IsSoundRepresentation y × IsConverted x y × ConvertsThrough y ys z
 
     -- z comes from x by any number of conversions, or is x
-    abbrev pub IsReached : Representation T → Representation T → Type 0
-    IsReached x z = (ys : List (Representation T)) × Leads x ys z
+    abbrev pub ConvertsTo : Representation T → Representation T → Type 0
+    ConvertsTo x z = (ys : List (Representation T)) × ConvertsThrough x ys z
 
     -- a list, a CSR and a CSC matrix that represent the same plain matrix
     pub record MeanOneMatrix (a : Coo T) (m n : Compressed T) : Type 0 where

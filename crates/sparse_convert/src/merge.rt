@@ -5,7 +5,7 @@ ghost use Rattle.std.specs.Prelude.{true, length, slice_index, vec_len, vec_capa
 ghost use Rattle.std.specs.Bool.{OnTrue};
 ghost use Rattle.std.specs.List.Sorted.{IsNonDecreasingBy};
 ghost use Rattle.sparse_convert.specs.InnerTripletLanes.{AreOffsets, entries_of_lane};
-ghost use Rattle.sparse_convert.specs.InnerTripletLanes.{plain_of_lanes, StandsFor};
+ghost use Rattle.sparse_convert.specs.InnerTripletLanes.{plain_of_lanes, Represents};
 ghost use Rattle.sparse_convert.specs.InnerMerged.{AreMerged, KeepsFirst};
 
 use sparse_algebra::scalar::Ring;
@@ -27,7 +27,7 @@ pub(crate) fn push_entry<T: Ring>(
     requires sizes { vec_len values.old ≡ vec_len indices.old }
     requires index_room { vec_len indices.old < vec_capacity indices.old }
     requires value_room { vec_len values.old < vec_capacity values.old }
-    ensures taken { (start < vec_len indices.old
+    ensures accepted { (start < vec_len indices.old
         → slice_index indices.old.items (vec_len indices.old - 1) ≤ index) → result ≡ true }
     ensures merged { OnTrue result ((lane : List (ℕ × T))
         → AreMerged T.ring T.value T.zero_value lane indices.old.items values.old.items start
@@ -95,7 +95,7 @@ pub(crate) fn merge_lanes<T: Ring>(
         → IsNonDecreasingBy (λ e. e.0) (entries_of_lane offsets.now entries.now i) }
     requires below { (i : ℕ)
         → All (λ e. e.0 < minor_dim) (entries_of_lane offsets.now entries.now i) }
-    ensures { IfOk result (StandsFor T.ring T.value (plain_of_lanes T.ring T.value
+    ensures { IfOk result (Represents T.ring T.value (plain_of_lanes T.ring T.value
         (length offsets.now - 1) minor_dim offsets.now entries.now)) }
 {
     let major_dim = offsets.len() - 1;

@@ -39,9 +39,9 @@ module _ {T : Type 0} where
     pub parts : (n m : ℕ) → AreParts n m is0 js0 vs0 → r + d.nrows ≤ n → c + d.ncols ≤ m
         → AreParts n m is js vs
 
-  at_place : (r c : ℕ) (d : Dense T) (j i : ℕ) (v : T) → j * d.nrows + i < length d.values
+  triplet_at_is : (r c : ℕ) (d : Dense T) (j i : ℕ) (v : T) → j * d.nrows + i < length d.values
       → v ≡ value_at d i j v → triplet_at r c d j i ≡ (r + i, c + j, v) ∷ []
-  at_place r c d j i v within is = rw (slice_get_read d.values (length d.values) (j * d.nrows + i) v
+  triplet_at_is r c d j i v within is = rw (slice_get_read d.values (length d.values) (j * d.nrows + i) v
       refl within is) refl
 
   next_before : (r c : ℕ) (d : Dense T) (j i : ℕ) (v : T) → j * d.nrows + i < length d.values
@@ -51,7 +51,7 @@ module _ {T : Type 0} where
       let columns = flat_map (λ j. flat_map (triplet_at r c d j) (below d.nrows)) (below j) in
       let rows = flat_map (triplet_at r c d j) (below i) in
       ap (λ l. columns ++ l) (flat_map-next (triplet_at r c d j) i
-      ∙ ap (λ l. rows ++ l) (at_place r c d j i v within is))
+      ∙ ap (λ l. rows ++ l) (triplet_at_is r c d j i v within is))
       ∙ sym (append_assoc columns rows ((r + i, c + j, v) ∷ []))
 
   pub one_pushed : {r c : ℕ} {d : Dense T} {is0 js0 : List ℕ} {vs0 : List T} {j i : ℕ}

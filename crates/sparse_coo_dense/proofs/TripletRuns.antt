@@ -6,7 +6,7 @@ use Rattle.std.proofs.lemmas.List.{length-map}
 use Rattle.sparse_coo_dense.specs.Coo.{Coo, zip_triplets, IsInside, AreParts, coo_of}
 use Rattle.sparse_coo_dense.specs.TripletFaults.{IsFirstTripletFault, IsSomeOutside}
 use Rattle.sparse_coo_dense.specs.TripletFaults.{HasTripletFault}
-use Rattle.sparse_coo_dense.specs.TripletFaults.{TripletSpot, ColCount, ValueCount}
+use Rattle.sparse_coo_dense.specs.TripletFaults.{TripletRule, ColCount, ValueCount}
 use Rattle.sparse_coo_dense.specs.TripletFaults.{RowBounds, ColBounds}
 use Rattle.sparse_coo_dense.specs.TripletFaults.{triplet_kind}
 use Rattle.sparse_pattern.specs.declared.error.SparseFormatErrorKind.{SparseFormatErrorKind}
@@ -34,7 +34,7 @@ module _ {T : Type 0} where
       whole (t ∷ ts) = ap (λ rest. t ∷ rest) (whole ts)
 
   fault_at : (nrows ncols : ℕ) (ts : List (ℕ × ℕ × T)) (kind : SparseFormatErrorKind)
-      (s : TripletSpot)
+      (s : TripletRule)
       → HasTripletFault nrows ncols (map (λ t. t.0) ts) (map (λ t. t.1) ts)
       (length (map (λ t. t.2) ts)) s → kind ≡ triplet_kind s → (kind ≡ IndexOutOfBounds)
       × IsSomeOutside nrows ncols ts
@@ -61,7 +61,7 @@ module _ {T : Type 0} where
       × IsSomeOutside nrows ncols ts
   fault_outside nrows ncols rows cols values ts kind er ec ev fault =
       let here = rw (er, ec, ev) at fault.first.here in
-      fault_at nrows ncols ts kind fault.spot here fault.is
+      fault_at nrows ncols ts kind fault.rule here fault.is
 
   pub inside_at_ok : {E : Type 0} (nrows ncols : ℕ) (rows cols : List ℕ) (values : List T)
       (r : Result (Coo T) E)

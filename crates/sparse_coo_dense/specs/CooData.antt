@@ -1,6 +1,6 @@
 -- The triplet list in the data struct `CooData`.
 use Rattle.sparse_coo_dense.specs.Coo.{Coo, coo_of, zip_triplets, AreParts}
-use Rattle.sparse_data_structs.specs.declared.coo.CooData.{CooData}
+use Rattle.sparse_serde.specs.declared.coo.CooData.{CooData}
 
 module _ {T : Type 0} where
   -- the shape and the triplets of the struct, zipped from its three lists

@@ -1,6 +1,6 @@
 -- The arrays of the data struct of a CSC matrix, unchecked.
 use Rattle.sparse_compressed.specs.Compressed.{Compressed, arrays_of}
-use Rattle.sparse_data_structs.specs.declared.csc.CscData.{CscData}
+use Rattle.sparse_serde.specs.declared.csc.CscData.{CscData}
 
 module _ {T : Type 0} where
   -- the arrays as a compressed matrix whose lanes are columns

@@ -13,7 +13,7 @@ mod transpose;
 mod writing;
 
 use crate::csr::CsrMatrix;
-use sparse_algebra::learn;
+use sparse_algebra::recall;
 use sparse_compressed::CsMatrix;
 use sparse_pattern::pattern::SparsityPattern;
 pub use sparse_rows_cols::col::{CscCol, CscColIter};
@@ -77,7 +77,7 @@ impl<T> CscMatrix<T> {
     fn show_sound(&self)
         ensures sound { IsSound self.now }
     {
-        learn(self.cs.values());
+        recall(self.cs.values());
     }
 
     /// Returns a matrix without entries. Allocates `ncols + 1` offsets, and fails only if that allocation fails.

@@ -13,7 +13,7 @@ mod transpose;
 mod writing;
 
 use crate::csc::CscMatrix;
-use sparse_algebra::learn;
+use sparse_algebra::recall;
 use sparse_compressed::CsMatrix;
 use sparse_pattern::pattern::SparsityPattern;
 pub use sparse_rows_cols::row::{CsrRow, CsrRowIter};
@@ -77,7 +77,7 @@ impl<T> CsrMatrix<T> {
     fn show_sound(&self)
         ensures sound { IsSound self.now }
     {
-        learn(self.cs.values());
+        recall(self.cs.values());
     }
 
     /// Returns a matrix without entries. Allocates `nrows + 1` offsets, and fails only if that allocation fails.

@@ -8,7 +8,7 @@ use Rattle.std.proofs.lemmas.List.{map_push, take_more, take_all, length-map, ge
 use denote.Ref.{Bor}
 use Rattle.std.proofs.lemmas.List.Sums.{sum_by-append}
 use Rattle.sparse_expr.specs.declared.words.Token.{Token}
-use Rattle.sparse_expr.specs.declared.words.Token.TheVariants.{Plus, Minus, Times, Turn, Negate}
+use Rattle.sparse_expr.specs.declared.words.Token.TheVariants.{Plus, Minus, Times, Transpose, Negate}
 use Rattle.sparse_expr.specs.declared.expr.Expr.{Expr}
 use Rattle.sparse_expr.specs.declared.expr.Expr.TheVariants as tree
 use Rattle.sparse_expr.specs.declared.error.ExprError.{ExprError}
@@ -70,7 +70,7 @@ operands-postfix (tree.Sub' p a q b) = joined a b Minus refl refl (operands-post
     (operands-postfix b)
 operands-postfix (tree.Mul' p a q b) = joined a b Times refl refl (operands-postfix a)
     (operands-postfix b)
-operands-postfix (tree.Transpose' p a) = changed a Turn refl refl (operands-postfix a)
+operands-postfix (tree.Transpose' p a) = changed a Transpose refl refl (operands-postfix a)
 operands-postfix (tree.Neg' p a) = changed a Negate refl refl (operands-postfix a)
 
 operands-stack : (es : List Expr)

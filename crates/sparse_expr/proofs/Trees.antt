@@ -4,7 +4,7 @@ use Rattle.std.proofs.Common.{Some, None, cond, refl, sym, ap, subst, ◌∙◌,
 use Rattle.std.specs.Prelude.{count_by}
 use Rattle.std.proofs.lemmas.List.{map-append, append-nil}
 use Rattle.sparse_expr.specs.declared.words.Token.{Token}
-use Rattle.sparse_expr.specs.declared.words.Token.TheVariants.{Operand, Plus, Minus, Times, Turn}
+use Rattle.sparse_expr.specs.declared.words.Token.TheVariants.{Operand, Plus, Minus, Times, Transpose}
 use Rattle.sparse_expr.specs.declared.words.Token.TheVariants.{Negate}
 use Rattle.sparse_expr.specs.declared.expr.Expr.{Expr}
 use Rattle.sparse_expr.specs.declared.expr.Expr.TheVariants as tree
@@ -30,7 +30,7 @@ step (Operand n) s = Leaf n ∷ s
 step Plus s = pair Plus s
 step Minus s = pair Minus s
 step Times s = pair Times s
-step Turn s = single Turn s
+step Transpose s = single Transpose s
 step Negate s = single Negate s
 
 abbrev run : List Token → List Tree → List Tree
@@ -62,7 +62,7 @@ run-postfix (tree.Sub' p a q b) s = run-pair (postfix a) (postfix b) Minus (tree
     (run-postfix a s) (run-postfix b (tree_of a ∷ s)) refl
 run-postfix (tree.Mul' p a q b) s = run-pair (postfix a) (postfix b) Times (tree_of a) (tree_of b) s
     (run-postfix a s) (run-postfix b (tree_of a ∷ s)) refl
-run-postfix (tree.Transpose' p a) s = run-single (postfix a) Turn (tree_of a) s (run-postfix a s)
+run-postfix (tree.Transpose' p a) s = run-single (postfix a) Transpose (tree_of a) s (run-postfix a s)
     refl
 run-postfix (tree.Neg' p a) s = run-single (postfix a) Negate (tree_of a) s (run-postfix a s) refl
 
@@ -135,7 +135,7 @@ whole-postfix (tree.Sub' p a q b) = whole-pair (postfix a) (postfix b) Minus ref
     (whole-postfix b)
 whole-postfix (tree.Mul' p a q b) = whole-pair (postfix a) (postfix b) Times refl (whole-postfix a)
     (whole-postfix b)
-whole-postfix (tree.Transpose' p a) = whole-single (postfix a) Turn refl (whole-postfix a)
+whole-postfix (tree.Transpose' p a) = whole-single (postfix a) Transpose refl (whole-postfix a)
 whole-postfix (tree.Neg' p a) = whole-single (postfix a) Negate refl (whole-postfix a)
 
 -- the number of operands after tokens, by recursion
@@ -143,9 +143,9 @@ abbrev level : ℕ → List Token → ℕ
 level h [] = h
 level h (t ∷ ts) = level (after h t) ts
 
-Enough-front : (h : ℕ) (xs ys : List Token) → Enough h (xs ++ ys) → Enough h xs
-Enough-front h [] ys enough = tt
-Enough-front h (x ∷ xs) ys enough = (enough.0, Enough-front (after h x) xs ys enough.1)
+Enough-initial : (h : ℕ) (xs ys : List Token) → Enough h (xs ++ ys) → Enough h xs
+Enough-initial h [] ys enough = tt
+Enough-initial h (x ∷ xs) ys enough = (enough.0, Enough-initial (after h x) xs ys enough.1)
 
 Enough-next : (h : ℕ) (xs : List Token) (t : Token) (ys : List Token)
     → Enough h (xs ++ (t ∷ ys)) → takes t ≤ level h xs
@@ -159,7 +159,7 @@ count-token (Operand n) h le = omega arith
 count-token Plus h le = omega (arith, le)
 count-token Minus h le = omega (arith, le)
 count-token Times h le = omega (arith, le)
-count-token Turn h le = omega (arith, le)
+count-token Transpose h le = omega (arith, le)
 count-token Negate h le = omega (arith, le)
 
 level-counts : (h : ℕ) (xs : List Token) → Enough h xs
@@ -189,7 +189,7 @@ enough-at e before t more split =
     omega (
       arith,
       Enough-next 0 before t more here,
-      level-counts 0 before (Enough-front 0 before (t ∷ more) here),
+      level-counts 0 before (Enough-initial 0 before (t ∷ more) here),
     )
 
 -- ---- words that give a tree have no error

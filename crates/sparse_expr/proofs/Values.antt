@@ -27,10 +27,10 @@ module _ (R : CommRing) where
       ∙ ap Ok (sym is)
 
   -- an operation on two operands that have values
-  pub both_made : (make : Plain R → Plain R → Result (Plain R) ExprError)
+  pub both_ok : (make : Plain R → Plain R → Result (Plain R) ExprError)
       → (r s : Result (Plain R) ExprError) (x y : Plain R) → r ≡ Ok x → s ≡ Ok y
       → both R make r s ≡ make x y
-  both_made make r s x y hr hs = ap (λ r. both R make r s) hr ∙ ap (both R make (Ok x)) hs
+  both_ok make r s x y hr hs = ap (λ r. both R make r s) hr ∙ ap (both R make (Ok x)) hs
 
   sizes_met : (x y : Plain R) → x.rows ≡ y.rows → x.cols ≡ y.cols → same_sizes R x y ≡ true
   sizes_met x y er ec =

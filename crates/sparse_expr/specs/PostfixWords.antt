@@ -8,7 +8,7 @@ use denote.Ref.{Bor}
 use Rattle.sparse_parser.specs.Words.{words_between}
 use Rattle.sparse_parser.specs.Grammar.{is_index}
 use Rattle.sparse_expr.specs.declared.words.Token.{Token}
-use Rattle.sparse_expr.specs.declared.words.Token.TheVariants.{Operand, Plus, Minus, Times, Turn}
+use Rattle.sparse_expr.specs.declared.words.Token.TheVariants.{Operand, Plus, Minus, Times, Transpose}
 use Rattle.sparse_expr.specs.declared.words.Token.TheVariants.{Negate}
 use Rattle.sparse_expr.specs.declared.expr.Expr.{Expr}
 use Rattle.sparse_expr.specs.declared.expr.Expr.TheVariants as tree
@@ -36,7 +36,7 @@ abbrev pub operator_of : List ℕ → Option Token
 operator_of word = if bytes_eq word (43 ∷ []) then Some Plus
     else (if bytes_eq word (45 ∷ []) then Some Minus
     else (if bytes_eq word (42 ∷ []) then Some Times
-    else (if bytes_eq word (116 ∷ []) then Some Turn
+    else (if bytes_eq word (116 ∷ []) then Some Transpose
     else (if bytes_eq word (110 ∷ []) then Some Negate else None))))
 
 -- the token of a word: the number of an input, or an operator
@@ -60,7 +60,7 @@ takes (Operand n) = 0
 takes Plus = 2
 takes Minus = 2
 takes Times = 2
-takes Turn = 1
+takes Transpose = 1
 takes Negate = 1
 
 -- the number of operands on the stack after these tokens: that of the inputs, less one for each of
@@ -101,7 +101,7 @@ postfix (tree.Input n) = Operand n ∷ []
 postfix (tree.Add' p a q b) = postfix a ++ (postfix b ++ (Plus ∷ []))
 postfix (tree.Sub' p a q b) = postfix a ++ (postfix b ++ (Minus ∷ []))
 postfix (tree.Mul' p a q b) = postfix a ++ (postfix b ++ (Times ∷ []))
-postfix (tree.Transpose' p a) = postfix a ++ (Turn ∷ [])
+postfix (tree.Transpose' p a) = postfix a ++ (Transpose ∷ [])
 postfix (tree.Neg' p a) = postfix a ++ (Negate ∷ [])
 
 -- the words are the expression in postfix order

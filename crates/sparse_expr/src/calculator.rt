@@ -15,7 +15,7 @@ ghost use Rattle.sparse_expr.specs.declared.error.ExprError.TheVariants.{Input, 
 use crate::error::ExprError;
 use crate::evaluate::{evaluate_cols, evaluate_rows};
 use crate::expr::Expr;
-use sparse_algebra::learn;
+use sparse_algebra::recall;
 use sparse_algebra::scalar::W64;
 use sparse_coo_dense::coo::CooMatrix;
 use sparse_io::{
@@ -26,7 +26,7 @@ use std::alloc::Global;
 
 /// The order in which the entries of a matrix are written.
 #[derive(Clone, Copy, Debug, PartialEq, Eq)]
-pub enum Form {
+pub enum OutputOrder {
     /// Row by row, with ascending columns.
     Rows,
     /// Column by column, with ascending rows.
@@ -55,20 +55,20 @@ pub enum Form {
 /// ```
 pub fn run<W: Sink>(
     alloc: Global,
-    form: Form,
+    order: OutputOrder,
     expr: &Expr,
     sources: &[&str],
     out: &mut W,
 ) -> Result<(), ExprError>
     ensures written { OnOk result
-        (Writes form (texts sources.now) expr.now (W.taken out.old) (W.taken out.new)) }
+        (Writes order (texts sources.now) expr.now (W.accepted out.old) (W.accepted out.new)) }
     ensures none_failed { OnOk result (W.failures out.new ≡ W.failures out.old) }
-    ensures refused { IfErr result (RefusesRun form (texts sources.now) expr.now
-        (effect (W.taken out.old) (W.taken out.new)
+    ensures refused { IfErr result (RefusesRun order (texts sources.now) expr.now
+        (effect (W.accepted out.old) (W.accepted out.new)
         (W.failures out.old) (W.failures out.new) (W.last out.new))) }
 {
     let inputs = load_all(alloc, sources)?;
-    write_value(alloc, form, expr, &inputs, out)
+    write_value(alloc, order, expr, &inputs, out)
 }
 
 /// As [`run`], but takes the texts by value, and drops each before it loads the next one.
@@ -89,48 +89,48 @@ pub fn run<W: Sink>(
 /// ```
 pub fn run_owned<W: Sink>(
     alloc: Global,
-    form: Form,
+    order: OutputOrder,
     expr: &Expr,
     sources: Vec<String>,
     out: &mut W,
 ) -> Result<(), ExprError>
-    ensures written { OnOk result (Writes form (map string_bytes sources.items) expr.now
-        (W.taken out.old) (W.taken out.new)) }
+    ensures written { OnOk result (Writes order (map string_bytes sources.items) expr.now
+        (W.accepted out.old) (W.accepted out.new)) }
     ensures none_failed { OnOk result (W.failures out.new ≡ W.failures out.old) }
-    ensures refused { IfErr result (RefusesRun form (map string_bytes sources.items) expr.now
-        (effect (W.taken out.old) (W.taken out.new)
+    ensures refused { IfErr result (RefusesRun order (map string_bytes sources.items) expr.now
+        (effect (W.accepted out.old) (W.accepted out.new)
         (W.failures out.old) (W.failures out.new) (W.last out.new))) }
 {
     let inputs = load_owned(alloc, sources)?;
-    write_value(alloc, form, expr, &inputs, out)
+    write_value(alloc, order, expr, &inputs, out)
 }
 
 // Evaluates the expression over the loaded lists of triplets, and writes its value.
 fn write_value<W: Sink>(
     alloc: Global,
-    form: Form,
+    order: OutputOrder,
     expr: &Expr,
     inputs: &[CooMatrix<W64>],
     out: &mut W,
 ) -> Result<(), ExprError>
     ensures written { OnOk result ((texts : List (List ℕ))
         → AllMean texts (map numbers_of inputs.now)
-        → Writes form texts expr.now (W.taken out.old) (W.taken out.new)) }
+        → Writes order texts expr.now (W.accepted out.old) (W.accepted out.new)) }
     ensures none_failed { OnOk result (W.failures out.new ≡ W.failures out.old) }
     ensures refused { IfErr result (λ e. (texts : List (List ℕ))
         → AllMean texts (map numbers_of inputs.now)
-        → RefusesRun form texts expr.now (effect (W.taken out.old) (W.taken out.new)
+        → RefusesRun order texts expr.now (effect (W.accepted out.old) (W.accepted out.new)
         (W.failures out.old) (W.failures out.new) (W.last out.new)) e) }
 {
-    match form {
-        Form::Rows => {
+    match order {
+        OutputOrder::Rows => {
             let value = evaluate_rows(alloc, expr, inputs)?;
-            learn(value.values());
+            recall(value.values());
             save(alloc, &value, out)
         }
-        Form::Cols => {
+        OutputOrder::Cols => {
             let value = evaluate_cols(alloc, expr, inputs)?;
-            learn(value.values());
+            recall(value.values());
             save(alloc, &value, out)
         }
     }
@@ -184,11 +184,11 @@ where
     W: Sink,
     ensures none_failed { OnOk result (W.failures out.new ≡ W.failures out.old) }
     ensures all { OnOk result
-        (Appends (W.taken out.old) (W.taken out.new) (text_of_coo (S.exported matrix.now))) }
+        (Appends (W.accepted out.old) (W.accepted out.new) (text_of_coo (S.exported matrix.now))) }
     ensures prefix { OnErr result
-        (AppendsSome (W.taken out.old) (W.taken out.new) (text_of_coo (S.exported matrix.now))) }
+        (AppendsSome (W.accepted out.old) (W.accepted out.new) (text_of_coo (S.exported matrix.now))) }
     ensures refused { IfErr result (RefusesSave
-        (effect (W.taken out.old) (W.taken out.new)
+        (effect (W.accepted out.old) (W.accepted out.new)
         (W.failures out.old) (W.failures out.new) (W.last out.new))) }
 {
     match save_to_matrix_market(alloc, out, matrix) {

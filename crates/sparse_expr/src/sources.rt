@@ -19,7 +19,7 @@ use std::rc::Rc;
 
 /// A matrix that is converted at its first use and kept until its last one.
 #[derive(Drop)]
-pub(crate) struct Slot<T> {
+pub(crate) struct CachedMatrix<T> {
     // The number of uses left. Only time and memory depend on it.
     uses: usize,
     matrix: Option<Rc<CsrMatrix<T>>>,
@@ -28,8 +28,8 @@ pub(crate) struct Slot<T> {
 /// An input as a CSR matrix, and its transpose as a CSR matrix.
 #[derive(Drop)]
 pub(crate) struct Source<T> {
-    rows: Slot<T>,
-    transposed: Slot<T>,
+    rows: CachedMatrix<T>,
+    transposed: CachedMatrix<T>,
 }
 
 /// Returns a source for each input, with no matrix converted yet.
@@ -42,11 +42,11 @@ pub(crate) fn empty_sources<T: Ring>(
 {
     let mut sources = Vec::with_capacity(alloc, inputs.len())?;
     for _input in inputs {
-        let rows = Slot {
+        let rows = CachedMatrix {
             uses: 0,
             matrix: None,
         };
-        let transposed = Slot {
+        let transposed = CachedMatrix {
             uses: 0,
             matrix: None,
         };
@@ -133,20 +133,20 @@ fn shared<T: Ring>(
     alloc: Global,
     list: &CooMatrix<T>,
     transposed: bool,
-    slot: &mut Slot<T>,
+    cached: &mut CachedMatrix<T>,
 ) -> Result<Rc<CsrMatrix<T>>, AllocError>
-    requires keeps { Keeps T.ring T.value transposed list.now slot.old }
+    requires keeps { Keeps T.ring T.value transposed list.now cached.old }
     ensures is { IfOk result
         (λ m. rows_or_transposed T.ring T.value transposed m.value ≡ plain_of_coo T.ring T.value list.now) }
-    ensures keeps { OnOk result (Keeps T.ring T.value transposed list.now slot.new) }
+    ensures keeps { OnOk result (Keeps T.ring T.value transposed list.now cached.new) }
 {
-    let matrix = match slot.matrix.take() {
+    let matrix = match cached.matrix.take() {
         Some(matrix) => matrix,
         None => Rc::new(alloc, converted(alloc, list, transposed)?)?,
     };
-    if slot.uses > 1 {
-        slot.uses -= 1;
-        slot.matrix = Some(matrix.clone()?);
+    if cached.uses > 1 {
+        cached.uses -= 1;
+        cached.matrix = Some(matrix.clone()?);
     }
     Ok(matrix)
 }

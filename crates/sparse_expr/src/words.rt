@@ -25,7 +25,7 @@ pub(crate) enum Token {
     /// `*`, which takes two operands.
     Times,
     /// `t`, which takes one operand.
-    Turn,
+    Transpose,
     /// `n`, which takes one operand.
     Negate,
 }
@@ -57,7 +57,7 @@ fn operator(word: &[u8]) -> Option<Token>
     } else if word == b"*".as_slice() {
         Some(Token::Times)
     } else if word == b"t".as_slice() {
-        Some(Token::Turn)
+        Some(Token::Transpose)
     } else if word == b"n".as_slice() {
         Some(Token::Negate)
     } else {
@@ -142,7 +142,7 @@ fn apply(alloc: Global, token: Token, stack: &mut Vec<Expr>) -> Result<(), ExprE
             let (a, b) = operands(alloc, stack)?;
             Expr::Mul(a, b)
         }
-        Token::Turn => Expr::Transpose(operand(alloc, stack)?),
+        Token::Transpose => Expr::Transpose(operand(alloc, stack)?),
         Token::Negate => Expr::Neg(operand(alloc, stack)?),
     };
     stack.push(tree)?;
@@ -151,7 +151,7 @@ fn apply(alloc: Global, token: Token, stack: &mut Vec<Expr>) -> Result<(), ExprE
 
 // Pops one tree and boxes it.
 fn operand(alloc: Global, stack: &mut Vec<Expr>) -> Result<Box<Expr>, ExprError>
-    ensures taken { IfOk result (λ a. stack.old.items ≡ stack.new.items ++ box_value a ∷ []) }
+    ensures accepted { IfOk result (λ a. stack.old.items ≡ stack.new.items ++ box_value a ∷ []) }
     ensures refused { IfErr result (λ e. (e ≡ OutOfMemory)
         ⊎ ((e ≡ MissingOperand) × (length stack.old.items < 1))) }
 {
@@ -163,7 +163,7 @@ fn operand(alloc: Global, stack: &mut Vec<Expr>) -> Result<Box<Expr>, ExprError>
 
 // Pops two trees and boxes them. The one that was pushed first comes first.
 fn operands(alloc: Global, stack: &mut Vec<Expr>) -> Result<(Box<Expr>, Box<Expr>), ExprError>
-    ensures taken { IfOk result
+    ensures accepted { IfOk result
         (λ p. stack.old.items ≡ stack.new.items ++ box_value p.0 ∷ box_value p.1 ∷ []) }
     ensures refused { IfErr result (λ e. (e ≡ OutOfMemory)
         ⊎ ((e ≡ MissingOperand) × (length stack.old.items < 2))) }

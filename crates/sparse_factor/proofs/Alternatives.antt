@@ -18,13 +18,13 @@ pub none_grown : {A B E M : Type 0} → A ↔ B → M ↔ (B ⊎ E) → (E → �
 none_grown same part none = search rules
 
 -- what is new does not have the property P, so A is the same
-pub part_passed : {A B E M P : Type 0} → A ↔ (B × P) → M ↔ (B ⊎ E) → (E → P → ⊥) → A ↔ (M × P)
-part_passed before part fails = search rules
+pub part_unchanged : {A B E M P : Type 0} → A ↔ (B × P) → M ↔ (B ⊎ E) → (E → P → ⊥) → A ↔ (M × P)
+part_unchanged before part fails = search rules
 
 -- what is new has the property P, and W is A or what is new
-pub part_taken : {W A B E M P : Type 0} → W ↔ (A ⊎ E) → A ↔ (B × P) → M ↔ (B ⊎ E) → (E → P)
+pub part_added : {W A B E M P : Type 0} → W ↔ (A ⊎ E) → A ↔ (B × P) → M ↔ (B ⊎ E) → (E → P)
     → W ↔ (M × P)
-part_taken whole before part holds = search rules
+part_added whole before part holds = search rules
 
 -- W is A or what is new, and A has the alternatives B and C: the first grows
 pub first_grown : {W A B C E M : Type 0} → W ↔ (A ⊎ E) → A ↔ (B ⊎ C) → M ↔ (B ⊎ E) → W ↔ (M ⊎ C)

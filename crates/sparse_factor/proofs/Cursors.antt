@@ -3,14 +3,14 @@ use Rattle.std.proofs.Common.{◌≡◌, ◌≢◌, ℕ, ◌+◌, ◌<◌, ◌�
 use Rattle.std.proofs.Common.{slice_index, sym, subst, ◌∙◌, arith, get_or-set_same}
 use Rattle.std.proofs.Common.{get_or-set_other}
 use Rattle.sparse_algebra.proofs.Cases.{three, same_or_not, lt_add_one_cases, le_cases}
-use Rattle.sparse_pattern.specs.Raw.{Raw, end_of, IsPlace, IsValid}
+use Rattle.sparse_pattern.specs.Raw.{Raw, end_of, IsEntry, IsValid}
 use Rattle.sparse_pattern.proofs.PatternLanes.{rises_at}
 use Rattle.sparse_factor.specs.InnerFactors.{AreCursors, IsCursor, IsRowOf}
 
 module _ {p : Raw} {j k c : ℕ} (valid : IsValid p) (lane : k < p.major_dim)
     (cursor : IsCursor p j k c) where
   -- a column that has row j has it at its cursor
-  pub at_cursor : IsPlace p k j → (c < end_of p k) × (slice_index p.indices c ≡ j)
+  pub at_cursor : IsEntry p k j → (c < end_of p k) × (slice_index p.indices c ≡ j)
   at_cursor place = elim (three place.at c) [
     | inl less ↦
         let r = cursor.before place.at place.in_lane.from less in
@@ -39,7 +39,7 @@ module _ {p : Raw} {j k c : ℕ} (valid : IsValid p) (lane : k < p.major_dim)
   }
 
   -- in a column without row j the cursor for row j is that for row j + 1
-  pub cursor_stays : (IsPlace p k j → ⊥) → IsCursor p (j + 1) k c
+  pub cursor_stays : (IsEntry p k j → ⊥) → IsCursor p (j + 1) k c
   cursor_stays none = record {
     from = cursor.from;
     to = cursor.to;

@@ -9,7 +9,7 @@ use Rattle.sparse_algebra.specs.Algebra.{CommRing}
 use Rattle.sparse_algebra.specs.Sums.{sum_below}
 use Rattle.sparse_algebra.specs.Plain.{Plain}
 use Rattle.sparse_algebra.proofs.SumLemmas.{sum_below-same, sum_below-zero}
-use Rattle.sparse_with_dense.proofs.RingSteps.{add_off, sum_below-split}
+use Rattle.sparse_dense_ops.proofs.RingSteps.{add_off, sum_below-split}
 use Rattle.sparse_factor.specs.Factorisations.{IsFactorisation, plain_diagonal, plain_ldl}
 use Rattle.sparse_factor.specs.Factorisations.{plain_symmetric}
 use Rattle.sparse_factor.specs.InnerFactors.{term, ArePartFactors}

@@ -6,7 +6,7 @@ use Rattle.sparse_algebra.specs.Sums.{sum_below}
 use Rattle.sparse_algebra.proofs.Products.{unit_cancels}
 use Rattle.sparse_algebra.proofs.RingLemmas.{mul_zero, cancel}
 use Rattle.sparse_algebra.specs.Inverses.{HasInverse}
-use Rattle.sparse_with_dense.proofs.RingSteps.{add_off}
+use Rattle.sparse_dense_ops.proofs.RingSteps.{add_off}
 
 module _ (R : CommRing) where
   -- a product with zero on the right

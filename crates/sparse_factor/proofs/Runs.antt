@@ -10,7 +10,7 @@ use Rattle.std.proofs.lemmas.Grind.{common_steps}
 use Rattle.std.proofs.lemmas.List.{get_or_append_left}
 use Rattle.std.proofs.lemmas.List.{get_or_default}
 use Rattle.std.proofs.lemmas.List.Edits.{length-between, between_more}
-use Rattle.sparse_pattern.specs.Raw.{Raw, start_of, end_of, IsPlace, IsValidLane}
+use Rattle.sparse_pattern.specs.Raw.{Raw, start_of, end_of, IsEntry, IsValidLane}
 use Rattle.sparse_pattern.proofs.LaneLists.{has_from_contains, contains_from_has}
 use Rattle.sparse_pattern.proofs.PatternLanes.{rises_at}
 use Rattle.sparse_factor.specs.InnerColumns.{IsRun, IsInRun}
@@ -108,9 +108,9 @@ lane_run d k lane = record {
   rising = rises_at d k lane;
 }
 
-pub lane_place : (d : Raw) (k i : ℕ) → k < d.major_dim
-    → IsInRun d.indices (start_of d k) (end_of d k) i ↔ IsPlace d k i
-lane_place d k i lt = (
+pub lane_entry : (d : Raw) (k i : ℕ) → k < d.major_dim
+    → IsInRun d.indices (start_of d k) (end_of d k) i ↔ IsEntry d k i
+lane_entry d k i lt = (
   λ h. record {
     at = h.at;
     in_lane = record { lane = lt; from = h.from; to = h.to };

@@ -7,10 +7,10 @@ use Rattle.sparse_algebra.proofs.RingLemmas.{mul_zero}
 use Rattle.sparse_algebra.specs.Algebra.{CommRing}
 use Rattle.sparse_coo_dense.specs.Dense.{Dense, value_at, column_of, with_column}
 use Rattle.sparse_coo_dense.specs.DensePlain.{plain_of_dense}
-use Rattle.sparse_with_dense.specs.SparseVectors.{elements}
-use Rattle.sparse_with_dense.proofs.PlainSolutions.{dense_inside, dense_past_cols}
-use Rattle.sparse_with_dense.proofs.RingSteps.{divided}
-use Rattle.sparse_with_dense.proofs.SolvedColumns.{with_column-here, with_column-other}
+use Rattle.sparse_dense_ops.specs.SparseVectors.{elements}
+use Rattle.sparse_dense_ops.proofs.PlainSolutions.{dense_inside, dense_past_cols}
+use Rattle.sparse_dense_ops.proofs.RingSteps.{divided}
+use Rattle.sparse_dense_ops.proofs.SolvedColumns.{with_column-here, with_column-other}
 use Rattle.sparse_factor.specs.InnerFactors.{AreInverses, AreScaledBelow, IsScaled}
 
 -- the first i entries of y are those of x times those of `factors`, and the other entries are the

@@ -15,15 +15,15 @@ use Rattle.sparse_coo_dense.specs.DensePlain.{plain_of_dense}
 use Rattle.sparse_compressed.specs.Compressed.{Compressed, IsSound}
 use Rattle.sparse_compressed.specs.PlainOfLanes.{plain_of_cols}
 use Rattle.sparse_compressed.proofs.Arrays.{proper_rows}
-use Rattle.sparse_with_dense.specs.Solutions.{IsSolution, IsSingular, plain_lower}
-use Rattle.sparse_with_dense.proofs.ColumnSteps.{lower_is, lower_zero}
-use Rattle.sparse_with_dense.specs.SparseVectors.{elements}
+use Rattle.sparse_dense_ops.specs.Solutions.{IsSolution, IsSingular, plain_lower}
+use Rattle.sparse_dense_ops.proofs.ColumnSteps.{lower_is, lower_zero}
+use Rattle.sparse_dense_ops.specs.SparseVectors.{elements}
 use Rattle.sparse_factor.specs.Factorisations.{plain_ldl}
 use Rattle.sparse_factor.specs.Factors.{AreFactors, Factors, plain_of_factors}
 use Rattle.sparse_factor.specs.InnerFactors.{AreInverses, AreScaledBelow}
-use Rattle.sparse_factor.proofs.FilledSets.{has_place}
+use Rattle.sparse_factor.proofs.FilledSets.{has_entry}
 use Rattle.sparse_factor.proofs.PlainProducts.{ldl-value}
-use Rattle.sparse_factor.proofs.PlaceValues.{place_value}
+use Rattle.sparse_factor.proofs.EntryValues.{value_at_entry}
 use Rattle.sparse_factor.proofs.Results.{ok_or}
 use Rattle.sparse_factor.proofs.RingFacts.{trivial}
 use Rattle.sparse_factor.proofs.ScaledRows.{plain_divided}
@@ -59,9 +59,9 @@ module _ {R : CommRing} {T : Type 0} {f : T → R.Carrier} {z : T} {s : Factors 
       lower_is R l (λ i j. proper_rows R f m j i) k k (omega arith) in
       elim (true_or_false (l.has k k)) [
         | inl hit ↦
-            let place = has_place R f m sound k k hit in
+            let place = has_entry R f m sound k k hit in
             let v = get_or m.values place.at z in
-            let value = place_value R f sound z place in
+            let value = value_at_entry R f sound z place in
             let test : nat_le k k ≡ true = grind (arith, nat_tests) in
             let inverts : R.mul (t.value k k) (f v) ≡ R.one =
             ap (λ c. R.mul c (f v)) (same ∙ one) ∙ ap (R.mul R.one) (sym value ∙ one)

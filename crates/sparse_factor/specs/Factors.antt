@@ -11,7 +11,7 @@ use Rattle.sparse_compressed.specs.Laws.{compressed_eq-laws, compressed_eq-equiv
 use Rattle.sparse_compressed.specs.PlainOfLanes.{plain_of_cols}
 use Rattle.sparse_factor.specs.Fill.{InFill, UpperBase, StoresByColumns}
 use Rattle.sparse_algebra.specs.Inverses.{HasInverse}
-use Rattle.sparse_with_dense.specs.Solutions.{HasSameValues}
+use Rattle.sparse_dense_ops.specs.Solutions.{HasSameValues}
 use Rattle.sparse_factor.specs.Factorisations.{IsFactorisation, IsUnitLower, plain_ldl}
 use Rattle.sparse_factor.specs.Factorisations.{plain_symmetric}
 

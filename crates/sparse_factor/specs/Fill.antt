@@ -1,7 +1,7 @@
 -- The fill of a symmetric elimination: the smallest closed set that contains a base.
 use Rattle.std.specs.Prelude.{ℕ, ◌<◌, ◌≤◌, ◌↔◌, ◌⊎◌, Bool, IsTrue, List}
 use Rattle.std.specs.List.{Contains}
-use Rattle.sparse_pattern.specs.Raw.{Raw, IsPlace}
+use Rattle.sparse_pattern.specs.Raw.{Raw, IsEntry}
 use Rattle.sparse_factor.specs.declared.factorization.Triangle.{Triangle}
 use Rattle.sparse_factor.specs.declared.factorization.Triangle.TheVariants.{Upper, Lower, Both}
 
@@ -26,11 +26,11 @@ pub data Filled (base : ℕ → ℕ → Type 0) : ℕ → ℕ → Type 0 where
 -- the base of a pattern stored by columns: (c, r) for each stored row r ≤ c of column c, which is
 -- the upper triangle transposed
 abbrev pub UpperBase : Raw → ℕ → ℕ → Type 0
-UpperBase p c r = IsPlace p c r × (r ≤ c)
+UpperBase p c r = IsEntry p c r × (r ≤ c)
 
 -- the base of the lower triangle: (r, c) for each stored row r ≥ c of column c
 abbrev pub LowerBase : Raw → ℕ → ℕ → Type 0
-LowerBase p r c = IsPlace p c r × (c ≤ r)
+LowerBase p r c = IsEntry p c r × (c ≤ r)
 
 -- the base of each triangle; that of both triangles is the union
 abbrev pub TriangleBase : Triangle → Raw → ℕ → ℕ → Type 0
@@ -40,7 +40,7 @@ TriangleBase Both p i j = UpperBase p i j ⊎ LowerBase p i j
 
 -- the entries of the pattern, read by columns, are exactly the pairs (row, column) of the set
 abbrev pub StoresByColumns : (ℕ → ℕ → Type 0) → Raw → Type 0
-StoresByColumns set p = (i j : ℕ) → IsPlace p j i ↔ set i j
+StoresByColumns set p = (i j : ℕ) → IsEntry p j i ↔ set i j
 
 -- the list contains every pair (row, column) of the fill
 abbrev pub ListsFill : (ℕ → ℕ → Type 0) → List (ℕ × ℕ) → Type 0

@@ -4,9 +4,9 @@ use Rattle.std.specs.Prelude.{◌≡◌, ◌≢◌, ℕ, suc, ◌≤◌, ◌⊎�
 use Rattle.sparse_factor.specs.InnerColumns.{IsRun, IsInRun, IsInTail}
 
 -- the list that begins at a head contains a column
-pub data Reaches (nexts : List ℕ) : ℕ → ℕ → Type 0 where
-  here : {k : ℕ} → Reaches nexts (suc k) k
-  next : {k m : ℕ} → Reaches nexts (slice_index nexts k) m → Reaches nexts (suc k) m
+pub data IsOnList (nexts : List ℕ) : ℕ → ℕ → Type 0 where
+  here : {k : ℕ} → IsOnList nexts (suc k) k
+  next : {k m : ℕ} → IsOnList nexts (slice_index nexts k) m → IsOnList nexts (suc k) m
 
 -- the link of each column leads to a column before it, or to the end of the list
 abbrev pub AreFalling : List ℕ → Type 0
@@ -24,7 +24,7 @@ pub record IsTailRun (offsets rows : List ℕ) (head low high : ℕ) : Type 0 wh
 -- row i is in the tail of a column on the list
 abbrev pub IsInTails : List ℕ → List ℕ → List ℕ → ℕ → ℕ → Type 0
 IsInTails offsets rows nexts head i =
-    (k : ℕ) × Reaches nexts head k × IsInTail offsets rows k i
+    (k : ℕ) × IsOnList nexts head k × IsInTail offsets rows k i
 
 -- `new` has the rows of `old` and those of the tails of all columns on the list but the longest,
 -- and no row that is neither in `old` nor in a tail of the list
@@ -32,5 +32,5 @@ pub record HasOthers (offsets rows nexts : List ℕ) (first longest : ℕ) (old 
   where
     pub kept : (i : ℕ) → Contains old i → Contains new i
     pub sound : (i : ℕ) → Contains new i → Contains old i ⊎ IsInTails offsets rows nexts first i
-    pub whole : (i k : ℕ) → Reaches nexts first k → longest ≢ suc k → IsInTail offsets rows k i
+    pub whole : (i k : ℕ) → IsOnList nexts first k → longest ≢ suc k → IsInTail offsets rows k i
         → Contains new i

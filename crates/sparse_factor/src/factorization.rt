@@ -1,15 +1,15 @@
 //! Symbolic factorisations.
 
 ghost use Rattle.std.specs.Prelude.{◌≡◌, ℕ, ◌+◌, ◌≤◌, ◌↔◌, List, length, IfOk, OnOk, IsTrue};
-ghost use Rattle.sparse_pattern.specs.Raw.{IsValid, IsPlace, nnz_of, HasSamePlaces};
+ghost use Rattle.sparse_pattern.specs.Raw.{IsValid, IsEntry, nnz_of, HasSameEntries};
 ghost use Rattle.sparse_factor.specs.Fill.{InFill, UpperBase, LowerBase, TriangleBase};
 ghost use Rattle.sparse_factor.specs.Fill.{StoresByColumns, ListsFill};
 ghost use Rattle.sparse_factor.specs.Symbolic.{Symbolic, symbolic_eq, IsFactorOf};
 ghost use Rattle.sparse_factor.specs.declared.factorization.Triangle.{Triangle};
-ghost use Rattle.sparse_factor.specs.Walks.{StoresWalks, StoresDiagonal};
+ghost use Rattle.sparse_factor.specs.FillPaths.{StoresFillPaths, StoresDiagonal};
 ghost use Rattle.sparse_factor.specs.Fill.{Filled};
 
-use sparse_algebra::learn;
+use sparse_algebra::recall;
 use sparse_coo_dense::steps::Steps;
 use sparse_pattern::counting::Count;
 use sparse_pattern::pattern::SparsityPattern;
@@ -82,7 +82,7 @@ impl CscSymbolicCholesky {
         ensures rows { IfOk result (λ s. s.factor.minor_dim ≡ pattern.minor_dim) }
         ensures columns { IfOk result (λ s. s.factor.major_dim ≡ pattern.major_dim) }
         ensures fill { IfOk result (λ s. StoresByColumns (InFill (UpperBase pattern)) s.factor) }
-        ensures walks { IfOk result (λ s. StoresWalks (UpperBase pattern) s.factor) }
+        ensures fill_paths { IfOk result (λ s. StoresFillPaths (UpperBase pattern) s.factor) }
         ensures diagonal { IfOk result (λ s. StoresDiagonal (UpperBase pattern) s.factor) }
         ensures valid { IfOk result (λ s. IsValid s.factor) }
     {
@@ -122,7 +122,7 @@ impl CscSymbolicCholesky {
         ensures columns { IfOk result (λ s. s.factor.major_dim ≡ pattern.major_dim) }
         ensures fill { IfOk result (λ s.
             StoresByColumns (InFill (TriangleBase triangle pattern)) s.factor) }
-        ensures walks { IfOk result (λ s. StoresWalks (TriangleBase triangle pattern) s.factor) }
+        ensures fill_paths { IfOk result (λ s. StoresFillPaths (TriangleBase triangle pattern) s.factor) }
         ensures diagonal { IfOk result (λ s.
             StoresDiagonal (TriangleBase triangle pattern) s.factor) }
         ensures valid { IfOk result (λ s. IsValid s.factor) }
@@ -146,7 +146,7 @@ impl CscSymbolicCholesky {
         ensures rows { IfOk result (λ s. s.factor.minor_dim ≡ pattern.minor_dim) }
         ensures columns { IfOk result (λ s. s.factor.major_dim ≡ pattern.major_dim) }
         ensures fill { IfOk result (λ s. StoresByColumns (InFill (UpperBase pattern)) s.factor) }
-        ensures walks { IfOk result (λ s. StoresWalks (UpperBase pattern) s.factor) }
+        ensures fill_paths { IfOk result (λ s. StoresFillPaths (UpperBase pattern) s.factor) }
         ensures diagonal { IfOk result (λ s. StoresDiagonal (UpperBase pattern) s.factor) }
         ensures valid { IfOk result (λ s. IsValid s.factor) }
         ensures all_read { OnOk result (steps.old + nnz_of pattern ≤ steps.new) }
@@ -202,7 +202,7 @@ fn fill_of(
     ensures rows { IfOk result (λ l. l.minor_dim ≡ pattern.now.minor_dim) }
     ensures columns { IfOk result (λ l. l.major_dim ≡ pattern.now.major_dim) }
     ensures places { IfOk result (λ l. (i j : ℕ)
-        → IsPlace l j i ↔ Filled (TriangleBase triangle pattern.now) i j) }
+        → IsEntry l j i ↔ Filled (TriangleBase triangle pattern.now) i j) }
     ensures valid { IfOk result IsValid }
 {
     match triangle {
@@ -226,14 +226,14 @@ fn fill_of_upper(
     ensures rows { IfOk result (λ l. l.minor_dim ≡ pattern.now.minor_dim) }
     ensures columns { IfOk result (λ l. l.major_dim ≡ pattern.now.major_dim) }
     ensures places { IfOk result (λ l. (i j : ℕ)
-        → IsPlace l j i ↔ Filled (UpperBase pattern.now) i j) }
+        → IsEntry l j i ↔ Filled (UpperBase pattern.now) i j) }
     ensures valid { IfOk result IsValid }
     ensures all_read { OnOk result (steps.old + nnz_of pattern.now ≤ steps.new) }
     ensures no_more { (fill : List (ℕ × ℕ)) → ListsFill (UpperBase pattern.now) fill
         → steps.new ≤ steps.old + nnz_of pattern.now + length fill }
 {
     // Tells the prover that the pattern is valid.
-    learn(pattern.major_offsets());
+    recall(pattern.major_offsets());
     let mirrored = pattern.transpose(alloc)?;
     fill_below(alloc, &mirrored, steps)
 }
@@ -249,7 +249,7 @@ fn fill_below(
     ensures rows { IfOk result (λ l. l.minor_dim ≡ base.now.minor_dim) }
     ensures columns { IfOk result (λ l. l.major_dim ≡ base.now.major_dim) }
     ensures places { IfOk result (λ l. (i j : ℕ)
-        → IsPlace l j i ↔ Filled (LowerBase base.now) i j) }
+        → IsEntry l j i ↔ Filled (LowerBase base.now) i j) }
     ensures valid { IfOk result IsValid }
     ensures all_read { OnOk result (steps.old + nnz_of base.now ≤ steps.new) }
     ensures no_more { (fill : List (ℕ × ℕ)) → ListsFill (LowerBase base.now) fill
@@ -281,8 +281,8 @@ impl PartialEq for CscSymbolicCholesky {
 
     fn eq(&self, other: &Self) -> bool
         ensures value { result ≡ symbolic_eq self.now other.now }
-        ensures places { IsTrue result ↔ (HasSamePlaces self.now.input other.now.input
-            × HasSamePlaces self.now.factor other.now.factor) }
+        ensures places { IsTrue result ↔ (HasSameEntries self.now.input other.now.input
+            × HasSameEntries self.now.factor other.now.factor) }
     {
         self.pattern == other.pattern && self.l_pattern == other.l_pattern
     }

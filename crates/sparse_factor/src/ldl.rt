@@ -10,7 +10,7 @@ ghost use Rattle.sparse_factor.specs.Factors.{AreFactorsOf, AreOnlyFactorsOf, Ha
 ghost use Rattle.sparse_factor.specs.Factors.{HavePivots, plain_of_factors, symmetric_of};
 ghost use Rattle.sparse_algebra.specs.declared.error.OperationErrorKind.TheVariants.{OutOfMemory};
 ghost use Rattle.sparse_algebra.specs.declared.error.OperationErrorKind.TheVariants.{Singular};
-ghost use Rattle.sparse_with_dense.specs.Solutions.{HasSameValues, IsSolution};
+ghost use Rattle.sparse_dense_ops.specs.Solutions.{HasSameValues, IsSolution};
 
 mod columns;
 mod numeric;
@@ -20,12 +20,12 @@ use crate::factorization::CscSymbolicCholesky;
 use numeric::factor_on_fill;
 use solve::scale_rows;
 use sparse_algebra::error::OperationError;
-use sparse_algebra::learn;
+use sparse_algebra::recall;
 use sparse_algebra::operand::Op;
 use sparse_algebra::scalar::Units;
 use sparse_coo_dense::dense::DMatrix;
 use sparse_csr_csc::csc::CscMatrix;
-use sparse_with_dense::spsolve_csc_lower_triangular;
+use sparse_dense_ops::spsolve_csc_lower_triangular;
 use std::alloc::{AllocError, Global};
 use std::marker::Model;
 
@@ -136,7 +136,7 @@ impl<T: Units> Ldl<T> {
             (plain_of_factors T.ring T.value T.zero_value self.now)
             (plain_of_dense T.ring T.value b.new) (plain_of_dense T.ring T.value b.old) }
     {
-        learn(self.l.values());
+        recall(self.l.values());
         // The solves return an error only over the ring in which one is zero; there every X is a solution.
         let _ = spsolve_csc_lower_triangular(Op::NoOp(&self.l), b);
         scale_rows(&self.inverses, b);

@@ -28,9 +28,9 @@ module _ {V : Type 0} (name : List ℕ) (text : V → List ℕ) (m : Coo V) wher
 
   -- the bytes are the head and the lines of all triplets but those left
   pub record IsBegun (bytes : List ℕ) (left : Triplets V) : Type 0 where
-    pub front : Triplets V
-    pub order : m.triplets ≡ front ++ left
-    pub is : bytes ≡ begun front
+    pub leading : Triplets V
+    pub order : m.triplets ≡ leading ++ left
+    pub is : bytes ≡ begun leading
 
   -- these bytes went to the sink, except those that the buffer holds
   pub record IsWriting (old new : Option (List ℕ)) (buffer : List ℕ) (left : Triplets V) : Type
@@ -43,7 +43,7 @@ module _ {V : Type 0} {name : List ℕ} {text : V → List ℕ} {m : Coo V} wher
   pub IsBegun-none : {bytes : List ℕ} {left : Triplets V} → bytes ≡ head_of name m → left ≡ m.triplets
       → IsBegun name text m bytes left
   IsBegun-none b l = record {
-    front = [];
+    leading = [];
     order = sym l;
     is = b
         ∙ sym (append-nil (head_of name m));
@@ -54,14 +54,14 @@ module _ {V : Type 0} {name : List ℕ} {text : V → List ℕ} {m : Coo V} wher
       → IsBegun name text m (bytes ++ triplet_line text t) left'
   IsBegun-more {bytes} {t} {left} {left'} b e =
       record {
-        front = b.front ++ t ∷ [];
-        order = b.order ∙ ap (λ ts. b.front ++ ts) e ∙ sym (append_assoc b.front (t ∷ []) left');
-        is = ap (λ l. l ++ triplet_line text t) b.is ∙ append_assoc (head_of name m) (lines text b.front)
+        leading = b.leading ++ t ∷ [];
+        order = b.order ∙ ap (λ ts. b.leading ++ ts) e ∙ sym (append_assoc b.leading (t ∷ []) left');
+        is = ap (λ l. l ++ triplet_line text t) b.is ∙ append_assoc (head_of name m) (lines text b.leading)
             (triplet_line text t)
-            ∙ ap (λ l. head_of name m ++ (lines text b.front ++ l))
+            ∙ ap (λ l. head_of name m ++ (lines text b.leading ++ l))
             (sym (append-nil (triplet_line text t)))
             ∙ ap (λ l. head_of name m ++ l)
-            (sym (flat_map-append (triplet_line text) b.front (t ∷ [])));
+            (sym (flat_map-append (triplet_line text) b.leading (t ∷ [])));
       }
 
   -- the text continues with the lines of the triplets left
@@ -72,8 +72,8 @@ module _ {V : Type 0} {name : List ℕ} {text : V → List ℕ} {m : Coo V} wher
       sym (append_assoc (heading name) (size_line m.nrows m.ncols (length m.triplets))
       (lines text m.triplets))
       ∙ ap (begun name text m) b.order ∙ ap (λ l. head_of name m ++ l)
-      (flat_map-append (triplet_line text) b.front left)
-      ∙ sym (append_assoc (head_of name m) (lines text b.front) (lines text left))
+      (flat_map-append (triplet_line text) b.leading left)
+      ∙ sym (append_assoc (head_of name m) (lines text b.leading) (lines text left))
       ∙ ap (λ l. l ++ lines text left) (sym b.is)
 
   pub IsBegun-all : {bytes : List ℕ} {left : Triplets V} → IsBegun name text m bytes left → left ≡ []

@@ -29,7 +29,7 @@ use Rattle.sparse_parser.specs.InnerReading.{settled_of}
 use Rattle.sparse_parser.proofs.WordLaws.{words_of-nil}
 use Rattle.sparse_io.specs.InnerEntries.{IsMeant, IsLineRead, ended_of, ending, still_read}
 use Rattle.sparse_io.specs.InnerEntries.{Reading, IsReadOn, reading}
-use Rattle.sparse_io.proofs.EntryLoop.{IsRead, IsRefused, front_read, no_text}
+use Rattle.sparse_io.proofs.EntryLoop.{IsRead, IsRefused, first_line_read, no_text}
 
 no_entry : is_entry [] ≡ true → ⊥
 unfolding is_entry
@@ -67,7 +67,7 @@ module _ (S : Scalar) (h : Header) where
       → IsRead text next (line_words text)
   meant_is_read {at} {text} {rest} {next} m b same len =
       let some : length text ≢ 0 = entry_not_empty text m.is in
-      front_read text rest next b (omega arith) m.is m.after_line same len
+      first_line_read text rest next b (omega arith) m.is m.after_line same len
 
   pub next_is_read : {at : Option (ℕ × ℕ)} {text next : List ℕ}
       {given : Read (List (Triplet S.Value))} → IsLineRead S h at text given next

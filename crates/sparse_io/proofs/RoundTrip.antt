@@ -72,7 +72,7 @@ module _ (S : Scalar) (field : Field) (named : IsNamed S.name field) (ws : S.Val
       → triplets_of S header at (triplet_words t) ≡ Ok (t ∷ [])
   unfolding triplets_of mirrored
   triplets-words at t h =
-      let e = h.value.taken at (decimal (t.0 + 1)) (decimal (t.1 + 1)) t.0 t.1
+      let e = h.value.accepted at (decimal (t.0 + 1)) (decimal (t.1 + 1)) t.0 t.1
       (index-decimal (t.0 + 1) h.row) (index-decimal (t.1 + 1) h.col)
       (number-decimal (t.0 + 1) h.row) (number-decimal (t.1 + 1) h.col) in
       rw e refl

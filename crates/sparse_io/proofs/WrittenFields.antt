@@ -30,7 +30,7 @@ pub record IsOfField (S : Scalar) (field : Field) (x : S.Value) (ws : List (List
   pub last : IsLast (S.text x) ws
   pub shape : (row col : List ℕ) → is_index row ≡ true → is_index col ≡ true
       → is_entry (row ∷ col ∷ ws) ≡ true
-  pub taken : (at : Option (ℕ × ℕ)) (row col : List ℕ) (i j : ℕ) → is_index row ≡ true
+  pub accepted : (at : Option (ℕ × ℕ)) (row col : List ℕ) (i j : ℕ) → is_index row ≡ true
       → is_index col ≡ true → number_of row ≡ Ok (i + 1) → number_of col ≡ Ok (j + 1)
       → entry_of S Coordinate field at (row ∷ col ∷ ws) ≡ Ok (i, j, x)
 
@@ -55,7 +55,7 @@ unfolding entry_of field_value integer_of is_entry
 integer_of_field S x h = record {
   last = inl (integer_text (S.text x) h.spelled, refl);
   shape = λ row col r c. rw (r, c, integer-number (S.text x) h.spelled) refl;
-  taken = λ at row col i j r c m n. rw (r, c, place-is row col i j m n, h.spelled, h.wide, h.back)
+  accepted = λ at row col i j r c m n. rw (r, c, place-is row col i j m n, h.spelled, h.wide, h.back)
       refl;
 }
 
@@ -65,7 +65,7 @@ unfolding entry_of field_value is_entry
 pattern_of_field S x none back = record {
   last = inr (none, refl);
   shape = λ row col r c. rw (index-number row r, index-number col c) refl;
-  taken = λ at row col i j r c m n. rw (r, c, place-is row col i j m n, back) refl;
+  accepted = λ at row col i j r c m n. rw (r, c, place-is row col i j m n, back) refl;
 }
 
 -- ---- the whole text

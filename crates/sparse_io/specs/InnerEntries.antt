@@ -78,8 +78,8 @@ numbered_symmetry (suc (suc n)) = SkewSymmetric
 abbrev pub HasIntegers : Header → Type 0
 HasIntegers h = (h.format ≡ Coordinate) × (h.field ≡ Integer)
 
-abbrev pub HasPlaces : Header → Type 0
-HasPlaces h = (h.format ≡ Coordinate) × (h.field ≡ Pattern)
+abbrev pub HasIndices : Header → Type 0
+HasIndices h = (h.format ≡ Coordinate) × (h.field ≡ Pattern)
 
 abbrev pub HasValues : Header → Type 0
 HasValues h = (h.format ≡ Array) × (h.field ≡ Integer)

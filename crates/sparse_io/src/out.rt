@@ -102,7 +102,7 @@ impl<W: Write> Out<W> {
 }
 
 impl<W: Write> Sink for Out<W> {
-    ghost taken = { λ out. W.contents out.inner };
+    ghost accepted = { λ out. W.contents out.inner };
 
     ghost failures = { λ out. out.failures };
 

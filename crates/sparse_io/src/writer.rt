@@ -113,10 +113,10 @@ where
 fn flush<W: Sink>(sink: &mut W, text: &mut String) -> Result<(), MatrixMarketError>
     ensures unfailed { OnOk result (W.failures sink.new ≡ W.failures sink.old) }
     ensures all { OnOk result
-        (Appends (W.taken sink.old) (W.taken sink.new) (string_bytes text.old)) }
+        (Appends (W.accepted sink.old) (W.accepted sink.new) (string_bytes text.old)) }
     ensures empty { OnOk result (string_bytes text.new ≡ []) }
     ensures prefix { OnErr result
-        (AppendsSome (W.taken sink.old) (W.taken sink.new) (string_bytes text.old)) }
+        (AppendsSome (W.accepted sink.old) (W.accepted sink.new) (string_bytes text.old)) }
     ensures refused { IfErr result
         (λ e. IsRefusedWrite (kind_of e) (W.failures sink.old) (W.failures sink.new)
         (W.last sink.new)) }
@@ -144,11 +144,11 @@ where
     requires col { col < usize.MAX }
     ensures unfailed { OnOk result (W.failures sink.new ≡ W.failures sink.old) }
     ensures buffered { OnOk result
-        (IsBuffered (W.taken sink.old) (W.taken sink.new) (string_bytes text.new)
+        (IsBuffered (W.accepted sink.old) (W.accepted sink.new) (string_bytes text.new)
         (string_bytes text.old
         ++ triplet_line (λ x. T.scalar.text (T.value x)) (row, col, value.now))) }
     ensures prefix { OnErr result
-        (AppendsSome (W.taken sink.old) (W.taken sink.new) (string_bytes text.old)) }
+        (AppendsSome (W.accepted sink.old) (W.accepted sink.new) (string_bytes text.old)) }
     ensures refused { IfErr result
         (λ e. IsRefusedWrite (kind_of e) (W.failures sink.old) (W.failures sink.new)
         (W.last sink.new)) }
@@ -180,11 +180,11 @@ where
     W: Sink,
     S: MatrixMarketExport<T>,
     ensures ok { OnOk result
-        (Appends (W.taken sink.old) (W.taken sink.new)
+        (Appends (W.accepted sink.old) (W.accepted sink.new)
         (text_of T.scalar.name (λ x. T.scalar.text (T.value x)) (S.exported matrix.now))) }
     ensures unfailed { OnOk result (W.failures sink.new ≡ W.failures sink.old) }
     ensures prefix { OnErr result
-        (AppendsSome (W.taken sink.old) (W.taken sink.new)
+        (AppendsSome (W.accepted sink.old) (W.accepted sink.new)
         (text_of T.scalar.name (λ x. T.scalar.text (T.value x)) (S.exported matrix.now))) }
     ensures refused { IfErr result
         (λ e. IsRefusedWrite (kind_of e) (W.failures sink.old) (W.failures sink.new)

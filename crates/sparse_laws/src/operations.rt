@@ -6,7 +6,7 @@
 
 ghost use Rattle.std.specs.Prelude.{◌≡◌, ◌↔◌, ℕ, true, IfOk};
 ghost use Rattle.sparse_algebra.specs.Plain.{plain_product, plain_sum, plain_transpose};
-ghost use Rattle.sparse_pattern.specs.Raw.{Raw, IsPlace};
+ghost use Rattle.sparse_pattern.specs.Raw.{Raw, IsEntry};
 ghost use Rattle.sparse_compressed.specs.Compressed.{Compressed, IsSound};
 ghost use Rattle.sparse_compressed.specs.PlainOfLanes.{plain_of_rows};
 ghost use Rattle.sparse_sums.specs.PatternSums.{IsUnionOf};
@@ -15,7 +15,7 @@ ghost use Rattle.sparse_products.specs.Products.{IsProductOf};
 pub mod columns;
 
 use sparse_algebra::laws::{identity_product_law, product_distributes_law, transpose_product_law};
-use sparse_algebra::learn;
+use sparse_algebra::recall;
 use sparse_algebra::scalar::Ring;
 use sparse_compressed::laws::stands_law;
 use sparse_csr_csc::csr::CsrMatrix;
@@ -57,7 +57,7 @@ pub fn product_distributes_right<T: Ring>(
         (λ m. plain_of_rows T.ring T.value m.0 ≡ plain_of_rows T.ring T.value m.1) }
 {
     product_distributes_law::<T>();
-    let product = sum_with_factor(alloc, a, b, c)?;
+    let product = sum_times_matrix(alloc, a, b, c)?;
     let products = sum_of_products(alloc, a, c, b, c)?;
     Ok((product, products))
 }
@@ -95,7 +95,7 @@ pub fn identity_times<T: Ring>(alloc: Global, a: &CsrMatrix<T>) -> Result<CsrMat
 {
     stands_law::<T>();
     identity_product_law::<T>();
-    learn(a.values());
+    recall(a.values());
     let identity = CsrMatrix::identity(alloc, a.nrows())?;
     mul_csr(alloc, &identity, a)
 }
@@ -107,7 +107,7 @@ pub fn times_identity<T: Ring>(alloc: Global, a: &CsrMatrix<T>) -> Result<CsrMat
 {
     stands_law::<T>();
     identity_product_law::<T>();
-    learn(a.values());
+    recall(a.values());
     let identity = CsrMatrix::identity(alloc, a.ncols())?;
     mul_csr(alloc, a, &identity)
 }
@@ -180,7 +180,7 @@ fn product_with_sum<T: Ring>(
 }
 
 // Returns `(a + b) * c`.
-fn sum_with_factor<T: Ring>(
+fn sum_times_matrix<T: Ring>(
     alloc: Global,
     a: &CsrMatrix<T>,
     b: &CsrMatrix<T>,
@@ -225,7 +225,7 @@ fn sum_of_products<T: Ring>(
 pub fn product_places_law<T: Ring>()
     ensures { (d : Raw) (a b : Compressed T) → IsSound a → IsSound b
         → a.pattern.minor_dim ≡ b.pattern.major_dim → IsProductOf d a.pattern b.pattern
-        → (i j : ℕ) → IsPlace d i j
+        → (i j : ℕ) → IsEntry d i j
         ↔ ((plain_product T.ring (plain_of_rows T.ring T.value a)
         (plain_of_rows T.ring T.value b)).has i j ≡ true) }
 {
@@ -236,7 +236,7 @@ pub fn product_places_law<T: Ring>()
 pub fn union_places_law<T: Ring>()
     ensures { (d : Raw) (a b : Compressed T) → IsSound a → IsSound b
         → IsUnionOf d a.pattern b.pattern
-        → (i j : ℕ) → IsPlace d i j
+        → (i j : ℕ) → IsEntry d i j
         ↔ ((plain_sum T.ring (plain_of_rows T.ring T.value a) (plain_of_rows T.ring T.value b)).has
         i j ≡ true) }
 {

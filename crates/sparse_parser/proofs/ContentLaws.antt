@@ -22,9 +22,9 @@ heads c rest (d ∷ word) after lt e = cc
 
 starts : (c : ℕ) (rest word : List ℕ) (words : List (List ℕ)) → is_blank c ≡ false
     → AreWords (c ∷ rest) (word ∷ words) → get_or word 0 0 ≡ c
-starts c rest word words e ([], after, blanks, lt, solid, same, apart, others) =
+starts c rest word words e ([], after, blanks, lt, solid, same, word_end, others) =
     heads c rest word after lt same
-starts c rest word words e (b ∷ before, after, blanks, lt, solid, same, apart, others) =
+starts c rest word words e (b ∷ before, after, blanks, lt, solid, same, word_end, others) =
     false-true e (let h : c ≡ b = cc in rw h blanks.0)
 
 -- the first word of a text that begins with the byte c begins with c
@@ -107,7 +107,7 @@ headed_only (line ∷ lines) header contents (inr (word, words, are, e, others))
 commented : (line word : List ℕ) (words : List (List ℕ)) → AreWords line (word ∷ words)
     → get_or word 0 0 ≡ 37
     → (before : List ℕ) × (rest : List ℕ) × AreBlanks before × (line ≡ before ++ (37 ∷ rest))
-commented line word words (before, rest, blanks, lt, solid, same, apart, others) p = (
+commented line word words (before, rest, blanks, lt, solid, same, word_end, others) p = (
   before,
   drop 1 word ++ rest,
   blanks,

@@ -22,18 +22,18 @@ use Rattle.std.proofs.lemmas.List.{drop_more}
 use Rattle.std.proofs.lemmas.Bool.Decides.{nat_tests}
 use Rattle.std.proofs.lemmas.Grind.{pow_more}
 use Rattle.std.proofs.Math.Nat.{pow-le-pow_right}
-use Rattle.sparse_parser.specs.Bytes.{front}
+use Rattle.sparse_parser.specs.Bytes.{leading}
 use Rattle.sparse_parser.specs.InnerNumbers.{HasStopped}
-use Rattle.sparse_parser.proofs.Fronts.{front-yes, front-drop_all, list_all-front}
+use Rattle.sparse_parser.proofs.LeadingBytes.{leading-yes, leading-drop_all, list_all-leading}
 
 -- all bytes of an index are digits, so its value is that of its leading digits
 pub index_number : (word : List ℕ) (n : Option ℕ) → is_index word ≡ true
-    → SomeIff n (digits_value 10 (front is_ascii_digit word) < 2 ^ 64)
-    (digits_value 10 (front is_ascii_digit word))
+    → SomeIff n (digits_value 10 (leading is_ascii_digit word) < 2 ^ 64)
+    (digits_value 10 (leading is_ascii_digit word))
     → SomeIff n (digits_value 10 word < 2 ^ 64) (digits_value 10 word)
 index_number word n i h =
     subst (λ (ds : List ℕ). SomeIff n (digits_value 10 ds < 2 ^ 64) (digits_value 10 ds))
-    (list_all-front is_ascii_digit word (and_parts _ _ i).1) h
+    (list_all-leading is_ascii_digit word (and_parts _ _ i).1) h
 
 -- appending digits does not lessen the value
 pub digits_value_after-ge : (n : ℕ) (digits : List ℕ) → n ≤ digits_value_after 10 n digits
@@ -47,21 +47,21 @@ digit_value-digit c e = grind (arith, nat_tests)
 -- the value exceeds 64 bits where a digit does not fit any more
 pub too_long : (n : ℕ) (text : List ℕ) (i total : ℕ) → i < length text
     → is_ascii_digit (get_or text i 0) ≡ true → ¬ (n * 10 + (get_or text i 0 - 48) < 2 ^ 64)
-    → digits_value_after 10 n (front is_ascii_digit (drop i text)) ≡ total → ¬ (total < 2 ^ 64)
+    → digits_value_after 10 n (leading is_ascii_digit (drop i text)) ≡ total → ¬ (total < 2 ^ 64)
 too_long n text i total lt e large same small =
-    let d = ap (front is_ascii_digit) (drop_more text i 0 lt)
-    ∙ front-yes is_ascii_digit (get_or text i 0) (drop (i + 1) text) e in
+    let d = ap (leading is_ascii_digit) (drop_more text i 0 lt)
+    ∙ leading-yes is_ascii_digit (get_or text i 0) (drop (i + 1) text) e in
     let v : digits_value_after 10 (n * 10 + digit_value (get_or text i 0))
-    (front is_ascii_digit (drop (i + 1) text)) ≡ total = sym (ap (digits_value_after 10 n) d)
+    (leading is_ascii_digit (drop (i + 1) text)) ≡ total = sym (ap (digits_value_after 10 n) d)
     ∙ same in
     let g = digits_value_after-ge (n * 10 + digit_value (get_or text i 0))
-    (front is_ascii_digit (drop (i + 1) text)) in
+    (leading is_ascii_digit (drop (i + 1) text)) in
     let f = digit_value-digit (get_or text i 0) e in
     large (omega arith)
 
 -- the value is that of the digits read where no digit is left
-pub fits_all : (n : ℕ) (text : List ℕ) (i total : ℕ) → front is_ascii_digit (drop i text) ≡ []
-    → n < 2 ^ 64 → digits_value_after 10 n (front is_ascii_digit (drop i text)) ≡ total
+pub fits_all : (n : ℕ) (text : List ℕ) (i total : ℕ) → leading is_ascii_digit (drop i text) ≡ []
+    → n < 2 ^ 64 → digits_value_after 10 n (leading is_ascii_digit (drop i text)) ≡ total
     → (total < 2 ^ 64) × (n ≡ total)
 fits_all n text i total e fits same =
     let v : n ≡ total = sym (ap (digits_value_after 10 n) e) ∙ same in
@@ -129,4 +129,4 @@ stopped_end text from at end inside e ge le = by (ltb at (length text)) refl
   where
     by : (t : Bool) → ltb at (length text) ≡ t → HasStopped (drop from text) (drop at text)
     by true f = inr (omega (arith, length-drop at text, length-drop from text, ltb-true _ _ f))
-    by false f = inl (front-drop_all is_ascii_digit text at (ltb-false _ _ f))
+    by false f = inl (leading-drop_all is_ascii_digit text at (ltb-false _ _ f))

@@ -6,11 +6,11 @@ use Rattle.std.specs.Char.{is_ascii_digit}
 use Rattle.std.specs.Str.Parse.{without_leading_sign}
 use Rattle.std.proofs.lemmas.Bool.{ltb-true}
 use Rattle.sparse_algebra.proofs.Cases.{and_parts}
-use Rattle.sparse_parser.specs.Bytes.{is_point, front, after}
+use Rattle.sparse_parser.specs.Bytes.{is_point, leading, after}
 use Rattle.sparse_parser.specs.InnerBytes.{is_unscaled}
 use Rattle.sparse_parser.specs.Grammar.{is_index, is_integer, is_mantissa}
 use Rattle.sparse_parser.specs.Grammar.{is_unsigned_number, is_number}
-use Rattle.sparse_parser.proofs.Fronts.{Passes, front-append, after-append}
+use Rattle.sparse_parser.proofs.LeadingBytes.{Passes, leading-append, after-append}
 use Rattle.sparse_parser.proofs.ByteClasses.{digit_unscaled, digit_no_sign, digit_no_point}
 use Rattle.sparse_parser.proofs.ByteClasses.{Passes-weaker}
 use Rattle.std.proofs.lemmas.List.{append-nil}
@@ -46,8 +46,8 @@ pub digits-number : (word : List ℕ) → is_index word ≡ true → is_unsigned
 digits-number word e =
     let d = digits-of word e in
     let u = Passes-weaker is_ascii_digit is_unscaled word digit_unscaled d.1 in
-    let f : front is_unscaled word ≡ word = ap (front is_unscaled) (sym (append-nil word))
-    ∙ front-append is_unscaled word [] u tt in
+    let f : leading is_unscaled word ≡ word = ap (leading is_unscaled) (sym (append-nil word))
+    ∙ leading-append is_unscaled word [] u tt in
     let a : after is_unscaled word ≡ [] = ap (after is_unscaled) (sym (append-nil word))
     ∙ after-append is_unscaled word [] u tt in
     rw (f, a, digits-mantissa word d.0 d.1) refl

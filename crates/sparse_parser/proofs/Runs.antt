@@ -10,33 +10,33 @@ use Rattle.std.specs.Float.Numeral.{digits_len}
 use Rattle.core.proofs.dec2flt.DigitsLemmas.{digits_len_short}
 use Rattle.core.proofs.dec2flt.Rows.{AllDigits-digits_len, short_fits}
 use Rattle.core.proofs.slice.Prefixes.{prefix_len-le-length}
-use Rattle.sparse_parser.specs.Bytes.{front, after}
+use Rattle.sparse_parser.specs.Bytes.{leading, after}
 use Rattle.sparse_parser.specs.InnerBytes.{is_space, BeginsLine}
 use Rattle.sparse_parser.specs.InnerNumbers.{IsNumberRead}
 use Rattle.sparse_parser.specs.InnerReading.{contents_of}
-use Rattle.sparse_parser.proofs.Fronts.{IsStopped-after, front-append, after-append, after-yes}
-use Rattle.sparse_parser.proofs.Fronts.{front_take, after_drop}
-use Rattle.sparse_parser.proofs.Fronts.{after-no}
-use Rattle.sparse_parser.proofs.FrontLines.{IsSought, sought_first}
+use Rattle.sparse_parser.proofs.LeadingBytes.{IsStopped-after, leading-append, after-append, after-yes}
+use Rattle.sparse_parser.proofs.LeadingBytes.{leading_take, after_drop}
+use Rattle.sparse_parser.proofs.LeadingBytes.{after-no}
+use Rattle.sparse_parser.proofs.FirstLines.{IsSought, sought_first}
 
 -- a run of digits is the longest prefix of digits
 run_is : (text : List ℕ) (from count : ℕ) → count ≡ digits_len (drop from text)
-    → (take count (drop from text) ≡ front is_ascii_digit (drop from text))
+    → (take count (drop from text) ≡ leading is_ascii_digit (drop from text))
     × (drop (from + count) text ≡ after is_ascii_digit (drop from text))
 run_is text from count run =
     let start = drop from text in (
-      ap (λ (n : ℕ). take n start) run ∙ sym (front_take is_ascii_digit start),
+      ap (λ (n : ℕ). take n start) run ∙ sym (leading_take is_ascii_digit start),
       sym (drop-drop count from text) ∙ ap (λ (n : ℕ). drop n start) run
           ∙ sym (after_drop is_ascii_digit start),
     )
 
 -- the text after the leading digits has no leading digit
 run_ends : (text rest : List ℕ) → rest ≡ after is_ascii_digit text
-    → (front is_ascii_digit rest ≡ []) × (after is_ascii_digit rest ≡ rest)
+    → (leading is_ascii_digit rest ≡ []) × (after is_ascii_digit rest ≡ rest)
 run_ends text rest r =
     let stop = IsStopped-after is_ascii_digit text in (
-      ap (front is_ascii_digit) r
-          ∙ front-append is_ascii_digit [] (after is_ascii_digit text) tt stop,
+      ap (leading is_ascii_digit) r
+          ∙ leading-append is_ascii_digit [] (after is_ascii_digit text) tt stop,
       ap (after is_ascii_digit) r
           ∙ after-append is_ascii_digit [] (after is_ascii_digit text) tt stop ∙ sym r,
     )

@@ -10,7 +10,7 @@ use Rattle.std.proofs.lemmas.Bool.Decides.{nat_tests}
 use Rattle.sparse_algebra.proofs.Cases.{and_parts}
 use Rattle.sparse_parser.specs.Bytes.{is_blank, is_line_end}
 use Rattle.sparse_parser.specs.Grammar.{IsOneLine, is_index, is_integer}
-use Rattle.sparse_parser.proofs.Fronts.{Passes}
+use Rattle.sparse_parser.proofs.LeadingBytes.{Passes}
 use Rattle.sparse_parser.proofs.NumberLaws.{digits-of}
 
 -- each byte is above the percent sign

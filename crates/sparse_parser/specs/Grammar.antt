@@ -5,7 +5,7 @@ use Rattle.std.specs.List.{AllByRecursion, list_all, list_any}
 use Rattle.std.specs.Char.{is_ascii_digit}
 use Rattle.std.specs.Str.Parse.{without_leading_sign}
 use Rattle.sparse_parser.specs.declared.header.Header.{Header}
-use Rattle.sparse_parser.specs.Bytes.{is_blank, is_line_end, is_point, is_exponent_letter, front}
+use Rattle.sparse_parser.specs.Bytes.{is_blank, is_line_end, is_point, is_exponent_letter, leading}
 use Rattle.sparse_parser.specs.Bytes.{after}
 use Rattle.sparse_parser.specs.Header.{header_of}
 
@@ -29,16 +29,16 @@ abbrev pub AreBlanks : List ℕ → Type 0
 AreBlanks bytes = AllByRecursion (λ b. is_blank b ≡ true) bytes
 
 -- what may follow a word on its line: nothing, or text that begins with a blank
-abbrev pub IsApart : List ℕ → Type 0
-IsApart [] = Unit {0}
-IsApart (b ∷ rest) = is_blank b ≡ true
+abbrev pub IsWordEnd : List ℕ → Type 0
+IsWordEnd [] = Unit {0}
+IsWordEnd (b ∷ rest) = is_blank b ≡ true
 
 -- the line consists of these words, separated by blanks
 abbrev pub AreWords : List ℕ → List (List ℕ) → Type 0
 AreWords line [] = AreBlanks line
 AreWords line (word ∷ words) = (before : List ℕ) × (rest : List ℕ) × AreBlanks before
     × (0 < length word) × AllByRecursion (λ b. is_blank b ≡ false) word
-    × (line ≡ before ++ (word ++ rest)) × IsApart rest × AreWords rest words
+    × (line ≡ before ++ (word ++ rest)) × IsWordEnd rest × AreWords rest words
 
 -- the contents of lines: the words of each line that is neither blank nor a comment
 abbrev pub AreContents : List (List ℕ) → List (List (List ℕ)) → Type 0
@@ -87,7 +87,7 @@ is_exponent (letter ∷ power) = is_integer power
 
 -- a mantissa followed by an exponent, which begins at the first letter e or E
 abbrev pub is_unsigned_number : List ℕ → Bool
-is_unsigned_number word = is_mantissa (front (λ b. not (is_exponent_letter b)) word)
+is_unsigned_number word = is_mantissa (leading (λ b. not (is_exponent_letter b)) word)
     && is_exponent (after (λ b. not (is_exponent_letter b)) word)
 
 -- a number: an optional sign, then an unsigned number

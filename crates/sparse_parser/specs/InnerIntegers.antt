@@ -56,7 +56,7 @@ pub record IsIntegerLine (text : List ℕ) (row col : ℕ) (value : ℤ) (rest :
   pub after_line : rest ≡ after is_within_line text
 
 -- the line consists of a row and a column
-pub record IsPlaceLine (text : List ℕ) (row col : ℕ) (rest : List ℕ) : Type 0 where
+pub record IsPatternLine (text : List ℕ) (row col : ℕ) (rest : List ℕ) : Type 0 where
   pub row_word : List ℕ
   pub col_word : List ℕ
   pub words : line_words text ≡ row_word ∷ col_word ∷ []

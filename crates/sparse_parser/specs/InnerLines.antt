@@ -26,8 +26,8 @@ is_whole Signed = true
 is_whole Other = false
 
 -- the value of an integer's digits, or `None` if it does not fit in 64 bits
-abbrev pub WriteNumber : List ℕ → Option ℕ → Type 0
-WriteNumber word n = SomeIff n (digits_value 10 (without_leading_sign word) < 2 ^ 64)
+abbrev pub IsDigitsValue : List ℕ → Option ℕ → Type 0
+IsDigitsValue word n = SomeIff n (digits_value 10 (without_leading_sign word) < 2 ^ 64)
     (digits_value 10 (without_leading_sign word))
 
 -- a number of this kind, and the value of its digits
@@ -35,7 +35,7 @@ pub record IsNumberOf (word : List ℕ) (digits : Option ℕ) (kind : NumberKind
   pub number : is_number word ≡ true
   pub index : is_index word ≡ is_plain kind
   pub integer : is_integer word ≡ is_whole kind
-  pub digits_are : IsTrue (is_whole kind) → WriteNumber word digits
+  pub digits_are : IsTrue (is_whole kind) → IsDigitsValue word digits
 
 abbrev pub IsNumber : Number → Type 0
 IsNumber n = IsNumberOf n.word.now n.digits n.kind

@@ -13,7 +13,7 @@ use Rattle.sparse_parser.specs.declared.error.MatrixMarketError.{MatrixMarketErr
 use Rattle.sparse_parser.specs.declared.size.Size.{Size}
 use Rattle.sparse_parser.specs.declared.header.Header.{Header}
 use Rattle.sparse_parser.specs.Errors.{kind_of_cause, kind_of}
-use Rattle.sparse_parser.specs.Bytes.{is_blank, is_line_end, front}
+use Rattle.sparse_parser.specs.Bytes.{is_blank, is_line_end, leading}
 use Rattle.sparse_parser.specs.InnerBytes.{is_within_line}
 use Rattle.sparse_parser.specs.Words.{words_between}
 use Rattle.sparse_parser.specs.Header.{header_of}
@@ -32,7 +32,7 @@ words_of line = words_between is_blank line
 
 -- the words of the first line of a text
 unfoldable pub line_words : List ℕ → List (List ℕ)
-line_words text = words_of (front is_within_line text)
+line_words text = words_of (leading is_within_line text)
 
 -- the words of each line that is not blank
 abbrev pub written_lines : List (List ℕ) → List (List (List ℕ))

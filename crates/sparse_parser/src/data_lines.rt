@@ -2,7 +2,7 @@
 
 ghost use Rattle.std.specs.Prelude.{◌≡◌, IsTrue, false, true, MatchOption, Ok};
 ghost use Rattle.sparse_parser.specs.declared.data_lines.Found.TheVariants as found;
-ghost use Rattle.sparse_parser.specs.Bytes.{is_blank, front, after};
+ghost use Rattle.sparse_parser.specs.Bytes.{is_blank, leading, after};
 ghost use Rattle.sparse_parser.specs.InnerBytes.{is_solid};
 ghost use Rattle.sparse_parser.specs.Grammar.{is_integer, is_number, is_entry};
 ghost use Rattle.sparse_parser.specs.Meaning.{integer_of, number_of};
@@ -153,7 +153,7 @@ fn next_number(text: &[u8]) -> Found<'_>
 // The first word of a line if it is an integer, and the text after it. Leading blanks are skipped.
 #[inline(always)]
 fn leading_integer(text: &[u8]) -> Option<(Number<'_>, &[u8])>
-    ensures { MatchOption result (is_integer (front is_solid (after is_blank text.now)) ≡ false)
+    ensures { MatchOption result (is_integer (leading is_solid (after is_blank text.now)) ≡ false)
         (λ x. IsFound text.now (found.Number x.0 x.1)) }
 {
     let text = after_blanks(text);
@@ -175,7 +175,7 @@ fn leading_integer(text: &[u8]) -> Option<(Number<'_>, &[u8])>
 #[cold]
 fn other_number(text: &[u8]) -> Found<'_>
     requires start { StartsWord text.now }
-    requires no_integer { is_integer (front is_solid text.now) ≡ false }
+    requires no_integer { is_integer (leading is_solid text.now) ≡ false }
     ensures { IsFound text.now result }
 {
     let (word, rest) = split_solid(text);

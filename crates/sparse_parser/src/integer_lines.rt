@@ -7,7 +7,7 @@ ghost use Rattle.std.specs.Str.Parse.{without_leading_sign};
 ghost use Rattle.sparse_parser.specs.Bytes.{is_blank, after};
 ghost use Rattle.sparse_parser.specs.InnerLines.{ends_word};
 ghost use Rattle.sparse_parser.specs.InnerIntegers.{IsIndexAt, IsEndAt, IsLastIndex, IsLastNumber};
-ghost use Rattle.sparse_parser.specs.InnerIntegers.{IsIntegerLine, IsPlaceLine, IsValueLine};
+ghost use Rattle.sparse_parser.specs.InnerIntegers.{IsIntegerLine, IsPatternLine, IsValueLine};
 
 use crate::digit_runs::{digits_at, long_digits_at};
 use crate::lines::{ends_line, ends_word, is_blank, text_from};
@@ -31,11 +31,11 @@ pub fn integer_line(text: &[u8], from: usize) -> Option<(usize, usize, i64, usiz
 /// Parses the line at an offset as two indices. Returns the row, the column and the offset of the line's end, or `None`
 /// if the fast path does not apply.
 #[inline(always)]
-pub fn place_line(text: &[u8], from: usize) -> Option<(usize, usize, usize)>
+pub fn pattern_line(text: &[u8], from: usize) -> Option<(usize, usize, usize)>
     requires { from ≤ length text.now }
     ensures inside { MatchOption result (Unit {0}) (λ line. line.2 ≤ length text.now) }
     ensures line { MatchOption result (Unit {0})
-        (λ line. IsPlaceLine (drop from text.now) line.0 line.1 (drop line.2 text.now)) }
+        (λ line. IsPatternLine (drop from text.now) line.0 line.1 (drop line.2 text.now)) }
 {
     let (row, at) = index_at(text, from)?;
     let (col, end) = last_index(text, at)?;

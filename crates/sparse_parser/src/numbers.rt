@@ -11,16 +11,16 @@ ghost use Rattle.std.specs.Int.{w128};
 ghost use lib.IntN.{neg_ℤ};
 ghost use Rattle.sparse_parser.specs.Grammar.{is_index, is_integer, is_mantissa, is_exponent};
 ghost use Rattle.sparse_parser.specs.Grammar.{is_number};
-ghost use Rattle.sparse_parser.specs.Bytes.{front, after, is_exponent_letter, is_point};
+ghost use Rattle.sparse_parser.specs.Bytes.{leading, after, is_exponent_letter, is_point};
 
 use crate::digit_runs::{SHORT, first_digits_at};
-use crate::lines::{split_front, text_from};
+use crate::lines::{split_prefix, text_from};
 
 /// Parses all leading digits. Returns their value, or `None` if it exceeds 64 bits, and the rest of the text.
 pub fn leading_number(text: &[u8]) -> (Option<usize>, &[u8])
     ensures number { SomeIff result.0
-        (digits_value 10 (front is_ascii_digit text.now) < 2 ^ 64)
-        (digits_value 10 (front is_ascii_digit text.now)) }
+        (digits_value 10 (leading is_ascii_digit text.now) < 2 ^ 64)
+        (digits_value 10 (leading is_ascii_digit text.now)) }
     ensures rest { result.1.now ≡ after is_ascii_digit text.now }
 {
     let (number, end) = first_digits_at(text, 0);
@@ -35,8 +35,8 @@ pub fn leading_number(text: &[u8]) -> (Option<usize>, &[u8])
 #[cold]
 fn long_number(before: usize, text: &[u8]) -> (Option<usize>, &[u8])
     ensures number { SomeIff result.0
-        (digits_value_after 10 before (front is_ascii_digit text.now) < 2 ^ 64)
-        (digits_value_after 10 before (front is_ascii_digit text.now)) }
+        (digits_value_after 10 before (leading is_ascii_digit text.now) < 2 ^ 64)
+        (digits_value_after 10 before (leading is_ascii_digit text.now)) }
     ensures rest { result.1.now ≡ after is_ascii_digit text.now }
 {
     let mut number = before;
@@ -62,7 +62,7 @@ fn with_digit(number: usize, digit: u8) -> Option<usize>
 fn after_digits(text: &[u8]) -> &[u8]
     ensures { result.now ≡ after is_ascii_digit text.now }
 {
-    let (_, rest) = split_front(text, |byte| byte.is_ascii_digit());
+    let (_, rest) = split_prefix(text, |byte| byte.is_ascii_digit());
     rest
 }
 
@@ -106,7 +106,7 @@ pub fn integer(word: &[u8]) -> Option<i128>
 pub fn is_number(word: &[u8]) -> bool
     ensures { result ≡ is_number word.now }
 {
-    let (mantissa, exponent) = split_front(after_sign(word), |byte| !is_exponent_letter(byte));
+    let (mantissa, exponent) = split_prefix(after_sign(word), |byte| !is_exponent_letter(byte));
     is_mantissa(mantissa) && is_exponent(exponent)
 }
 

@@ -4,7 +4,7 @@ use Rattle.std.proofs.Common.{arith}
 use Rattle.sparse_algebra.proofs.Cases.{le_cases}
 use Rattle.sparse_pattern.specs.Raw.{Raw, start_of, end_of, IsInLane, IsValidLane}
 use Rattle.sparse_pattern.specs.FirstFault.{IsBefore}
-use Rattle.sparse_pattern.specs.PatternFaults.{Spot, OffsetCount, FirstLast, LaneEnd, Bound, Fall}
+use Rattle.sparse_pattern.specs.PatternFaults.{Rule, OffsetCount, FirstLast, LaneEnd, Bound, Fall}
 use Rattle.sparse_pattern.specs.PatternFaults.{Repeat, rank_of, HasFault, IsFirstFault}
 use Rattle.sparse_pattern.specs.InnerPatternFaults.{IsRisingBelow, IsFirstAmong}
 use Rattle.sparse_pattern.specs.declared.pattern.faults.SparsityPatternFormatError.{SparsityPatternFormatError}
@@ -17,8 +17,8 @@ pub record LanesFine (d : Raw) (i : ℕ) : Type 0 where
   pub last : slice_index d.offsets d.major_dim ≡ length d.indices
   pub lanes : (k : ℕ) → k < i → IsValidLane d k
 
-abbrev NoneBefore : Raw → Spot → Type 0
-NoneBefore d s = (t : Spot) → IsBefore (rank_of t) (rank_of s) → HasFault d t → ⊥
+abbrev NoneBefore : Raw → Rule → Type 0
+NoneBefore d s = (t : Rule) → IsBefore (rank_of t) (rank_of s) → HasFault d t → ⊥
 
 module _ (d : Raw) where
   -- a lane that ends after it begins and within the indices satisfies the rule for its end
@@ -43,7 +43,7 @@ module _ (d : Raw) where
       → (end_of d i < start_of d i) ⊎ (length d.indices < end_of d i)
       → IsFirstFault d NonmonotonicOffsets
   first_at_end i fine lane bad = record {
-    spot = LaneEnd i;
+    rule = LaneEnd i;
     first =
         record { here = (lane, bad); none_before = none_before_lane i fine };
     is = refl;
@@ -54,17 +54,17 @@ module _ (d : Raw) where
   module _ (i p : ℕ) (fine : LanesFine d i) (ordered : start_of d i ≤ end_of d i)
       (inside : end_of d i ≤ length d.indices)
       (so_far : IsRisingBelow d.minor_dim d.indices (start_of d i) p) where
-    none_before_position : (n : ℕ) → n ≤ 2 → (0 < n → slice_index d.indices p < d.minor_dim)
-        → (1 < n → slice_index d.indices (p - 1) ≤ slice_index d.indices p) → (t : Spot)
+    none_before_offset : (n : ℕ) → n ≤ 2 → (0 < n → slice_index d.indices p < d.minor_dim)
+        → (1 < n → slice_index d.indices (p - 1) ≤ slice_index d.indices p) → (t : Rule)
         → IsBefore (rank_of t) (i + 2, p + 1, n) → HasFault d t → ⊥
-    none_before_position n top bound order OffsetCount b h = h fine.count
-    none_before_position n top bound order FirstLast b h =
+    none_before_offset n top bound order OffsetCount b h = h fine.count
+    none_before_offset n top bound order FirstLast b h =
         elim h [ inl x ↦ x fine.first | inr x ↦ x fine.last ]
-    none_before_position n top bound order (LaneEnd k) b h = elim (le_cases k i (grind arith)) [
+    none_before_offset n top bound order (LaneEnd k) b h = elim (le_cases k i (grind arith)) [
       | inl lt ↦ let v = fine.lanes k lt in end_fine k v.ordered v.inside h
       | inr same ↦ end_fine k (rw same ordered) (rw same inside) h
     ]
-    none_before_position n top bound order (Bound k q) b h = elim (le_cases k i (grind arith)) [
+    none_before_offset n top bound order (Bound k q) b h = elim (le_cases k i (grind arith)) [
       | inl lt ↦ omega (arith, (fine.lanes k lt).bounded q h.0.from h.0.to, h.1)
       | inr same ↦ elim (le_cases q p (grind arith)) [
         | inl before ↦ omega (arith, so_far.bounded q (rw (← same) h.0.from) before, h.1)
@@ -72,14 +72,14 @@ module _ (d : Raw) where
             (arith, rw (← here) at (bound some), h.1)
       ]
     ]
-    none_before_position n top bound order (Fall k q) b h = elim (le_cases k i (grind arith)) [
+    none_before_offset n top bound order (Fall k q) b h = elim (le_cases k i (grind arith)) [
       | inl lt ↦ omega (arith, (fine.lanes k lt).rising q h.1 h.0.to, h.2)
       | inr same ↦ elim (le_cases q p (grind arith)) [
         | inl before ↦ omega (arith, so_far.rising q (rw (← same) h.1) before, h.2)
         | inr here ↦ let two : 1 < n = grind arith in omega (arith, rw (← here) at (order two), h.2)
       ]
     ]
-    none_before_position n top bound order (Repeat k q) b h = elim (le_cases k i (grind arith)) [
+    none_before_offset n top bound order (Repeat k q) b h = elim (le_cases k i (grind arith)) [
       | inl lt ↦ omega (arith, (fine.lanes k lt).rising q h.1 h.0.to, h.2)
       | inr same ↦ let before : q < p = grind arith in omega
           (arith, so_far.rising q (rw (← same) h.1) before, h.2)
@@ -92,10 +92,10 @@ module _ (d : Raw) where
   first_among i fine lane ordered inside e among =
       let p = among.at in
       let in_lane : IsInLane d i p = record { lane = lane; from = among.from; to = among.to } in
-      let none = none_before_position i p fine ordered inside among.fine_before in
+      let none = none_before_offset i p fine ordered inside among.fine_before in
       elim among.here [
         | inl outside ↦ record {
-          spot = Bound i p;
+          rule = Bound i p;
           first =
               record {
                 here = (in_lane, outside.1);
@@ -107,7 +107,7 @@ module _ (d : Raw) where
         }
         | inr order ↦ elim order.2 [
           | inl falls ↦ record {
-            spot = Fall i p;
+            rule = Fall i p;
             first =
                 record {
                   here = (in_lane, order.1, falls.1);
@@ -117,7 +117,7 @@ module _ (d : Raw) where
             is = falls.0;
           }
           | inr repeats ↦ record {
-            spot = Repeat i p;
+            rule = Repeat i p;
             first =
                 record {
                   here = (in_lane, order.1, repeats.1);

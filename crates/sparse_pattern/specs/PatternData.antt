@@ -1,6 +1,6 @@
 -- The raw data in the data struct of a pattern.
 use Rattle.sparse_pattern.specs.Raw.{Raw, raw_of}
-use Rattle.sparse_pattern_data.specs.declared.PatternData.{PatternData}
+use Rattle.sparse_serde_pattern.specs.declared.PatternData.{PatternData}
 
 -- the raw data in the struct
 abbrev pub pattern_in : PatternData → Raw

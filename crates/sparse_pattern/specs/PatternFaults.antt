@@ -15,16 +15,16 @@ use Rattle.sparse_pattern.specs.declared.error.SparseFormatErrorKind.TheVariants
 -- the rules of a pattern: for the number of offsets, for the first and the last offset, for the end of
 -- lane i, and for the index at offset p of lane i, which must be in bounds, not less than the index
 -- before it, and not equal to it
-pub data Spot : Type 0 where
-  OffsetCount : Spot
-  FirstLast : Spot
-  LaneEnd : ℕ → Spot
-  Bound : ℕ → ℕ → Spot
-  Fall : ℕ → ℕ → Spot
-  Repeat : ℕ → ℕ → Spot
+pub data Rule : Type 0 where
+  OffsetCount : Rule
+  FirstLast : Rule
+  LaneEnd : ℕ → Rule
+  Bound : ℕ → ℕ → Rule
+  Fall : ℕ → ℕ → Rule
+  Repeat : ℕ → ℕ → Rule
 
 -- the data violates the rule
-abbrev pub HasFault : Raw → Spot → Type 0
+abbrev pub HasFault : Raw → Rule → Type 0
 HasFault d OffsetCount = length d.offsets ≢ d.major_dim + 1
 HasFault d FirstLast = (slice_index d.offsets 0 ≢ 0)
     ⊎ (slice_index d.offsets d.major_dim ≢ length d.indices)
@@ -37,7 +37,7 @@ HasFault d (Repeat i p) = IsInLane d i p × (start_of d i < p)
     × (slice_index d.indices p ≡ slice_index d.indices (p - 1))
 
 -- the error for a violated rule
-abbrev pub error_of : Spot → SparsityPatternFormatError
+abbrev pub error_of : Rule → SparsityPatternFormatError
 error_of OffsetCount = InvalidOffsetArrayLength
 error_of FirstLast = InvalidOffsetFirstLast
 error_of (LaneEnd i) = NonmonotonicOffsets
@@ -56,7 +56,7 @@ kind_of NonmonotonicMinorIndices = variants.InvalidStructure
 
 -- the order of the rules: lane by lane, the end of a lane before its indices, and for each index its
 -- bound first
-abbrev pub rank_of : Spot → ℕ × ℕ × ℕ
+abbrev pub rank_of : Rule → ℕ × ℕ × ℕ
 rank_of OffsetCount = (0, 0, 0)
 rank_of FirstLast = (1, 0, 0)
 rank_of (LaneEnd i) = (i + 2, 0, 0)
@@ -66,6 +66,6 @@ rank_of (Repeat i p) = (i + 2, p + 1, 2)
 
 -- e is the error of the first fault of the data
 pub record IsFirstFault (d : Raw) (e : SparsityPatternFormatError) : Type 0 where
-  pub spot : Spot
-  pub first : IsFirst rank_of (HasFault d) spot
-  pub is : e ≡ error_of spot
+  pub rule : Rule
+  pub first : IsFirst rank_of (HasFault d) rule
+  pub is : e ≡ error_of rule

@@ -40,7 +40,7 @@ pub record IsInLane (d : Raw) (i p : ℕ) : Type 0 where
   pub to : p < end_of d i
 
 -- (i, j) is an entry: lane i has the index j at some offset
-pub record IsPlace (d : Raw) (i j : ℕ) : Type 0 where
+pub record IsEntry (d : Raw) (i j : ℕ) : Type 0 where
   pub at : ℕ
   pub in_lane : IsInLane d i at
   pub index : slice_index d.indices at ≡ j
@@ -85,7 +85,7 @@ raw_eq = eq_of_both (eq_of_both (on (λ d. d.minor_dim) ◌==◌) (on (λ d. d.o
     (on (λ d. d.indices) (pointwise ◌==◌))
 
 -- the same shape and the same entries
-pub record HasSamePlaces (a b : Raw) : Type 0 where
+pub record HasSameEntries (a b : Raw) : Type 0 where
   pub major_dim : a.major_dim ≡ b.major_dim
   pub minor_dim : a.minor_dim ≡ b.minor_dim
-  pub places : (i j : ℕ) → IsPlace a i j ↔ IsPlace b i j
+  pub places : (i j : ℕ) → IsEntry a i j ↔ IsEntry b i j

@@ -3,7 +3,7 @@
 ghost use Rattle.std.specs.Prelude.{◌≡◌, ◌<◌, ◌↔◌, length, IfOk, IfErr, IfSome, IsOk, IsSome};
 ghost use Rattle.std.specs.Prelude.{IsTrue, OnOk};
 ghost use Rattle.sparse_pattern.specs.Raw.{IsValid, IsValidLane, raw_of, empty_raw, lane_of};
-ghost use Rattle.sparse_pattern.specs.Raw.{start_of, end_of, raw_eq, HasSamePlaces};
+ghost use Rattle.sparse_pattern.specs.Raw.{start_of, end_of, raw_eq, HasSameEntries};
 ghost use Rattle.sparse_pattern.specs.PatternFaults.{IsFirstFault};
 
 use std::alloc::{AllocError, Global};
@@ -101,7 +101,7 @@ impl SparsityPattern {
             (raw_of major_dim minor_dim major_offsets.items minor_indices.items)) }
         ensures fault { IfErr result (IsFirstFault
             (raw_of major_dim minor_dim major_offsets.items minor_indices.items)) }
-        ensures taken { IsValid (raw_of major_dim minor_dim major_offsets.items minor_indices.items)
+        ensures accepted { IsValid (raw_of major_dim minor_dim major_offsets.items minor_indices.items)
             → IsOk result }
     {
         faults::check(major_dim, minor_dim, &major_offsets, &minor_indices)?;
@@ -241,7 +241,7 @@ impl PartialEq for SparsityPattern {
 
     fn eq(&self, other: &Self) -> bool
         ensures value { result ≡ raw_eq self.now other.now }
-        ensures places { IsTrue result ↔ HasSamePlaces self.now other.now }
+        ensures places { IsTrue result ↔ HasSameEntries self.now other.now }
     {
         self.minor_dim == other.minor_dim
             && self.major_offsets == other.major_offsets

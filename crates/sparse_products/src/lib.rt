@@ -8,5 +8,5 @@ pub use sparse_coo_dense::steps::Steps;
 
 /// Transposes, with contracts that are equations of plain matrices.
 pub mod transposes {
-    pub use crate::serial::factor::{transposed_csc, transposed_csr};
+    pub use crate::serial::multiplicands::{transposed_csc, transposed_csr};
 }

@@ -1,7 +1,7 @@
 //! Products of sparse matrices, computed in one thread.
 
-pub(crate) mod factor;
-mod lane_set;
+pub(crate) mod multiplicands;
+mod index_set;
 mod pattern;
 mod prealloc;
 mod product;
@@ -10,7 +10,7 @@ mod scatter;
 mod search;
 mod unchecked;
 mod update;
-mod walk;
+mod accumulate;
 
 pub use pattern::{spmm_csc_pattern, spmm_csr_pattern};
 pub use prealloc::{spmm_csc_prealloc, spmm_csr_prealloc};

@@ -7,7 +7,7 @@ use Rattle.sparse_pattern.specs.SparseEntries.{entry_name}
 use Rattle.sparse_pattern.specs.declared.entry.SparseEntryMut.{SparseEntryMut}
 use Rattle.sparse_compressed.specs.Compressed.{transposed}
 use Rattle.sparse_compressed.specs.Lanes.{Lane, lane_parts}
-use Rattle.sparse_compressed.specs.Left.{triplets_left, lanes_left, triplet_values, lane_values}
+use Rattle.sparse_compressed.specs.MutIterators.{triplets_left, lanes_left, triplet_values, lane_values}
 use Rattle.sparse_compressed.specs.Writing.{index_in}
 use Rattle.sparse_rows_cols.specs.declared.col_triplets.CscTripletIterMut.{CscTripletIterMut}
 use Rattle.sparse_rows_cols.specs.declared.col_mut.CscColIterMut.{CscColIterMut}
@@ -16,8 +16,8 @@ use Rattle.sparse_rows_cols.specs.contracts.col_mut.CscColMut.{the_row as col_ty
 
 module _ {T : Type 0} where
   -- the column as a lane, with its values as they are at this time
-  abbrev pub lent_col : CscColMut T → Lane T
-  lent_col s = lane_parts s.nrows s.row_indices s.values.now
+  abbrev pub col_as_lane : CscColMut T → Lane T
+  col_as_lane s = lane_parts s.nrows s.row_indices s.values.now
 
   -- the values of the column
   abbrev pub col_values : CscColMut T → MutBor (List T)

@@ -6,7 +6,7 @@ use mir.Syntax.{named}
 use Rattle.sparse_pattern.specs.SparseEntries.{entry_name}
 use Rattle.sparse_pattern.specs.declared.entry.SparseEntryMut.{SparseEntryMut}
 use Rattle.sparse_compressed.specs.Lanes.{Lane, lane_parts}
-use Rattle.sparse_compressed.specs.Left.{triplets_left, lanes_left, triplet_values, lane_values}
+use Rattle.sparse_compressed.specs.MutIterators.{triplets_left, lanes_left, triplet_values, lane_values}
 use Rattle.sparse_compressed.specs.Writing.{index_in}
 use Rattle.sparse_rows_cols.specs.declared.row_triplets.CsrTripletIterMut.{CsrTripletIterMut}
 use Rattle.sparse_rows_cols.specs.declared.row_mut.CsrRowIterMut.{CsrRowIterMut}
@@ -15,8 +15,8 @@ use Rattle.sparse_rows_cols.specs.contracts.row_mut.CsrRowMut.{the_row as row_ty
 
 module _ {T : Type 0} where
   -- the row as a lane, with its values as they are at this time
-  abbrev pub lent_row : CsrRowMut T → Lane T
-  lent_row s = lane_parts s.ncols s.col_indices s.values.now
+  abbrev pub row_as_lane : CsrRowMut T → Lane T
+  row_as_lane s = lane_parts s.ncols s.col_indices s.values.now
 
   -- the values of the row
   abbrev pub row_values : CsrRowMut T → MutBor (List T)

@@ -4,7 +4,7 @@ ghost use Rattle.std.specs.Prelude.{◌≡◌, ⊤, length};
 ghost use Rattle.std.specs.Iterator.{YieldsFirst, item_count};
 ghost use Rattle.sparse_compressed.specs.Lanes.{IsLaneEntryOf, IsSoundLane};
 
-use sparse_algebra::learn;
+use sparse_algebra::recall;
 use sparse_compressed::{CsLane, CsLaneIter};
 use sparse_pattern::entry::SparseEntry;
 use std::alloc::AllocError;
@@ -73,7 +73,7 @@ impl<'a, T> CscCol<'a, T> {
         ensures sound { IsSoundLane self.now }
     {
         // Tells the prover that the column is sound.
-        learn(self.lane.values());
+        recall(self.lane.values());
         self.lane.get_entry(row_index)
     }
 }

@@ -4,7 +4,7 @@ ghost use Rattle.std.specs.Prelude.{◌≡◌, ⊤, length};
 ghost use Rattle.std.specs.Iterator.{YieldsFirst, item_count};
 ghost use Rattle.sparse_compressed.specs.Lanes.{IsLaneEntryOf, IsSoundLane};
 
-use sparse_algebra::learn;
+use sparse_algebra::recall;
 use sparse_compressed::{CsLane, CsLaneIter};
 use sparse_pattern::entry::SparseEntry;
 use std::alloc::AllocError;
@@ -74,7 +74,7 @@ impl<'a, T> CsrRow<'a, T> {
         ensures sound { IsSoundLane self.now }
     {
         // Tells the prover that the row is sound.
-        learn(self.lane.values());
+        recall(self.lane.values());
         self.lane.get_entry(col_index)
     }
 }

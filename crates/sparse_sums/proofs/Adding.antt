@@ -9,8 +9,8 @@ use Rattle.std.proofs.lemmas.List.{length-take-le, length-drop, take-append-drop
 use Rattle.sparse_algebra.specs.Algebra.{CommRing}
 use Rattle.sparse_algebra.specs.Sums.{sum_by, where_true}
 use Rattle.sparse_algebra.proofs.RingLemmas.{zero_add, add_cross}
-use Rattle.sparse_compressed.specs.InnerRows.{lane_value}
-use Rattle.sparse_compressed.proofs.RowSums.{sum_zip_more}
+use Rattle.sparse_compressed.specs.InnerLaneValue.{lane_value}
+use Rattle.sparse_compressed.proofs.AddedLanes.{sum_zip_more}
 use Rattle.sparse_sums.specs.InnerMerging.{IsMerged}
 use Rattle.sparse_sums.specs.InnerAdding.{GainsValues, GainsEntries, IsAdding}
 use Rattle.sparse_sums.proofs.Merging.{merging_first, merging_second, merging_both, none_merged}

@@ -11,7 +11,7 @@ use Rattle.sparse_algebra.proofs.PlainLaws.{proper_sum}
 use Rattle.sparse_pattern.specs.Raw.{lane_of}
 use Rattle.sparse_compressed.specs.Compressed.{Compressed, arrays_of, IsSound}
 use Rattle.sparse_compressed.specs.PlainOfLanes.{plain_of_rows}
-use Rattle.sparse_compressed.specs.InnerRows.{lane_value}
+use Rattle.sparse_compressed.specs.InnerLaneValue.{lane_value}
 use Rattle.sparse_compressed.proofs.Arrays.{proper_rows, has_is_place}
 use Rattle.sparse_compressed.proofs.LaneValues.{values_of, lane_value_is}
 use Rattle.sparse_compressed.proofs.BuiltMatrices.{IsBuiltMatrix, built_is}

@@ -8,15 +8,15 @@ use Rattle.sparse_algebra.specs.Algebra.{CommRing}
 use Rattle.sparse_algebra.specs.Plain.{Plain, IsProper, plain_transpose}
 use Rattle.sparse_algebra.proofs.RingLemmas.{mul_zero}
 use Rattle.sparse_algebra.proofs.PlainLaws.{proper_transpose}
-use Rattle.sparse_pattern.specs.Raw.{Raw, IsPlace}
+use Rattle.sparse_pattern.specs.Raw.{Raw, IsEntry}
 use Rattle.sparse_algebra.specs.Prealloc.{plain_update, IsCovered}
 use Rattle.sparse_compressed.specs.Compressed.{Compressed, compressed_of, IsSound}
 use Rattle.sparse_compressed.specs.PlainOfLanes.{plain_of_rows, plain_of_cols}
 use Rattle.sparse_compressed.specs.Writing.{with_values}
 use Rattle.sparse_compressed.proofs.Arrays.{proper_rows}
-use Rattle.sparse_compressed.proofs.Standing.{rows_have}
+use Rattle.sparse_compressed.proofs.ArraysDeterminePlain.{plain_of_rows-has_lanes}
 use Rattle.sparse_compressed.proofs.Updates.{updated}
-use Rattle.sparse_sums.specs.InnerPlacing.{HasPlacesOf}
+use Rattle.sparse_sums.specs.InnerTargets.{ContainsPatternOf}
 use Rattle.sparse_compressed.specs.InnerUpdates.{AreUpdated}
 use Rattle.sparse_algebra.specs.Prealloc.{plain_transpose_if}
 
@@ -28,7 +28,7 @@ pub update_is : (R : CommRing) {T : Type 0} (f : T → R.Carrier) (z : T) {m : C
     → plain_of_rows R f (compressed_of m.pattern ws)
     ≡ plain_update R beta (plain_of_rows R f m) alpha x
 update_is R f z {m} x beta alpha ws sound long proper covered values =
-    let was = rows_have R f m sound in
+    let was = plain_of_rows-has_lanes R f m sound in
     updated R f z m ws (plain_update R beta (plain_of_rows R f m) alpha x).value sound long
     (λ i j none.
     let off : x.has i j ≡ false = elim (true_or_false (x.has i j)) [
@@ -45,17 +45,17 @@ update_is R f z {m} x beta alpha ws sound long proper covered values =
 -- the pattern of m contains that of a, transposed or not, if and only if its plain matrix covers that of a
 covered_is : (R : CommRing) {T : Type 0} (f : T → R.Carrier) {m a : Compressed T} → IsSound m
     → IsSound a → (transposed : Bool)
-    → HasPlacesOf m.pattern transposed a.pattern
+    → ContainsPatternOf m.pattern transposed a.pattern
     ↔ IsCovered (plain_transpose_if R transposed (plain_of_rows R f a)) (plain_of_rows R f m)
 covered_is R f {m} {a} sm sa transposed = both transposed
   where
-    here : (i j : ℕ) → IsPlace m.pattern i j ↔ ((plain_of_rows R f m).has i j ≡ true)
-    here = (rows_have R f m sm).places
+    here : (i j : ℕ) → IsEntry m.pattern i j ↔ ((plain_of_rows R f m).has i j ≡ true)
+    here = (plain_of_rows-has_lanes R f m sm).places
 
-    there : (i j : ℕ) → IsPlace a.pattern i j ↔ ((plain_of_rows R f a).has i j ≡ true)
-    there = (rows_have R f a sa).places
+    there : (i j : ℕ) → IsEntry a.pattern i j ↔ ((plain_of_rows R f a).has i j ≡ true)
+    there = (plain_of_rows-has_lanes R f a sa).places
 
-    both : (t : Bool) → HasPlacesOf m.pattern t a.pattern
+    both : (t : Bool) → ContainsPatternOf m.pattern t a.pattern
         ↔ IsCovered (plain_transpose_if R t (plain_of_rows R f a)) (plain_of_rows R f m)
     both true = (
       λ h i j x. (here i j).0 (h j i ((there j i).1 x)),
@@ -102,7 +102,7 @@ module _ (R : CommRing) {T : Type 0} (f : T → R.Carrier) (z : T) {m a x : Comp
     (sm : IsSound m) (sx : IsSound x) (x_is : x ≡ a) {d : Raw} (d_is : d ≡ m.pattern)
     {vs : List T} (vs_is : vs ≡ m.values) (transposed : Bool) {E : Type 0}
     (r : Result (Unit {0}) E) (beta alpha : R.Carrier) (ws : List T)
-    (places : IsOk r ↔ HasPlacesOf d transposed x.pattern) (count : length ws ≡ length vs)
+    (places : IsOk r ↔ ContainsPatternOf d transposed x.pattern) (count : length ws ≡ length vs)
     (refused : OnErr r (ws ≡ vs))
     (added : OnOk r (AreUpdated R f z d beta alpha
     (plain_transpose_if R transposed (plain_of_rows R f x)).value vs ws)) where

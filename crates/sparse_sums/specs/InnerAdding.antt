@@ -3,7 +3,7 @@ use Rattle.std.specs.Prelude.{◌≡◌, ℕ, ◌⊎◌, ◌↔◌, Bool, List, 
 use Rattle.std.specs.List.Sorted.{IsStrictlyIncreasing}
 use Rattle.sparse_algebra.specs.Algebra.{CommRing}
 use Rattle.sparse_compressed.specs.Compressed.{Compressed, arrays_of}
-use Rattle.sparse_compressed.specs.InnerRows.{lane_value}
+use Rattle.sparse_compressed.specs.InnerLaneValue.{lane_value}
 use Rattle.sparse_compressed.specs.Lanes.{Lane}
 use Rattle.sparse_sums.specs.InnerMerging.{IsMerging}
 use Rattle.sparse_sums.specs.InnerSigns.{signed}

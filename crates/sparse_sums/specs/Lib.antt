@@ -3,4 +3,4 @@ pub mod InnerMerging
 pub mod InnerSigns
 pub mod InnerZeroRing
 pub mod InnerAdding
-pub mod InnerPlacing
+pub mod InnerTargets

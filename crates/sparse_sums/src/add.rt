@@ -9,7 +9,7 @@ ghost use Rattle.sparse_sums.specs.InnerAdding.{GainsLanes, with_arrays};
 ghost use Rattle.sparse_sums.specs.InnerSigns.{plain_signed};
 
 use crate::merge::merge_lanes;
-use crate::room::union_room;
+use crate::room::estimated_union;
 use sparse_algebra::scalar::Ring;
 use sparse_compressed::CsMatrix;
 use sparse_csr_csc::csc::CscMatrix;
@@ -135,7 +135,7 @@ fn sum_or_difference<T: Ring, const NEGATE: bool>(
         (plain_signed T.ring NEGATE (plain_of_rows T.ring T.value b.now))) }
 {
     let (first, second) = (a.pattern(), b.pattern());
-    let room = union_room(first, second);
+    let room = estimated_union(first, second);
     let mut offsets = Vec::with_capacity(alloc, first.major_offsets().len())?;
     let mut indices = Vec::with_capacity(alloc, room)?;
     let mut values = Vec::with_capacity(alloc, room)?;

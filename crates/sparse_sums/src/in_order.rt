@@ -4,12 +4,12 @@
 ghost use Rattle.std.specs.Prelude.{◌≡◌, ℕ, ◌+◌, ◌<◌, ◌≤◌, ◌⊎◌, ◌↔◌, false, IsTrue, length};
 ghost use Rattle.std.specs.Prelude.{slice_index, slice_index_or};
 ghost use Rattle.std.specs.List.Sorted.{IsStrictlyIncreasing};
-ghost use Rattle.sparse_compressed.specs.Compressed.{IsPosition};
-ghost use Rattle.sparse_compressed.specs.InnerRows.{lane_value};
+ghost use Rattle.sparse_compressed.specs.Compressed.{IsOffset};
+ghost use Rattle.sparse_compressed.specs.InnerLaneValue.{lane_value};
 ghost use Rattle.sparse_compressed.specs.PlainOfLanes.{plain_of_rows};
-ghost use Rattle.sparse_sums.specs.InnerPlacing.{HasIndicesOf, HasPlacesOf};
+ghost use Rattle.sparse_sums.specs.InnerTargets.{HasIndicesOf, ContainsPatternOf};
 
-use sparse_algebra::learn;
+use sparse_algebra::recall;
 use sparse_algebra::scalar::Ring;
 use sparse_compressed::CsMatrix;
 use sparse_pattern::pattern::SparsityPattern;
@@ -17,10 +17,10 @@ use sparse_pattern::pattern::SparsityPattern;
 // Returns whether the pattern of the target contains that of the operand.
 pub(crate) fn covers_lanes(target: &SparsityPattern, a: &SparsityPattern) -> bool
     requires { a.now.major_dim ≡ target.now.major_dim }
-    ensures { IsTrue result ↔ HasPlacesOf target.now false a.now }
+    ensures { IsTrue result ↔ ContainsPatternOf target.now false a.now }
 {
-    learn(target.major_offsets());
-    learn(a.major_offsets());
+    recall(target.major_offsets());
+    recall(a.major_offsets());
     for i in 0..a.major_dim() {
         if !covers_lane(target.lane(i), a.lane(i)) {
             return false;
@@ -53,9 +53,9 @@ pub(crate) fn add_in_order<T: Ring>(
 )
     requires count { length values.old ≡ length target.now.indices }
     requires lanes { a.now.pattern.major_dim ≡ target.now.major_dim }
-    requires covered { HasPlacesOf target.now false a.now.pattern }
+    requires covered { ContainsPatternOf target.now false a.now.pattern }
     ensures count { length values.new ≡ length values.old }
-    ensures added { (i j p : ℕ) → IsPosition target.now i j p
+    ensures added { (i j p : ℕ) → IsOffset target.now i j p
         → T.value (slice_index_or values.new p T.zero_value)
         ≡ T.ring.add (T.value (slice_index_or values.old p T.zero_value))
         (T.ring.mul (T.value alpha) ((plain_of_rows T.ring T.value a.now).value i j)) }

@@ -3,7 +3,7 @@
 ghost use Rattle.std.specs.Prelude.{◌≡◌, ◌+◌, ◌-◌, ◌<◌, ◌≤◌, ◌⊎◌, ◌++◌, length, vec_len};
 ghost use Rattle.std.specs.Prelude.{vec_capacity, Contains, OnOk};
 ghost use Rattle.std.specs.List.Sorted.{IsStrictlyIncreasing};
-ghost use Rattle.sparse_compressed.specs.InnerRows.{lane_value};
+ghost use Rattle.sparse_compressed.specs.InnerLaneValue.{lane_value};
 ghost use Rattle.sparse_sums.specs.InnerSigns.{signed};
 ghost use Rattle.sparse_sums.specs.InnerAdding.{GainsValues, GainsEntries, IsAdding};
 
@@ -99,7 +99,7 @@ pub(crate) fn merge_lanes<T: Ring, const NEGATE: bool>(
 /// Returns the value at the smaller of two indices, or the sum of both values where these are equal.
 ///
 /// The sum is computed in any case, so that the compiler selects the result without a branch.
-pub fn front_value<T: Ring>(j: usize, first: T, k: usize, second: T) -> T
+pub fn merged_value<T: Ring>(j: usize, first: T, k: usize, second: T) -> T
     ensures first { j < k → result ≡ first }
     ensures second { k < j → result ≡ second }
     ensures sum { j ≡ k → T.value result ≡ T.ring.add (T.value first) (T.value second) }
@@ -148,7 +148,7 @@ fn merge_until_end<T: Ring, const NEGATE: bool>(
         let (j, k) = (a[p], b[q]);
         let value = with_sign::<T, NEGATE>(b_values[q]);
         indices.push_reserved(j.min(k));
-        values.push_reserved(front_value(j, a_values[p], k, value));
+        values.push_reserved(merged_value(j, a_values[p], k, value));
         if j <= k {
             p += 1;
         }

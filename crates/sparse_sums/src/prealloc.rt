@@ -3,21 +3,21 @@
 ghost use Rattle.std.specs.Prelude.{◌≡◌, ℕ, ◌↔◌, true, false, IsTrue, IsOk, IfErr, OnOk};
 ghost use Rattle.std.specs.Prelude.{OnErr, length, slice_index_or};
 ghost use Rattle.sparse_algebra.specs.declared.error.OperationErrorKind.TheVariants.{InvalidPattern};
-ghost use Rattle.sparse_compressed.specs.Compressed.{IsPosition, IsSound};
+ghost use Rattle.sparse_compressed.specs.Compressed.{IsOffset, IsSound};
 ghost use Rattle.sparse_compressed.specs.PlainOfLanes.{plain_of_rows, plain_of_cols};
 ghost use Rattle.sparse_algebra.specs.Operands.{plain_op};
 ghost use Rattle.sparse_algebra.specs.Prealloc.{plain_update, IsCovered};
-ghost use Rattle.sparse_sums.specs.InnerPlacing.{lanes_of_op, HasPlacesOf};
+ghost use Rattle.sparse_sums.specs.InnerTargets.{lanes_of_op, ContainsPatternOf};
 ghost use Rattle.sparse_compressed.specs.InnerUpdates.{AreUpdated};
 ghost use Rattle.sparse_algebra.specs.Prealloc.{plain_transpose_if};
 
 use crate::in_order::{add_in_order, covers_lanes};
 use sparse_algebra::error::OperationError;
-use sparse_algebra::learn;
+use sparse_algebra::recall;
 use sparse_algebra::operand::Op;
 use sparse_algebra::scalar::Ring;
 use sparse_compressed::scaling::scale_values;
-use sparse_compressed::{CsMatrix, position_of};
+use sparse_compressed::{CsMatrix, offset_of};
 use sparse_csr_csc::csc::CscMatrix;
 use sparse_csr_csc::csr::CsrMatrix;
 use sparse_pattern::pattern::SparsityPattern;
@@ -51,7 +51,7 @@ pub fn spadd_csr_prealloc<T: Ring>(
         ≡ plain_update T.ring (T.value beta) (plain_of_rows T.ring T.value c.old) (T.value alpha)
         (plain_op T.ring (λ m. plain_of_rows T.ring T.value m.now) a.entry)) }
 {
-    learn(c.values());
+    recall(c.values());
     let (pattern, values) = c.pattern_and_values_mut();
     match a {
         Op::NoOp(a) => add_into(beta, pattern, values, alpha, false, a.cs()),
@@ -89,7 +89,7 @@ pub fn spadd_csc_prealloc<T: Ring>(
         ≡ plain_update T.ring (T.value beta) (plain_of_cols T.ring T.value c.old) (T.value alpha)
         (plain_op T.ring (λ m. plain_of_cols T.ring T.value m.now) a.entry)) }
 {
-    learn(c.values());
+    recall(c.values());
     let (pattern, values) = c.pattern_and_values_mut();
     match a {
         Op::NoOp(a) => add_into(beta, pattern, values, alpha, false, a.cs()),
@@ -110,7 +110,7 @@ fn add_into<T: Ring>(
     requires count { length values.old ≡ length pattern.now.indices }
     requires lanes { lanes_of_op transposed a.now.pattern ≡ pattern.now.major_dim }
     ensures count { length values.new ≡ length values.old }
-    ensures covered { IsOk result ↔ HasPlacesOf pattern.now transposed a.now.pattern }
+    ensures covered { IsOk result ↔ ContainsPatternOf pattern.now transposed a.now.pattern }
     ensures kind { IfErr result (λ e. e ≡ InvalidPattern) }
     ensures unchanged { OnErr result (values.new ≡ values.old) }
     ensures sound { IsSound a.now }
@@ -119,7 +119,7 @@ fn add_into<T: Ring>(
         (plain_transpose_if T.ring transposed (plain_of_rows T.ring T.value a.now)).value
         values.old values.new) }
 {
-    learn(pattern.major_offsets());
+    recall(pattern.major_offsets());
     if !covers(pattern, transposed, a.pattern()) {
         return Err(OperationError::of_sum_pattern());
     }
@@ -131,7 +131,7 @@ fn add_into<T: Ring>(
 // Returns whether the pattern of the target contains that of the operand, or of its transpose.
 fn covers(target: &SparsityPattern, transposed: bool, a: &SparsityPattern) -> bool
     requires { lanes_of_op transposed a.now ≡ target.now.major_dim }
-    ensures { IsTrue result ↔ HasPlacesOf target.now transposed a.now }
+    ensures { IsTrue result ↔ ContainsPatternOf target.now transposed a.now }
 {
     if transposed {
         covers_transposed(target, a)
@@ -151,9 +151,9 @@ fn add_entries<T: Ring>(
 )
     requires count { length values.old ≡ length target.now.indices }
     requires lanes { lanes_of_op transposed a.now.pattern ≡ target.now.major_dim }
-    requires covered { HasPlacesOf target.now transposed a.now.pattern }
+    requires covered { ContainsPatternOf target.now transposed a.now.pattern }
     ensures count { length values.new ≡ length values.old }
-    ensures added { (i j p : ℕ) → IsPosition target.now i j p
+    ensures added { (i j p : ℕ) → IsOffset target.now i j p
         → T.value (slice_index_or values.new p T.zero_value)
         ≡ T.ring.add (T.value (slice_index_or values.old p T.zero_value))
         (T.ring.mul (T.value alpha)
@@ -169,12 +169,12 @@ fn add_entries<T: Ring>(
 // Returns whether the pattern of the target contains that of the operand's transpose.
 fn covers_transposed(target: &SparsityPattern, a: &SparsityPattern) -> bool
     requires { a.now.minor_dim ≡ target.now.major_dim }
-    ensures { IsTrue result ↔ HasPlacesOf target.now true a.now }
+    ensures { IsTrue result ↔ ContainsPatternOf target.now true a.now }
 {
-    learn(target.major_offsets());
-    learn(a.major_offsets());
+    recall(target.major_offsets());
+    recall(a.major_offsets());
     for (i, j) in a.entries() {
-        match position_of(target, j, i) {
+        match offset_of(target, j, i) {
             Some(_) => {}
             None => return false,
         }
@@ -185,17 +185,17 @@ fn covers_transposed(target: &SparsityPattern, a: &SparsityPattern) -> bool
 // Adds `alpha` times each entry of the operand's transpose to the entry of the target with the same row and column.
 fn add_transposed<T: Ring>(target: &SparsityPattern, values: &mut [T], alpha: T, a: &CsMatrix<T>)
     requires count { length values.old ≡ length target.now.indices }
-    requires covered { HasPlacesOf target.now true a.now.pattern }
+    requires covered { ContainsPatternOf target.now true a.now.pattern }
     ensures count { length values.new ≡ length values.old }
-    ensures added { (i j p : ℕ) → IsPosition target.now i j p
+    ensures added { (i j p : ℕ) → IsOffset target.now i j p
         → T.value (slice_index_or values.new p T.zero_value)
         ≡ T.ring.add (T.value (slice_index_or values.old p T.zero_value))
         (T.ring.mul (T.value alpha)
         ((plain_of_rows T.ring T.value a.now).value j i)) }
 {
-    learn(target.major_offsets());
+    recall(target.major_offsets());
     for (i, j, value) in a.triplet_iter() {
-        match position_of(target, j, i) {
+        match offset_of(target, j, i) {
             Some(at) => values[at] = values[at].add(alpha.mul(*value)),
             None => {}
         }

@@ -11,7 +11,7 @@ const SAMPLED_LANES: usize = 64;
 //
 // The estimate is the number of entries of both, less seven eighths of those that they share by the sample. For
 // patterns with fewer than 64 lanes it is the number of entries of both.
-pub(crate) fn union_room(a: &SparsityPattern, b: &SparsityPattern) -> usize
+pub(crate) fn estimated_union(a: &SparsityPattern, b: &SparsityPattern) -> usize
     requires lanes { a.now.major_dim ≡ b.now.major_dim }
     ensures most { result ≤ length a.now.indices + length b.now.indices }
 {

@@ -7,13 +7,13 @@ ghost use Rattle.sparse_compressed.specs.Lanes.{lane_at};
 ghost use Rattle.sparse_compressed.specs.PlainOfLanes.{plain_of_rows};
 ghost use Rattle.sparse_compressed.specs.SortedFaults.{IsFirstSortedFault};
 ghost use Rattle.sparse_compressed.specs.StoredEntries.{IsEntryAt, IsEntryOf, IsInBounds};
-ghost use Rattle.sparse_with_dense.specs.SparseVectors.{elements};
+ghost use Rattle.sparse_dense_ops.specs.SparseVectors.{elements};
 
 use sparse_algebra::scalar::Ring;
 use sparse_compressed::{CsLane, CsMatrix, CsView, LaneIndices, SortedFault};
 use sparse_pattern::entry::SparseEntry;
 use sparse_pattern::pattern::SparsityPattern;
-use sparse_with_dense::usdot;
+use sparse_dense_ops::usdot;
 use std::alloc::{AllocError, Global};
 use std::marker::Model;
 
@@ -71,7 +71,7 @@ impl<'a, T> CsArrays<'a, T> {
         ensures sound { IfOk result IsSound }
         ensures fault { IfErr result (IsFirstSortedFault
             (arrays_of major_dim minor_dim offsets.now indices.now values.now)) }
-        ensures taken { IsSound
+        ensures accepted { IsSound
             (arrays_of major_dim minor_dim offsets.now indices.now values.now) → IsOk result }
     {
         match CsView::try_from_slices(major_dim, minor_dim, offsets, indices, values) {

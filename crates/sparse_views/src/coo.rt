@@ -107,7 +107,7 @@ impl<'a, T> CooView<'a, T> {
             (AreParts nrows ncols row_indices.now col_indices.now values.now) }
         ensures fault { IfErr result (IsFirstTripletFault nrows ncols
             row_indices.now col_indices.now (length values.now)) }
-        ensures taken { AreParts nrows ncols row_indices.now col_indices.now values.now
+        ensures accepted { AreParts nrows ncols row_indices.now col_indices.now values.now
             → IsOk result }
     {
         if row_indices.len() != col_indices.len() {

@@ -7,7 +7,7 @@ ghost use Rattle.sparse_compressed.specs.Lanes.{lane_at};
 ghost use Rattle.sparse_compressed.specs.PlainOfLanes.{plain_of_rows};
 ghost use Rattle.sparse_compressed.specs.SortedFaults.{IsSortedRefusal, sorted_kind};
 ghost use Rattle.sparse_compressed.specs.StoredEntries.{IsEntryAt, IsEntryOf, IsInBounds};
-ghost use Rattle.sparse_with_dense.specs.SparseVectors.{elements};
+ghost use Rattle.sparse_dense_ops.specs.SparseVectors.{elements};
 
 use crate::arrays::CsArrays;
 use sparse_algebra::scalar::Ring;
@@ -102,7 +102,7 @@ impl<'a, T> CsrView<'a, T> {
         ensures sound { IfOk result IsSound }
         ensures fault { IfErr result
             (IsSortedRefusal (arrays_of nrows ncols row_offsets.now col_indices.now values.now)) }
-        ensures taken { IsSound
+        ensures accepted { IsSound
             (arrays_of nrows ncols row_offsets.now col_indices.now values.now) → IsOk result }
     {
         match CsArrays::try_from_slices(nrows, ncols, row_offsets, col_indices, values) {

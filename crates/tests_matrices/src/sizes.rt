@@ -7,7 +7,7 @@ use sparse_convert::serial::{convert_coo_csc, convert_coo_csr};
 use sparse_coo_dense::coo::CooMatrix;
 use sparse_coo_dense::steps::Steps;
 use sparse_csr_csc::csr::CsrMatrix;
-use sparse_pattern::counting::{key_offsets, next_slot};
+use sparse_pattern::counting::{key_offsets, next_destination};
 use sparse_products::serial::{mul_csr, spmm_csr_prealloc_unchecked_counted};
 use std::alloc::{AllocError, Global};
 
@@ -117,9 +117,9 @@ fn are_placed_by_wide_counts(alloc: Global) -> bool {
         return false;
     };
     let mut entries = [(0, 0); 3];
-    entries[next_slot(&rows, 0, &mut cursors)] = (0, 5);
-    entries[next_slot(&rows, 1, &mut cursors)] = (1, 6);
-    entries[next_slot(&rows, 2, &mut cursors)] = (2, 7);
+    entries[next_destination(&rows, 0, &mut cursors)] = (0, 5);
+    entries[next_destination(&rows, 1, &mut cursors)] = (1, 6);
+    entries[next_destination(&rows, 2, &mut cursors)] = (2, 7);
     are_equal(&offsets, &[0, 1, 3]) && are_equal(&entries, &[(1, 6), (0, 5), (2, 7)])
 }
 

@@ -7,18 +7,18 @@ use crate::scalar::Ring;
 
 // Approximates the inverse of `x` by at most `steps` steps of Newton's iteration from one. Each step squares the
 // residual, 1 - x * inverse; the iteration ends once the residual is zero.
-pub fn approach<T: Ring>(x: T, steps: u32) -> T
+pub fn newton_inverse<T: Ring>(x: T, steps: u32) -> T
     ensures { one_minus T.ring (T.ring.mul (T.value x) (T.value result))
         ≡ squared T.ring steps (one_minus T.ring (T.value x)) }
 {
     let mut inverse = T::one();
-    let mut missing = T::one().add(x.neg());
+    let mut residual = T::one().add(x.neg());
     for _step in 0..steps {
-        if missing == T::zero() {
+        if residual == T::zero() {
             return inverse;
         }
-        inverse = inverse.mul(T::one().add(missing));
-        missing = missing.mul(missing);
+        inverse = inverse.mul(T::one().add(residual));
+        residual = residual.mul(residual);
     }
     inverse
 }

@@ -10,7 +10,7 @@ ghost use Rattle.sparse_algebra.specs.WrappingValues.{w64_value, w128_value};
 ghost use Rattle.sparse_algebra.specs.WrappingValues.{IsOdd};
 
 use crate::scalar::inverses::Units;
-use crate::scalar::newton::approach;
+use crate::scalar::newton::newton_inverse;
 use crate::scalar::wide::W128;
 use crate::scalar::{W32, W64};
 
@@ -27,7 +27,7 @@ impl Units for W32 {
         if self.get().cast_unsigned() % 2 == 0 {
             return None;
         }
-        Some(approach(self, 5))
+        Some(newton_inverse(self, 5))
     }
 }
 
@@ -44,7 +44,7 @@ impl Units for W64 {
         if self.get().cast_unsigned() % 2 == 0 {
             return None;
         }
-        Some(approach(self, 6))
+        Some(newton_inverse(self, 6))
     }
 }
 
@@ -62,6 +62,6 @@ impl Units for W128 {
         if self.get().cast_unsigned() % 2 == 0 {
             return None;
         }
-        Some(approach(self, 7))
+        Some(newton_inverse(self, 7))
     }
 }

@@ -115,17 +115,17 @@ impl<const M: u64> Units for Mod<M> {
     {
         let mut high = Self::modulus();
         let mut low = self.number;
-        let mut at_high: Mod<M> = Mod::zero();
-        let mut at_low: Mod<M> = Mod::one();
+        let mut high_coefficient: Mod<M> = Mod::zero();
+        let mut low_coefficient: Mod<M> = Mod::one();
         while low != 0 {
             let quotient: Mod<M> = Mod::new(high / low);
             let rest = high % low;
-            let at_rest = at_high.add(quotient.mul(at_low).neg());
+            let rest_coefficient = high_coefficient.add(quotient.mul(low_coefficient).neg());
             high = low;
             low = rest;
-            at_high = at_low;
-            at_low = at_rest;
+            high_coefficient = low_coefficient;
+            low_coefficient = rest_coefficient;
         }
-        if high == 1 { Some(at_high) } else { None }
+        if high == 1 { Some(high_coefficient) } else { None }
     }
 }

@@ -60,14 +60,14 @@ fn triplet_lists<T: Copy>(
     ensures values { IfOk result (λ lists. lists.2.items ≡ map (λ t. t.2) (lane_triplets cs.now)) }
     ensures sound { IsSound cs.now }
 {
-    let lanes = lanes_of_places(alloc, cs.pattern())?;
+    let lanes = lanes_of_entries(alloc, cs.pattern())?;
     let indices = Vec::from_slice(alloc, cs.pattern().minor_indices())?;
     let values = Vec::from_slice(alloc, cs.values())?;
     Ok((lanes, indices, values))
 }
 
 // Returns the lane of each entry.
-fn lanes_of_places(alloc: Global, pattern: &SparsityPattern) -> Result<Vec<usize>, AllocError>
+fn lanes_of_entries(alloc: Global, pattern: &SparsityPattern) -> Result<Vec<usize>, AllocError>
     ensures { IfOk result (λ v. v.items ≡ map (λ place. place.0) (entries_of pattern.now)) }
 {
     let mut lanes = Vec::with_capacity(alloc, pattern.nnz())?;

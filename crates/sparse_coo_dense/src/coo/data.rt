@@ -5,7 +5,7 @@ ghost use Rattle.sparse_coo_dense.specs.TripletFaults.{IsFirstTripletFault};
 ghost use Rattle.sparse_coo_dense.specs.CooData.{coo_in, IsCooData};
 
 use super::CooMatrix;
-use sparse_data_structs::CooData;
+use sparse_serde::CooData;
 use sparse_pattern::error::SparseFormatError;
 use std::alloc::{AllocError, Global};
 

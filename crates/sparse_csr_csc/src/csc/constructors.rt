@@ -5,7 +5,7 @@ ghost use Rattle.sparse_algebra.specs.Plain.{plain_identity};
 ghost use Rattle.sparse_compressed.specs.Compressed.{compressed_of, arrays_of, IsSound};
 ghost use Rattle.sparse_compressed.specs.PlainOfLanes.{plain_of_cols};
 ghost use Rattle.sparse_compressed.specs.SortedFaults.{IsSortedRefusal, sorted_kind};
-ghost use Rattle.sparse_compressed.specs.UnsortedFaults.{NeedsSorting, IsFaultless, IsSortedForm};
+ghost use Rattle.sparse_compressed.specs.UnsortedFaults.{NeedsSorting, HasNoFault, IsSortedForm};
 ghost use Rattle.sparse_compressed.specs.UnsortedFaults.{IsUnsortedRefusal};
 
 use super::CscMatrix;
@@ -62,7 +62,7 @@ impl<T: Drop> CscMatrix<T> {
         ensures fault { IfErr result
             (IsSortedRefusal (arrays_of ncols nrows col_offsets.items row_indices.items
             values.items)) }
-        ensures taken { IsSound
+        ensures accepted { IsSound
             (arrays_of ncols nrows col_offsets.items row_indices.items values.items)
             → IsOk result }
     {
@@ -84,7 +84,7 @@ impl<T: Drop> CscMatrix<T> {
         ensures sound { IfOk result IsSound }
         ensures fault { IfErr result (λ kind. (kind ≡ SparseFormatErrorKind.InvalidStructure)
             × (length values.items ≢ length pattern.indices)) }
-        ensures taken { length values.items ≡ length pattern.indices → IsOk result }
+        ensures accepted { length values.items ≡ length pattern.indices → IsOk result }
     {
         match CsMatrix::try_from_pattern_and_values(pattern, values) {
             Ok(cs) => Ok(CscMatrix { cs }),
@@ -169,8 +169,8 @@ impl<T: Copy> CscMatrix<T> {
         ensures sorted { IfOk result
             (IsSortedForm (arrays_of ncols nrows col_offsets.items row_indices.items
             values.items)) }
-        ensures faultless { OnOk result
-            (IsFaultless (arrays_of ncols nrows col_offsets.items row_indices.items values.items)) }
+        ensures no_fault { OnOk result
+            (HasNoFault (arrays_of ncols nrows col_offsets.items row_indices.items values.items)) }
         ensures fault { IfErr result (λ kind. (kind ≡ SparseFormatErrorKind.OutOfMemory)
             ⊎ IsUnsortedRefusal (arrays_of ncols nrows col_offsets.items row_indices.items
             values.items) kind) }
@@ -180,7 +180,7 @@ impl<T: Copy> CscMatrix<T> {
         ensures sound { IsSound
             (arrays_of ncols nrows col_offsets.items row_indices.items values.items)
             → IsOk result }
-        ensures taken { IsFaultless
+        ensures accepted { HasNoFault
             (arrays_of ncols nrows col_offsets.items row_indices.items values.items)
             → IsOkUnless result SparseFormatErrorKind.OutOfMemory }
     {

@@ -6,7 +6,7 @@ ghost use Rattle.sparse_compressed.specs.SortedFaults.{IsSortedRefusal};
 ghost use Rattle.sparse_csr_csc.specs.CscData.{csc_in};
 
 use super::CscMatrix;
-use sparse_data_structs::CscData;
+use sparse_serde::CscData;
 use sparse_pattern::error::SparseFormatError;
 use std::alloc::{AllocError, Global};
 
@@ -20,7 +20,7 @@ impl<T> CscMatrix<T> {
         ensures ok { IfOk result (λ m. m ≡ csc_in source) }
         ensures sound { OnOk result (IsSound (csc_in source)) }
         ensures fault { IfErr result (IsSortedRefusal (csc_in source)) }
-        ensures taken { IsSound (csc_in source) → IsOk result }
+        ensures accepted { IsSound (csc_in source) → IsOk result }
     {
         CscMatrix::try_from_csc_data(
             source.nrows,

@@ -3,7 +3,7 @@
 ghost use Rattle.std.specs.Prelude.{◌≡◌, ℕ, Bool, map, IfOk};
 ghost use Rattle.std.specs.List.{filter};
 ghost use Rattle.sparse_compressed.specs.Compressed.{IsSound, lane_triplets, transposed};
-ghost use Rattle.sparse_compressed.specs.Filter.{Answers, AnswersAs, HasSizesOf, IsKept, is_upper};
+ghost use Rattle.sparse_compressed.specs.Filter.{Answers, AnswersAs, HasShapeOf, IsKept, is_upper};
 ghost use Rattle.sparse_compressed.specs.Filter.{is_lower, is_diagonal};
 
 use super::CscMatrix;
@@ -19,7 +19,7 @@ impl<T: Copy> CscMatrix<T> {
     where
         P: Fn(usize, usize, &T) -> bool,
         requires { P.IsAlwaysCallable predicate }
-        ensures sizes { IfOk result (HasSizesOf self.now) }
+        ensures same_shape { IfOk result (HasShapeOf self.now) }
         ensures kept { IfOk result
             (λ m. IsKept (Answers P.Fn predicate) (map transposed (lane_triplets self.now))
             (map transposed (lane_triplets m))) }
@@ -38,7 +38,7 @@ impl<T: Copy> CscMatrix<T> {
     /// Returns a matrix of the same shape with the entries (i, j) where `i <= j`. Cost and errors are those of
     /// [`CscMatrix::filter`].
     pub fn upper_triangle(&self, alloc: Global) -> Result<Self, AllocError>
-        ensures sizes { IfOk result (HasSizesOf self.now) }
+        ensures same_shape { IfOk result (HasShapeOf self.now) }
         ensures kept { IfOk result
             (λ m. map transposed (lane_triplets m)
             ≡ filter is_upper (map transposed (lane_triplets self.now))) }
@@ -50,7 +50,7 @@ impl<T: Copy> CscMatrix<T> {
     /// Returns a matrix of the same shape with the entries (i, j) where `i >= j`. Cost and errors are those of
     /// [`CscMatrix::filter`].
     pub fn lower_triangle(&self, alloc: Global) -> Result<Self, AllocError>
-        ensures sizes { IfOk result (HasSizesOf self.now) }
+        ensures same_shape { IfOk result (HasShapeOf self.now) }
         ensures kept { IfOk result
             (λ m. map transposed (lane_triplets m)
             ≡ filter is_lower (map transposed (lane_triplets self.now))) }
@@ -61,7 +61,7 @@ impl<T: Copy> CscMatrix<T> {
 
     /// Returns a matrix of the same shape with the entries (i, i). Cost and errors are those of [`CscMatrix::filter`].
     pub fn diagonal_as_csc(&self, alloc: Global) -> Result<Self, AllocError>
-        ensures sizes { IfOk result (HasSizesOf self.now) }
+        ensures same_shape { IfOk result (HasShapeOf self.now) }
         ensures kept { IfOk result
             (λ m. map transposed (lane_triplets m)
             ≡ filter is_diagonal (map transposed (lane_triplets self.now))) }

@@ -9,7 +9,7 @@ ghost use Rattle.sparse_compressed.specs.Writing.{IsFoundAt, IsEntryMutAt, IsEnt
 ghost use Rattle.sparse_csr_csc.specs.CscWriting.{LendsValues, LendsCol, LendsColIf, LendsEntry};
 ghost use Rattle.sparse_csr_csc.specs.CscWriting.{LendsIndexed};
 ghost use Rattle.sparse_csr_csc.specs.InnerCscWriting.{LendsCoreIf, LendsFound};
-ghost use Rattle.sparse_rows_cols.specs.ColWriting.{lent_col, col_values};
+ghost use Rattle.sparse_rows_cols.specs.ColWriting.{col_as_lane, col_values};
 ghost use Rattle.sparse_rows_cols.specs.ColWriting.{all_col_values, cols_left};
 ghost use Rattle.sparse_rows_cols.specs.ColWriting.{csc_triplet_values, csc_triplets_left};
 
@@ -45,7 +45,7 @@ impl<T> CscMatrix<T> {
     pub fn col_mut(&mut self, index: usize) -> CscColMut<'_, T>
         requires { index < self.old.pattern.major_dim }
         ensures* writes_back { sem 𝓛 (LendsCol T.row self.entry index (col_values result)) }
-        ensures col { lent_col result ≡ lane_at self.old index }
+        ensures col { col_as_lane result ≡ lane_at self.old index }
         ensures sound { IsSound self.old }
     {
         CscColMut::of(&mut self.cs, index)
@@ -55,7 +55,7 @@ impl<T> CscMatrix<T> {
     pub fn get_col_mut(&mut self, index: usize) -> Option<CscColMut<'_, T>>
         ensures* writes_back { sem 𝓛 (LendsColIf T.row self.entry index result) }
         ensures bounds { IsSome result ↔ (index < self.old.pattern.major_dim) }
-        ensures col { IfSome result (λ col. lent_col col ≡ lane_at self.old index) }
+        ensures col { IfSome result (λ col. col_as_lane col ≡ lane_at self.old index) }
         ensures sound { IsSound self.old }
     {
         match self.cs_with_col(index) {

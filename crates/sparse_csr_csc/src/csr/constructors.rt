@@ -5,7 +5,7 @@ ghost use Rattle.sparse_algebra.specs.Plain.{plain_identity};
 ghost use Rattle.sparse_compressed.specs.Compressed.{compressed_of, arrays_of, IsSound};
 ghost use Rattle.sparse_compressed.specs.PlainOfLanes.{plain_of_rows};
 ghost use Rattle.sparse_compressed.specs.SortedFaults.{IsSortedRefusal, sorted_kind};
-ghost use Rattle.sparse_compressed.specs.UnsortedFaults.{NeedsSorting, IsFaultless, IsSortedForm};
+ghost use Rattle.sparse_compressed.specs.UnsortedFaults.{NeedsSorting, HasNoFault, IsSortedForm};
 ghost use Rattle.sparse_compressed.specs.UnsortedFaults.{IsUnsortedRefusal};
 
 use super::CsrMatrix;
@@ -76,7 +76,7 @@ impl<T: Drop> CsrMatrix<T> {
         ensures fault { IfErr result
             (IsSortedRefusal (arrays_of nrows ncols row_offsets.items col_indices.items
             values.items)) }
-        ensures taken { IsSound
+        ensures accepted { IsSound
             (arrays_of nrows ncols row_offsets.items col_indices.items values.items)
             → IsOk result }
     {
@@ -98,7 +98,7 @@ impl<T: Drop> CsrMatrix<T> {
         ensures sound { IfOk result IsSound }
         ensures fault { IfErr result (λ kind. (kind ≡ SparseFormatErrorKind.InvalidStructure)
             × (length values.items ≢ length pattern.indices)) }
-        ensures taken { length values.items ≡ length pattern.indices → IsOk result }
+        ensures accepted { length values.items ≡ length pattern.indices → IsOk result }
     {
         match CsMatrix::try_from_pattern_and_values(pattern, values) {
             Ok(cs) => Ok(CsrMatrix { cs }),
@@ -192,8 +192,8 @@ impl<T: Copy> CsrMatrix<T> {
         ensures sorted { IfOk result
             (IsSortedForm (arrays_of nrows ncols row_offsets.items col_indices.items
             values.items)) }
-        ensures faultless { OnOk result
-            (IsFaultless (arrays_of nrows ncols row_offsets.items col_indices.items values.items)) }
+        ensures no_fault { OnOk result
+            (HasNoFault (arrays_of nrows ncols row_offsets.items col_indices.items values.items)) }
         ensures fault { IfErr result (λ kind. (kind ≡ SparseFormatErrorKind.OutOfMemory)
             ⊎ IsUnsortedRefusal (arrays_of nrows ncols row_offsets.items col_indices.items
             values.items) kind) }
@@ -203,7 +203,7 @@ impl<T: Copy> CsrMatrix<T> {
         ensures sound { IsSound
             (arrays_of nrows ncols row_offsets.items col_indices.items values.items)
             → IsOk result }
-        ensures taken { IsFaultless
+        ensures accepted { HasNoFault
             (arrays_of nrows ncols row_offsets.items col_indices.items values.items)
             → IsOkUnless result SparseFormatErrorKind.OutOfMemory }
     {

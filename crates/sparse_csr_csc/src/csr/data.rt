@@ -6,7 +6,7 @@ ghost use Rattle.sparse_compressed.specs.SortedFaults.{IsSortedRefusal};
 ghost use Rattle.sparse_csr_csc.specs.CsrData.{csr_in};
 
 use super::CsrMatrix;
-use sparse_data_structs::CsrData;
+use sparse_serde::CsrData;
 use sparse_pattern::error::SparseFormatError;
 use std::alloc::{AllocError, Global};
 
@@ -20,7 +20,7 @@ impl<T> CsrMatrix<T> {
         ensures ok { IfOk result (λ m. m ≡ csr_in source) }
         ensures sound { OnOk result (IsSound (csr_in source)) }
         ensures fault { IfErr result (IsSortedRefusal (csr_in source)) }
-        ensures taken { IsSound (csr_in source) → IsOk result }
+        ensures accepted { IsSound (csr_in source) → IsOk result }
     {
         CsrMatrix::try_from_csr_data(
             source.nrows,

@@ -3,7 +3,7 @@
 ghost use Rattle.std.specs.Prelude.{◌≡◌, ℕ, Bool, IfOk};
 ghost use Rattle.std.specs.List.{filter};
 ghost use Rattle.sparse_compressed.specs.Compressed.{IsSound, lane_triplets};
-ghost use Rattle.sparse_compressed.specs.Filter.{Answers, AnswersAs, HasSizesOf, IsKept, is_upper};
+ghost use Rattle.sparse_compressed.specs.Filter.{Answers, AnswersAs, HasShapeOf, IsKept, is_upper};
 ghost use Rattle.sparse_compressed.specs.Filter.{is_lower, is_diagonal};
 
 use super::CsrMatrix;
@@ -29,7 +29,7 @@ impl<T: Copy> CsrMatrix<T> {
     where
         P: Fn(usize, usize, &T) -> bool,
         requires { P.IsAlwaysCallable predicate }
-        ensures sizes { IfOk result (HasSizesOf self.now) }
+        ensures same_shape { IfOk result (HasShapeOf self.now) }
         ensures kept { IfOk result
             (λ m. IsKept (Answers P.Fn predicate) (lane_triplets self.now) (lane_triplets m)) }
         ensures tested { (test : ℕ × ℕ × T → Bool) → AnswersAs P.Fn predicate test
@@ -54,7 +54,7 @@ impl<T: Copy> CsrMatrix<T> {
     /// }
     /// ```
     pub fn upper_triangle(&self, alloc: Global) -> Result<Self, AllocError>
-        ensures sizes { IfOk result (HasSizesOf self.now) }
+        ensures same_shape { IfOk result (HasShapeOf self.now) }
         ensures kept { IfOk result
             (λ m. lane_triplets m ≡ filter is_upper (lane_triplets self.now)) }
         ensures sound { IfOk result IsSound }
@@ -65,7 +65,7 @@ impl<T: Copy> CsrMatrix<T> {
     /// Returns a matrix of the same shape with the entries (i, j) where `i >= j`. Cost and errors are those of
     /// [`CsrMatrix::filter`].
     pub fn lower_triangle(&self, alloc: Global) -> Result<Self, AllocError>
-        ensures sizes { IfOk result (HasSizesOf self.now) }
+        ensures same_shape { IfOk result (HasShapeOf self.now) }
         ensures kept { IfOk result
             (λ m. lane_triplets m ≡ filter is_lower (lane_triplets self.now)) }
         ensures sound { IfOk result IsSound }
@@ -75,7 +75,7 @@ impl<T: Copy> CsrMatrix<T> {
 
     /// Returns a matrix of the same shape with the entries (i, i). Cost and errors are those of [`CsrMatrix::filter`].
     pub fn diagonal_as_csr(&self, alloc: Global) -> Result<Self, AllocError>
-        ensures sizes { IfOk result (HasSizesOf self.now) }
+        ensures same_shape { IfOk result (HasShapeOf self.now) }
         ensures kept { IfOk result
             (λ m. lane_triplets m ≡ filter is_diagonal (lane_triplets self.now)) }
         ensures sound { IfOk result IsSound }

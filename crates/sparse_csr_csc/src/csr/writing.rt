@@ -9,7 +9,7 @@ ghost use Rattle.sparse_compressed.specs.Writing.{IsFoundAt, IsEntryMutAt, IsEnt
 ghost use Rattle.sparse_csr_csc.specs.CsrWriting.{LendsValues, LendsRow, LendsRowIf, LendsEntry};
 ghost use Rattle.sparse_csr_csc.specs.CsrWriting.{LendsIndexed};
 ghost use Rattle.sparse_csr_csc.specs.InnerCsrWriting.{LendsCoreIf, LendsFound};
-ghost use Rattle.sparse_rows_cols.specs.RowWriting.{lent_row, row_values};
+ghost use Rattle.sparse_rows_cols.specs.RowWriting.{row_as_lane, row_values};
 ghost use Rattle.sparse_rows_cols.specs.RowWriting.{all_row_values, rows_left};
 ghost use Rattle.sparse_rows_cols.specs.RowWriting.{csr_triplet_values, csr_triplets_left};
 
@@ -33,7 +33,7 @@ impl<T> CsrMatrix<T> {
     pub fn row_mut(&mut self, index: usize) -> CsrRowMut<'_, T>
         requires { index < self.old.pattern.major_dim }
         ensures* writes_back { sem 𝓛 (LendsRow T.row self.entry index (row_values result)) }
-        ensures row { lent_row result ≡ lane_at self.old index }
+        ensures row { row_as_lane result ≡ lane_at self.old index }
         ensures sound { IsSound self.old }
     {
         CsrRowMut::of(&mut self.cs, index)
@@ -43,7 +43,7 @@ impl<T> CsrMatrix<T> {
     pub fn get_row_mut(&mut self, index: usize) -> Option<CsrRowMut<'_, T>>
         ensures* writes_back { sem 𝓛 (LendsRowIf T.row self.entry index result) }
         ensures bounds { IsSome result ↔ (index < self.old.pattern.major_dim) }
-        ensures row { IfSome result (λ row. lent_row row ≡ lane_at self.old index) }
+        ensures row { IfSome result (λ row. row_as_lane row ≡ lane_at self.old index) }
         ensures sound { IsSound self.old }
     {
         match self.cs_with_row(index) {

@@ -58,7 +58,7 @@ pub fn integer_triplets<T: MatrixMarketScalar>(
 
 /// Returns the triplets of a pattern entry, whose row and column count from 1.
 #[inline(always)]
-pub fn place_triplets<T: MatrixMarketScalar>(
+pub fn pattern_triplets<T: MatrixMarketScalar>(
     symmetry: Symmetry,
     row: usize,
     col: usize,

@@ -9,7 +9,7 @@ ghost use Rattle.sparse_parser.specs.Meaning.{values_of};
 ghost use Rattle.sparse_io.specs.InnerEntries.{numbered_symmetry, IsReadOn, reading};
 ghost use Rattle.sparse_io.specs.InnerPlaces.{places_left};
 
-use crate::reader::kinds::{IntegerLines, LineKind, PlaceLines, ValueLines};
+use crate::reader::kinds::{IntegerLines, LineKind, PatternLines, ValueLines};
 use crate::reader::places::Places;
 use crate::reader::pushes::{append_all, are_inside};
 use sparse_coo_dense::CooAppender;
@@ -42,7 +42,7 @@ pub fn common_lines<'a, T: MatrixMarketScalar>(
             lines_of::<T, IntegerLines>(header, matrix, places, read, text)
         }
         (Format::Coordinate, Field::Pattern) => {
-            lines_of::<T, PlaceLines>(header, matrix, places, read, text)
+            lines_of::<T, PatternLines>(header, matrix, places, read, text)
         }
         (Format::Array, Field::Integer) => {
             lines_of::<T, ValueLines>(header, matrix, places, read, text)

@@ -5,7 +5,7 @@ ghost use Rattle.sparse_algebra.specs.Plain.{plain_product, plain_sum, plain_tra
 ghost use Rattle.sparse_compressed.specs.PlainOfLanes.{plain_of_cols};
 
 use sparse_algebra::laws::{identity_product_law, product_distributes_law, transpose_product_law};
-use sparse_algebra::learn;
+use sparse_algebra::recall;
 use sparse_algebra::scalar::Ring;
 use sparse_compressed::laws::stands_law;
 use sparse_csr_csc::csc::CscMatrix;
@@ -47,7 +47,7 @@ pub fn product_distributes_right<T: Ring>(
         ≡ plain_of_cols T.ring T.value m.1) }
 {
     product_distributes_law::<T>();
-    let product = sum_with_factor(alloc, a, b, c)?;
+    let product = sum_times_matrix(alloc, a, b, c)?;
     let products = sum_of_products(alloc, a, c, b, c)?;
     Ok((product, products))
 }
@@ -85,7 +85,7 @@ pub fn identity_times<T: Ring>(alloc: Global, a: &CscMatrix<T>) -> Result<CscMat
 {
     stands_law::<T>();
     identity_product_law::<T>();
-    learn(a.values());
+    recall(a.values());
     let identity = CscMatrix::identity(alloc, a.nrows())?;
     mul_csc(alloc, &identity, a)
 }
@@ -97,7 +97,7 @@ pub fn times_identity<T: Ring>(alloc: Global, a: &CscMatrix<T>) -> Result<CscMat
 {
     stands_law::<T>();
     identity_product_law::<T>();
-    learn(a.values());
+    recall(a.values());
     let identity = CscMatrix::identity(alloc, a.ncols())?;
     mul_csc(alloc, a, &identity)
 }
@@ -170,7 +170,7 @@ fn product_with_sum<T: Ring>(
 }
 
 // Returns `(a + b) * c`.
-fn sum_with_factor<T: Ring>(
+fn sum_times_matrix<T: Ring>(
     alloc: Global,
     a: &CscMatrix<T>,
     b: &CscMatrix<T>,

@@ -2,7 +2,7 @@
 
 ghost use Rattle.std.specs.Prelude.{◌≡◌, ℕ, ◌↔◌, ⊤, length, Contains, AllPairs};
 ghost use Rattle.std.specs.Iterator.{YieldsFirst, item_count};
-ghost use Rattle.sparse_pattern.specs.Raw.{IsPlace, Precedes, entries_of};
+ghost use Rattle.sparse_pattern.specs.Raw.{IsEntry, Precedes, entries_of};
 
 use super::SparsityPattern;
 use std::alloc::AllocError;
@@ -13,7 +13,7 @@ impl SparsityPattern {
     pub fn entries(&self) -> SparsityPatternIter<'_>
         ensures all { result ≡ entries_of self.now }
         ensures count { length result ≡ length self.now.indices }
-        ensures places { (i j : ℕ) → Contains result (i, j) ↔ IsPlace self.now i j }
+        ensures places { (i j : ℕ) → Contains result (i, j) ↔ IsEntry self.now i j }
         ensures rising { AllPairs Precedes result }
     {
         let remaining: &[usize] = if self.major_offsets.len() > 1 {

@@ -9,10 +9,10 @@ ghost use Rattle.sparse_compressed.specs.PlainOfLanes.{plain_of_rows, plain_of_c
 ghost use Rattle.sparse_products.specs.Products.{product_by_rows, product_by_cols};
 ghost use Rattle.sparse_products.specs.ScalarProducts.{IfNotTransposed};
 
-use super::factor::{csc_operands, csr_operands};
+use super::multiplicands::{csc_operands, csr_operands};
 use super::update::{Update, update_checked};
 use sparse_algebra::error::OperationError;
-use sparse_algebra::learn;
+use sparse_algebra::recall;
 use sparse_algebra::operand::Op;
 use sparse_algebra::scalar::Ring;
 use sparse_csr_csc::csc::CscMatrix;
@@ -57,12 +57,12 @@ pub fn spmm_csr_prealloc<T: Ring>(
         (product_by_rows T.ring T.value a.entry b.entry)) }
 {
     let operands = csr_operands(alloc, a, b)?;
-    learn(c.values());
+    recall(c.values());
     let (pattern, values) = c.pattern_and_values_mut();
     let update = Update {
         beta,
         alpha,
-        factors: operands.factors(),
+        matrices: operands.matrices(),
     };
     update_checked(update, pattern, values)
 }
@@ -105,12 +105,12 @@ pub fn spmm_csc_prealloc<T: Ring>(
         (product_by_cols T.ring T.value a.entry b.entry)) }
 {
     let operands = csc_operands(alloc, a, b)?;
-    learn(c.values());
+    recall(c.values());
     let (pattern, values) = c.pattern_and_values_mut();
     let update = Update {
         beta,
         alpha,
-        factors: operands.factors(),
+        matrices: operands.matrices(),
     };
     update_checked(update, pattern, values)
 }

@@ -3,9 +3,9 @@
 ghost use Rattle.std.specs.Prelude.{◌≡◌, IfOk};
 ghost use Rattle.sparse_algebra.specs.Plain.{plain_product};
 ghost use Rattle.sparse_compressed.specs.PlainOfLanes.{plain_of_rows, plain_of_cols};
-ghost use Rattle.sparse_products.specs.InnerFactors.{CanMultiply, product_of};
+ghost use Rattle.sparse_products.specs.InnerOperands.{CanMultiply, product_of};
 
-use super::factor::Factors;
+use super::multiplicands::Matrices;
 use super::pattern::{is_wide, spmm_csr_pattern};
 use super::rows::multiply_rows;
 use super::update::{Update, update_covered};
@@ -87,27 +87,27 @@ fn multiply<T: Ring>(
         (plain_of_rows T.ring T.value b.now)) }
 {
     if is_wide(a.pattern(), b.pattern()) {
-        multiply_wide(alloc, Factors { a, b })
+        multiply_wide(alloc, Matrices { a, b })
     } else {
-        multiply_rows(alloc, Factors { a, b })
+        multiply_rows(alloc, Matrices { a, b })
     }
 }
 
 // Returns the product without scratch memory of the length of a row: computes the pattern, then adds the terms to
 // zeros.
 #[tactic(auto, using(sparse_algebra::proofs::EarlyReturns::early_return))]
-fn multiply_wide<T: Ring>(alloc: Global, factors: Factors<'_, T>) -> Result<CsMatrix<T>, AllocError>
-    requires { CanMultiply factors }
+fn multiply_wide<T: Ring>(alloc: Global, matrices: Matrices<'_, T>) -> Result<CsMatrix<T>, AllocError>
+    requires { CanMultiply matrices }
     ensures { IfOk result
-        (λ m. plain_of_rows T.ring T.value m ≡ product_of T.ring T.value factors.entry) }
+        (λ m. plain_of_rows T.ring T.value m ≡ product_of T.ring T.value matrices.entry) }
 {
-    let pattern = spmm_csr_pattern(alloc, factors.a.pattern(), factors.b.pattern())?;
+    let pattern = spmm_csr_pattern(alloc, matrices.a.pattern(), matrices.b.pattern())?;
     let mut values = Vec::new(alloc);
     values.resize(pattern.nnz(), T::zero())?;
     let update = Update {
         beta: T::zero(),
         alpha: T::one(),
-        factors,
+        matrices,
     };
     update_covered(alloc, update, &pattern, &mut values, &mut Steps::new())?;
     Ok(CsMatrix::from_pattern_and_values(pattern, values))

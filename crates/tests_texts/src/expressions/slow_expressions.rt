@@ -1,7 +1,7 @@
 //! Values of expressions beside those of the slow evaluator.
 
 use crate::matrices::list;
-use slow_programs::expressions::expression_value;
+use reference_models::expressions::expression_value;
 use sparse_algebra::scalar::W64;
 use sparse_coo_dense::coo::CooMatrix;
 use sparse_csr_csc::csr::CsrMatrix;

@@ -2,7 +2,7 @@ use Rattle.std.proofs.Common.{ap, sym, ◌∙◌}
 use Rattle.sparse_algebra.specs.Plain.{plain_transpose}
 use Rattle.sparse_compressed.specs.PlainOfLanes.{plain_of_rows}
 use Rattle.sparse_c.specs.Orders.{in_order}
-use Rattle.sparse_c_arrays.specs.Arrays.{plain_of_lists}
+use Rattle.c_arrays.specs.Arrays.{plain_of_lists}
 use Rattle.sparse_c.proofs.assembling.assembled.Goals as goal
 
 pub returns-in-Rows-clause-plain : goal.returns-in-Rows-clause-plain

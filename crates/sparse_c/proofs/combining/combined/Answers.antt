@@ -2,7 +2,7 @@ use Rattle.std.proofs.Common.{ap, sym, ◌∙◌}
 use Rattle.sparse_algebra.specs.Integers.{element_of}
 use Rattle.sparse_algebra.specs.Plain.{plain_sum, plain_difference, plain_product}
 use Rattle.sparse_c.specs.Combinations.{combined_by}
-use Rattle.sparse_c_arrays.specs.Arrays.{plain_by_rows}
+use Rattle.c_arrays.specs.Arrays.{plain_by_rows}
 use Rattle.sparse_c.proofs.combining.combined.Goals as goal
 
 pub returns-in-Sum-clause-plain : goal.returns-in-Sum-clause-plain

@@ -6,8 +6,8 @@ use Rattle.sparse_compressed.specs.PlainOfLanes.{plain_of_cols}
 use Rattle.sparse_factor.specs.Factorisations.{plain_symmetric, IsFactorisation}
 use Rattle.sparse_factor.specs.Factors.{diagonal}
 use Rattle.sparse_c.specs.Factors.{AreFactors}
-use Rattle.sparse_c.proofs.Factoring.{factors_of_arrays}
-use Rattle.sparse_c_arrays.specs.Statuses.{refusal_of_operation}
+use Rattle.sparse_c.proofs.Factoring.{AreFactors-arrays}
+use Rattle.c_arrays.specs.Statuses.{refusal_of_operation}
 use Rattle.sparse_c.proofs.factors.factors_of.Goals as goal
 
 pub returns-clause-factors : goal.returns-clause-factors
@@ -22,7 +22,7 @@ returns-clause-factors g c =
     let pivots = c.in_ok-d.ensures.items ∙ c.d.ensures.d in
     subst (λ (p : Compressed g.row.T.Denot × List g.row.T.Denot). AreFactors R f c.args.a
     (plain_of_cols R f p.0) (diagonal R f z p.1)) (λ k. (sym columns k, sym pivots k))
-    (factors_of_arrays R f z c.args.a c.in_ok-a.a s c.in_ok-a.ensures.pattern
+    (AreFactors-arrays R f z c.args.a c.in_ok-a.a s c.in_ok-a.ensures.pattern
     c.in_ok-a.ensures.plain
     facts.rows facts.count (subst IsSound copied c.values.ensures.sound) facts.places
     facts.unit_diagonal facts.pivots facts.equation)

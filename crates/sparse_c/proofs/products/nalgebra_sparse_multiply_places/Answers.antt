@@ -2,7 +2,7 @@ use Rattle.std.proofs.Common.{◌≡◌, inl, ap, subst, ◌∙◌, refl, rules,
 use Rattle.std.specs.Int.{w32}
 use Rattle.sparse_pattern.specs.Raw.{raw_of}
 use Rattle.sparse_products.specs.Products.{IsProductOf}
-use Rattle.sparse_c_arrays.specs.declared.refusal.Refusal.TheVariants.{OutOfMemory}
+use Rattle.c_arrays.specs.declared.refusal.Refusal.TheVariants.{OutOfMemory}
 use Rattle.sparse_c.proofs.products.nalgebra_sparse_multiply_places.Goals as goal
 
 pub returns-in-Ok-spmm_csr_pattern-clause-counted : goal.returns-in-Ok-spmm_csr_pattern-clause-counted

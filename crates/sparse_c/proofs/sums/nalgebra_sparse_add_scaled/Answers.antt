@@ -3,7 +3,7 @@ use Rattle.std.proofs.lemmas.Int.{to_z-of_z}
 use Rattle.std.specs.Int.{w32, w64}
 use Rattle.sparse_compressed.specs.Compressed.{arrays_of}
 use Rattle.sparse_c.proofs.Combined.{seen_multiples}
-use Rattle.sparse_c_arrays.specs.Arrays.{ring64}
+use Rattle.c_arrays.specs.Arrays.{ring64}
 use Rattle.sparse_c.proofs.sums.nalgebra_sparse_add_scaled.Goals as goal
 
 pub returns : goal.returns
@@ -12,6 +12,6 @@ returns c =
     let x = c.args in
     let a = arrays_of x.rows x.cols x.a_offsets.now x.a_indices.now x.a_values.now in
     let b = arrays_of x.rows x.cols x.b_offsets.now x.b_indices.now x.b_values.now in
-    let made = seen_multiples ring64 a b (to_z-of_z w64 x.alpha c.ranges.alpha)
+    let ensured = seen_multiples ring64 a b (to_z-of_z w64 x.alpha c.ranges.alpha)
     (to_z-of_z w64 x.beta c.ranges.beta) same c.run.ensures.answer in
     record { answered = search rules }

@@ -12,6 +12,6 @@ returns-clause-answered c =
     let x = c.args in
     let a = arrays_of x.rows x.cols x.a_offsets.now x.a_indices.now x.a_values.now in
     let b = arrays_of x.rows x.cols x.b_offsets.now x.b_indices.now x.b_values.now in
-    let made = seen_multiples (mod_ring x.modulus) a b (to_z-of_z w64 x.alpha c.ranges.alpha)
+    let ensured = seen_multiples (mod_ring x.modulus) a b (to_z-of_z w64 x.alpha c.ranges.alpha)
     (to_z-of_z w64 x.beta c.ranges.beta) same c.by_modulus.ensures.does.answer in
     search rules

@@ -3,9 +3,9 @@ use Rattle.std.specs.Int.{w32}
 use Rattle.sparse_algebra.specs.Plain.{plain_transpose}
 use Rattle.sparse_algebra.specs.WrappingValues.{w64_value}
 use Rattle.sparse_compressed.specs.Compressed.{arrays_of}
-use Rattle.sparse_c_arrays.proofs.Answering.{rows_answered, seen_rows}
-use Rattle.sparse_c_arrays.proofs.Faultless.{matrix_told}
-use Rattle.sparse_c_arrays.specs.Arrays.{plain_by_rows, ring64, room_of}
+use Rattle.c_arrays.proofs.Answering.{rows_answered, seen_rows}
+use Rattle.c_arrays.proofs.ValidStatuses.{matrix_finds_fault}
+use Rattle.c_arrays.specs.Arrays.{plain_by_rows, ring64, output_arrays}
 use Rattle.sparse_c.proofs.transpose.nalgebra_sparse_transpose.Goals as goal
 
 pub returns : goal.returns
@@ -15,13 +15,13 @@ returns c =
     let x = c.args in
     let a = arrays_of x.rows x.cols x.offsets.now x.indices.now x.values.now in
     let p = plain_transpose ring64 (plain_by_rows ring64 a) in
-    let made = c.transposed-answer.ensures in
+    let ensured = c.transposed-answer.ensures in
     let ended = c.finish_rows.ensures in
     let new = c.finish_rows.new in
-    let old = room_of x.out_offsets.now x.out_indices.now x.out_values.now x.out_places.now in
-    let left = room_of new.offsets new.indices new.values new.places in
+    let old = output_arrays x.out_offsets.now x.out_indices.now x.out_values.now x.out_places.now in
+    let left = output_arrays new.offsets new.indices new.values new.places in
     record {
-      answered = seen_rows same (rows_answered ring64 w64_value p (matrix_told a) old left status
-          c.transposed-answer.result made.plain made.sound made.fault ended.written ended.rest
+      answered = seen_rows same (rows_answered ring64 w64_value p (matrix_finds_fault a) old left status
+          c.transposed-answer.result ensured.plain ensured.sound ensured.fault ended.written ended.rest
           ended.untouched ended.needed ended.kept ended.refused);
     }

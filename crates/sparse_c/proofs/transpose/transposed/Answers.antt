@@ -1,6 +1,6 @@
 use Rattle.std.proofs.Common.{ap, ◌∙◌}
 use Rattle.sparse_algebra.specs.Plain.{plain_transpose}
-use Rattle.sparse_c_arrays.specs.Arrays.{ring64}
+use Rattle.c_arrays.specs.Arrays.{ring64}
 use Rattle.sparse_c.proofs.transpose.transposed.Goals as goal
 
 pub returns-clause-plain : goal.returns-clause-plain

@@ -67,8 +67,8 @@ fn push_mirrored<T: Copy>(
     let offsets = pattern.major_offsets();
     let indices = pattern.minor_indices();
     let (start, end) = pattern.lane_bounds(lane);
-    for position in start..end {
-        let index = indices[position];
+    for offset in start..end {
+        let index = indices[offset];
         let mirrored = cursors[index];
         if mirrored >= offsets[index + 1] || indices[mirrored] != lane {
             return false;

@@ -33,13 +33,13 @@ loop-p-preserved-then-k-j g c =
     let inv = c.loop-p.invariant in
     let index = c.push_reserved.ensures in
     let value = c.push_reserved-in-loop-p.ensures in
-    let front = c.front_value.ensures in
+    let front = c.merged_value.ensures in
     elim c.if-j-k.branch [
       | then-j-k w ↦
           let same : get_or a p 0 ≡ get_or b q 0 = omega arith in
           let least : c.min.result ≡ get_or a p 0 = omega (arith, c.min.ensures) in
           let next = adding_both R f h _ _ a _ b _ _ _ p q r.a_rising r.b_rising r.a_count
-          r.b_count inv.added c.min.result c.front_value.result
+          r.b_count inv.added c.min.result c.merged_value.result
           (omega arith) (omega arith) least (least ∙ same)
           c.index-a_values-p.result c.index-b_values-q.result c.index-a_values-p.is
           c.index-b_values-q.is
@@ -57,7 +57,7 @@ loop-p-preserved-then-k-j g c =
           let later : get_or b q 0 < get_or a p 0 = omega arith in
           let least : c.min.result ≡ get_or b q 0 = omega (arith, c.min.ensures) in
           let next = adding_second R f h _ _ a _ b _ _ _ p q r.a_rising r.b_rising r.a_count
-          r.b_count inv.added c.min.result c.front_value.result
+          r.b_count inv.added c.min.result c.merged_value.result
           (omega arith) least (λ _. omega (arith, least))
           c.index-b_values-q.result c.index-b_values-q.is
           (ap f (front.second later) ∙ c.with_sign-value.ensures) in
@@ -85,13 +85,13 @@ loop-p-preserved g c =
     let inv = c.loop-p.invariant in
     let index = c.push_reserved.ensures in
     let value = c.push_reserved-in-loop-p.ensures in
-    let front = c.front_value.ensures in
+    let front = c.merged_value.ensures in
     elim c.if-j-k.branch [
       | then-j-k w ↦
           let later : get_or a p 0 < get_or b q 0 = omega arith in
           let least : c.min.result ≡ get_or a p 0 = omega (arith, c.min.ensures) in
           let next = adding_first R f h _ _ a _ b _ _ _ p q r.a_rising r.b_rising r.a_count
-          r.b_count inv.added c.min.result c.front_value.result
+          r.b_count inv.added c.min.result c.merged_value.result
           (omega arith) least (λ _. omega (arith, least))
           (rw (front.first later) c.index-a_values-p.is) in
           record {
