@@ -12,6 +12,8 @@ ghost use Rattle.c_arrays.specs.Reduced.{IsReduced};
 ghost use Rattle.c_arrays.specs.Statuses.{number_of};
 ghost use Rattle.c_arrays.specs.declared.refusal.Refusal.TheVariants.{UnknownChoice};
 
+pub(crate) mod assembling;
+
 use crate::arguments::{room, triplets};
 use crate::moduli::{Call, by_modulus};
 use sparse_algebra::scalar::W64;

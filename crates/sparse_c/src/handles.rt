@@ -11,6 +11,10 @@ ghost use Rattle.c_arrays.specs.Statuses.{number_of};
 ghost use Rattle.c_arrays.specs.declared.refusal.Refusal.TheVariants.{EmptyHandle};
 ghost use Rattle.c_handles.specs.Held.{plain_held, Answers, Holds, IsEmpty, IsUnwritten};
 
+pub(crate) mod operations;
+pub(crate) mod systems;
+pub(crate) mod texts;
+
 use crate::arguments::lanes;
 use crate::status::status;
 use c_arrays::lanes::Lanes;

@@ -12,6 +12,11 @@ ghost use Rattle.sparse_c.specs.Systems.{IsFaultOfEquation, Solves, SolvesSystem
 ghost use Rattle.c_arrays.specs.Arrays.{plain_by_values};
 ghost use Rattle.c_arrays.specs.Refused.{IsOutOfMemoryOr, IsSystemSound};
 
+pub(crate) mod factors;
+pub(crate) mod fill;
+pub(crate) mod solve;
+pub(crate) mod symmetric;
+
 use crate::arguments::{Equation, Numbers, System};
 use crate::moduli::Call;
 use sparse_algebra::error::OperationError;
