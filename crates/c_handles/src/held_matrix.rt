@@ -7,8 +7,8 @@ ghost use Rattle.c_arrays.specs.declared.refusal.Refusal.TheVariants.{EmptyHandl
 ghost use Rattle.c_handles.specs.Held.{IsEmpty};
 
 use crate::handle::{Block, MatrixHandle, SharedMatrix};
-use sparse_algebra::scalar::W64;
 use c_arrays::refusal::Refusal;
+use sparse_algebra::scalar::W64;
 use sparse_csr_csc::csr::CsrMatrix;
 use std::alloc::Global;
 use std::mem;

@@ -4,10 +4,10 @@
 #![tactic(auto)]
 
 pub mod factoring;
-pub mod handle;
 pub mod from_arrays;
+pub mod handle;
+pub mod held_matrix;
 pub mod operations;
 pub mod reading;
-pub mod held_matrix;
 pub mod solving;
 pub mod texts;

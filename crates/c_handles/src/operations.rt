@@ -13,9 +13,9 @@ ghost use Rattle.c_handles.specs.Held.{plain_held, Holds, IsEmpty, IsSumError, I
 
 use crate::handle::MatrixHandle;
 use crate::held_matrix::{put, put_shared, shared};
-use sparse_algebra::scalar::W64;
 use c_arrays::number::Number;
 use c_arrays::refusal::Refusal;
+use sparse_algebra::scalar::W64;
 use sparse_csr_csc::csr::CsrMatrix;
 use sparse_products::serial::mul_csr;
 use sparse_products::transposes::transposed_csr;

@@ -19,17 +19,17 @@ ghost use Rattle.sparse_dense_ops.specs.Solutions.{plain_lower, IsSingular, IsSo
 
 use crate::handle::MatrixHandle;
 use crate::held_matrix::shared;
-use sparse_algebra::error::OperationError;
-use sparse_algebra::operand::Op;
-use sparse_algebra::scalar::W64;
 use c_arrays::dense::dense_matrix_of;
 use c_arrays::refusal::Refusal;
 use c_arrays::scalars::put_scalars;
+use sparse_algebra::error::OperationError;
+use sparse_algebra::operand::Op;
+use sparse_algebra::scalar::W64;
 use sparse_coo_dense::dense::DMatrix;
 use sparse_csr_csc::csc::CscMatrix;
 use sparse_csr_csc::csr::CsrMatrix;
-use sparse_products::transposes::transposed_csr;
 use sparse_dense_ops::spsolve_csc_lower_triangular;
+use sparse_products::transposes::transposed_csr;
 use std::alloc::{AllocError, Global};
 
 /// Which triangle of a matrix is the matrix of a system of equations.

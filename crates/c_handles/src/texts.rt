@@ -15,10 +15,10 @@ ghost use Rattle.c_handles.specs.Texts.{IsTextUnwritten, TellsLength};
 
 use crate::handle::MatrixHandle;
 use crate::held_matrix::{put, shared};
-use sparse_algebra::recall;
-use sparse_algebra::scalar::W64;
 use c_arrays::refusal::Refusal;
 use c_arrays::scalars::put_items;
+use sparse_algebra::recall;
+use sparse_algebra::scalar::W64;
 use sparse_convert::serial::convert_coo_csr;
 use sparse_coo_dense::coo::CooMatrix;
 use sparse_csr_csc::csr::CsrMatrix;

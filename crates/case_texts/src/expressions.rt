@@ -8,7 +8,9 @@ use case_words::lines::{text_of, unescaped};
 use case_words::picture::list_of;
 use case_words::turn::Turn;
 use case_words::words::{Word, words_of};
-use nalgebra_sparse::expr::{Expr, ExprError, OutputOrder, evaluate_cols, evaluate_rows, run, run_owned};
+use nalgebra_sparse::expr::{
+    Expr, ExprError, OutputOrder, evaluate_cols, evaluate_rows, run, run_owned,
+};
 use nalgebra_sparse::io::{MatrixMarketExport, Out, save_to_matrix_market_str};
 use nalgebra_sparse::ops::Op;
 use nalgebra_sparse::scalar::W64;

@@ -63,7 +63,10 @@ pub fn failure_line(
     let why = match (file, failure) {
         (None, Failure::Write(kind)) => format!(in alloc; "write failed: {}\n", Reason(kind))?,
         (None, _) => format!(in alloc; "{failure}\n")?,
-        (Some(_), Failure::Input(_, _, location)) => format!(in alloc; ":{}: {failure}\n", location.line)?,
+        (Some(_), Failure::Input(_, _, location)) => format!(in alloc;
+            ":{}: {failure}\n",
+            location.line
+        )?,
         (Some(_), _) => format!(in alloc; ": {failure}\n")?,
     };
     line.push_str(why.as_str())?;

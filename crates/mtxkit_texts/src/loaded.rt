@@ -13,8 +13,8 @@ ghost use Rattle.mtxkit_texts.specs.Loaded.{IsRefused, IsLoadFailure, ring128, v
 ghost use Rattle.mtxkit_texts.specs.declared.failure.Failure.TheVariants.{OutOfMemory};
 
 use crate::failure::Failure;
-use crate::places::ones_of;
 use crate::locations::location_of;
+use crate::places::ones_of;
 use crate::sums::wide_sums;
 use sparse_algebra::scalar::W128;
 use sparse_coo_dense::coo::CooMatrix;

@@ -18,11 +18,11 @@ pub(crate) mod texts;
 use crate::arguments::lanes;
 use crate::status::status;
 use c_arrays::lanes::Lanes;
-use c_handles::handle::MatrixHandle;
 use c_handles::from_arrays::{put_rows, put_triplets};
+use c_handles::handle::MatrixHandle;
+use c_handles::held_matrix::clear;
 use c_handles::operations::share;
 use c_handles::reading::{read, sizes};
-use c_handles::held_matrix::clear;
 use std::alloc::Global;
 
 /// Stores the matrix with these CSR arrays in a handle.

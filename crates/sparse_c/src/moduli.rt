@@ -6,9 +6,9 @@ ghost use Rattle.sparse_c.specs.Scalars.{modulo, residues_of, scalars, Scalars};
 ghost use Rattle.c_arrays.specs.Statuses.{number_of};
 ghost use Rattle.c_arrays.specs.declared.refusal.Refusal.TheVariants.{UnknownChoice};
 
-use sparse_algebra::scalar::Mod;
 use c_arrays::number::Number;
 use c_arrays::refusal::Refusal;
+use sparse_algebra::scalar::Mod;
 use std::alloc::Global;
 
 /// The operands of a call that writes its result to `O`, arrays that are borrowed from C.

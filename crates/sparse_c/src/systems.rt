@@ -19,17 +19,17 @@ pub(crate) mod symmetric;
 
 use crate::arguments::{Equation, Numbers, System};
 use crate::moduli::Call;
-use sparse_algebra::error::OperationError;
-use sparse_algebra::operand::Op;
 use c_arrays::dense::dense_matrix_of;
 use c_arrays::lanes::Lanes;
 use c_arrays::number::Number;
 use c_arrays::refusal::Refusal;
 use c_arrays::writing::finish_dense;
+use sparse_algebra::error::OperationError;
+use sparse_algebra::operand::Op;
 use sparse_coo_dense::dense::DMatrix;
 use sparse_csr_csc::csc::CscMatrix;
-use sparse_factor::ldl::Ldl;
 use sparse_dense_ops::spsolve_csc_lower_triangular;
+use sparse_factor::ldl::Ldl;
 use std::alloc::Global;
 
 impl<'a> Call<Numbers<'a>> for System<'_> {

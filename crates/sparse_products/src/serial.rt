@@ -1,7 +1,8 @@
 //! Products of sparse matrices, computed in one thread.
 
-pub(crate) mod multiplicands;
+mod accumulate;
 mod index_set;
+pub(crate) mod multiplicands;
 mod pattern;
 mod prealloc;
 mod product;
@@ -10,7 +11,6 @@ mod scatter;
 mod search;
 mod unchecked;
 mod update;
-mod accumulate;
 
 pub use pattern::{spmm_csc_pattern, spmm_csr_pattern};
 pub use prealloc::{spmm_csc_prealloc, spmm_csr_prealloc};

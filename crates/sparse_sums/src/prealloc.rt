@@ -13,8 +13,8 @@ ghost use Rattle.sparse_algebra.specs.Prealloc.{plain_transpose_if};
 
 use crate::in_order::{add_in_order, covers_lanes};
 use sparse_algebra::error::OperationError;
-use sparse_algebra::recall;
 use sparse_algebra::operand::Op;
+use sparse_algebra::recall;
 use sparse_algebra::scalar::Ring;
 use sparse_compressed::scaling::scale_values;
 use sparse_compressed::{CsMatrix, offset_of};

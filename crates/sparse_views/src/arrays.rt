@@ -11,9 +11,9 @@ ghost use Rattle.sparse_dense_ops.specs.SparseVectors.{elements};
 
 use sparse_algebra::scalar::Ring;
 use sparse_compressed::{CsLane, CsMatrix, CsView, LaneIndices, SortedFault};
+use sparse_dense_ops::usdot;
 use sparse_pattern::entry::SparseEntry;
 use sparse_pattern::pattern::SparsityPattern;
-use sparse_dense_ops::usdot;
 use std::alloc::{AllocError, Global};
 use std::marker::Model;
 

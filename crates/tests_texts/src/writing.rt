@@ -153,7 +153,8 @@ fn stops(alloc: Global, case: &Stop, room: usize) -> bool {
     };
     match saved(alloc, writer) {
         Ok((refusal, accepted)) => {
-            refusal == case.failure && accepted.as_slice() == &TEXT.as_bytes()[..room.min(TEXT.len())]
+            refusal == case.failure
+                && accepted.as_slice() == &TEXT.as_bytes()[..room.min(TEXT.len())]
         }
         Err(AllocError) => false,
     }

@@ -83,13 +83,7 @@ pub(crate) fn put_lane<T: Number>(
 {
     let (scale, lane, numbers) = (part.scale, part.indices, part.values);
     for k in 0..lane.len() {
-        put_entry(
-            indices,
-            values,
-            from + k,
-            lane[k],
-            times(scale, numbers[k]),
-        );
+        put_entry(indices, values, from + k, lane[k], times(scale, numbers[k]));
     }
     from + lane.len()
 }

@@ -126,6 +126,10 @@ impl<const M: u64> Units for Mod<M> {
             high_coefficient = low_coefficient;
             low_coefficient = rest_coefficient;
         }
-        if high == 1 { Some(high_coefficient) } else { None }
+        if high == 1 {
+            Some(high_coefficient)
+        } else {
+            None
+        }
     }
 }

@@ -10,7 +10,7 @@ ghost use Rattle.sparse_c.specs.Combinations.{IsOfOneShape, IsSumOf};
 ghost use Rattle.sparse_c.specs.InnerModulusLaws.{rows_listed, rows_unlisted};
 ghost use Rattle.c_arrays.specs.Refused.{IsFaultOfPair, IsOutOfMemoryOr};
 
-use crate::arguments::{Combination, Pair, OutputArrays};
+use crate::arguments::{Combination, OutputArrays, Pair};
 use crate::moduli::Call;
 use c_arrays::number::Number;
 use c_arrays::refusal::Refusal;

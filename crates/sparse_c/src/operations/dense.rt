@@ -18,11 +18,11 @@ ghost use Rattle.c_arrays.specs.declared.refusal.Refusal.TheVariants.{UnknownCho
 
 use crate::arguments::{DenseOperands, Numbers, lanes};
 use crate::moduli::{Call, by_modulus};
-use sparse_algebra::scalar::W64;
 use c_arrays::dense::dense_matrix_of;
 use c_arrays::number::Number;
 use c_arrays::refusal::Refusal;
 use c_arrays::writing::finish_dense;
+use sparse_algebra::scalar::W64;
 use sparse_coo_dense::dense::DMatrix;
 use sparse_dense_ops::mul_csr_dense;
 use std::alloc::Global;
@@ -108,7 +108,10 @@ impl<'a> Call<Numbers<'a>> for DenseOperands<'_> {
 }
 
 // Returns the product of a CSR matrix and a dense matrix.
-fn dense_product<T: Number>(alloc: Global, operands: DenseOperands<'_>) -> Result<DMatrix<T>, Refusal>
+fn dense_product<T: Number>(
+    alloc: Global,
+    operands: DenseOperands<'_>,
+) -> Result<DMatrix<T>, Refusal>
     requires { operands.a.pattern.minor_dim ≡ operands.inner }
     ensures plain { let f = operands.entry in IfOk result (λ d. plain_of_dense T.ring T.value d
         ≡ plain_full T.ring (plain_product T.ring (plain_by_rows T.ring f.a)

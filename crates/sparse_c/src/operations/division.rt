@@ -17,13 +17,13 @@ ghost use Rattle.c_arrays.specs.Refused.{IsOutOfMemoryOr};
 ghost use Rattle.c_arrays.specs.Statuses.{number_of};
 ghost use Rattle.c_arrays.specs.declared.refusal.Refusal.TheVariants.{UnknownChoice};
 
-use crate::arguments::{Quotient, OutputArrays, lanes, room};
+use crate::arguments::{OutputArrays, Quotient, lanes, room};
 use crate::moduli::{Call, by_modulus};
-use sparse_algebra::scalar::W64;
 use c_arrays::lanes::Lanes;
 use c_arrays::number::Number;
 use c_arrays::refusal::Refusal;
 use c_arrays::writing::finish_rows;
+use sparse_algebra::scalar::W64;
 use sparse_csr_csc::csr::CsrMatrix;
 use sparse_dense_ops::div_scalar_csr;
 use std::alloc::Global;

@@ -17,9 +17,9 @@ ghost use Rattle.c_arrays.specs.declared.refusal.Refusal.TheVariants.{UnknownCho
 
 use crate::arguments::{lanes, pair, room};
 use crate::moduli::{Call, by_modulus};
-use sparse_algebra::scalar::W64;
 use c_arrays::lanes::pattern_of;
 use c_arrays::refusal::Refusal;
+use sparse_algebra::scalar::W64;
 use sparse_products::serial::spmm_csr_pattern;
 use std::alloc::Global;
 

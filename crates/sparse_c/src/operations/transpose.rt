@@ -10,10 +10,10 @@ ghost use Rattle.c_arrays.specs.Refused.{IsFaultOf, IsOutOfMemoryOr};
 ghost use Rattle.c_arrays.specs.Written.{WritesRows};
 
 use crate::arguments::lanes;
-use sparse_algebra::scalar::W64;
 use c_arrays::lanes::Lanes;
 use c_arrays::refusal::Refusal;
 use c_arrays::writing::finish_rows;
+use sparse_algebra::scalar::W64;
 use sparse_csr_csc::csr::CsrMatrix;
 use sparse_products::transposes::transposed_csr;
 use std::alloc::Global;

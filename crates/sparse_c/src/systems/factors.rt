@@ -23,13 +23,13 @@ ghost use Rattle.c_arrays.specs.declared.refusal.Refusal.TheVariants.{UnknownCho
 
 use crate::arguments::{FactorOutputArrays, Factored, lanes};
 use crate::moduli::{Call, by_modulus};
-use sparse_algebra::recall;
-use sparse_algebra::scalar::W64;
 use c_arrays::lanes::Lanes;
 use c_arrays::number::Number;
 use c_arrays::refusal::Refusal;
 use c_arrays::scalars::put_scalars;
 use c_arrays::writing::write_rows_or_count;
+use sparse_algebra::recall;
+use sparse_algebra::scalar::W64;
 use sparse_csr_csc::csr::CsrMatrix;
 use sparse_factor::ldl::Ldl;
 use std::alloc::Global;

@@ -13,9 +13,9 @@ ghost use Rattle.c_arrays.specs.Statuses.{number_of};
 ghost use Rattle.c_arrays.specs.Untouched.{IsListUntouched};
 ghost use Rattle.c_arrays.specs.declared.refusal.Refusal.TheVariants.{TooSmall};
 
-use sparse_algebra::scalar::W64;
 use c_arrays::lists::finish_list;
 use c_arrays::refusal::Refusal;
+use sparse_algebra::scalar::W64;
 use sparse_coo_dense::coo::CooMatrix;
 use sparse_io::load_coo_from_matrix_market_str;
 use std::alloc::Global;

@@ -5,8 +5,8 @@ ghost use Rattle.sparse_coo_dense.specs.TripletFaults.{IsFirstTripletFault};
 ghost use Rattle.sparse_coo_dense.specs.CooData.{coo_in, IsCooData};
 
 use super::CooMatrix;
-use sparse_serde::CooData;
 use sparse_pattern::error::SparseFormatError;
+use sparse_serde::CooData;
 use std::alloc::{AllocError, Global};
 
 impl<T> CooMatrix<T> {

@@ -6,8 +6,8 @@ ghost use Rattle.sparse_compressed.specs.SortedFaults.{IsSortedRefusal};
 ghost use Rattle.sparse_csr_csc.specs.CscData.{csc_in};
 
 use super::CscMatrix;
-use sparse_serde::CscData;
 use sparse_pattern::error::SparseFormatError;
+use sparse_serde::CscData;
 use std::alloc::{AllocError, Global};
 
 impl<T> CscMatrix<T> {

@@ -6,8 +6,8 @@ ghost use Rattle.sparse_compressed.specs.SortedFaults.{IsSortedRefusal};
 ghost use Rattle.sparse_csr_csc.specs.CsrData.{csr_in};
 
 use super::CsrMatrix;
-use sparse_serde::CsrData;
 use sparse_pattern::error::SparseFormatError;
+use sparse_serde::CsrData;
 use std::alloc::{AllocError, Global};
 
 impl<T> CsrMatrix<T> {

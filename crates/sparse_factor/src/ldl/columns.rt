@@ -16,8 +16,8 @@ use sparse_algebra::error::OperationError;
 use sparse_algebra::recall;
 use sparse_algebra::scalar::{Ring, Units};
 use sparse_csr_csc::csc::CscMatrix;
-use sparse_pattern::pattern::SparsityPattern;
 use sparse_dense_ops::{axpy_csc_col, usaxpy};
+use sparse_pattern::pattern::SparsityPattern;
 
 // Computes the columns of L, the diagonal of D and the inverses of its entries, for the symmetric matrix whose lower
 // triangle is `lower`.

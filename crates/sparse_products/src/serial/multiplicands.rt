@@ -8,8 +8,8 @@ ghost use Rattle.sparse_products.specs.InnerOperands.{matrix_of, HasProduct, Are
 ghost use Rattle.sparse_products.specs.Products.{product_by_rows, product_by_cols};
 ghost use Rattle.sparse_products.specs.ScalarProducts.{IfNotTransposed};
 
-use sparse_algebra::recall;
 use sparse_algebra::operand::Op;
+use sparse_algebra::recall;
 use sparse_algebra::scalar::Ring;
 use sparse_compressed::CsMatrix;
 use sparse_csr_csc::csc::CscMatrix;

@@ -96,7 +96,10 @@ fn multiply<T: Ring>(
 // Returns the product without scratch memory of the length of a row: computes the pattern, then adds the terms to
 // zeros.
 #[tactic(auto, using(sparse_algebra::proofs::EarlyReturns::early_return))]
-fn multiply_wide<T: Ring>(alloc: Global, matrices: Matrices<'_, T>) -> Result<CsMatrix<T>, AllocError>
+fn multiply_wide<T: Ring>(
+    alloc: Global,
+    matrices: Matrices<'_, T>,
+) -> Result<CsMatrix<T>, AllocError>
     requires { CanMultiply matrices }
     ensures { IfOk result
         (λ m. plain_of_rows T.ring T.value m ≡ product_of T.ring T.value matrices.entry) }

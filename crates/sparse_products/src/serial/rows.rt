@@ -12,10 +12,10 @@ ghost use Rattle.sparse_products.specs.InnerBits.{HasBit};
 ghost use Rattle.sparse_products.specs.InnerOperands.{CanMultiply, product_of};
 ghost use Rattle.sparse_products.specs.InnerProducts.{GainsExtracted, IsInRow, IsExtracted, IsZeroRow};
 
-use super::multiplicands::Matrices;
-use super::index_set::{IndexSet, push_lane};
-use super::scatter::zero_row;
 use super::accumulate::add_product_row;
+use super::index_set::{IndexSet, push_lane};
+use super::multiplicands::Matrices;
+use super::scatter::zero_row;
 use sparse_algebra::recall;
 use sparse_algebra::scalar::Ring;
 use sparse_compressed::CsMatrix;

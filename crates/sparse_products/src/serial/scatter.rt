@@ -10,8 +10,8 @@ ghost use Rattle.sparse_products.specs.InnerProducts.{IsInRow, IsExtracted, IsZe
 ghost use Rattle.sparse_products.specs.InnerUpdates.{CanUpdate, ContainsProduct, IsUpdated};
 ghost use Rattle.sparse_products.specs.InnerUpdates.{steps_below, steps_of};
 
-use super::update::Update;
 use super::accumulate::{RowAccumulators, add_product_row};
+use super::update::Update;
 use sparse_algebra::recall;
 use sparse_algebra::scalar::Ring;
 use sparse_coo_dense::steps::Steps;
@@ -96,7 +96,14 @@ fn scatter_row<T: Ring>(
     recall(update.matrices.b.values());
     let offsets = pattern.major_offsets();
     let (begin, end) = (offsets[i], offsets[i + 1]);
-    add_product_row(update.alpha, update.matrices, i, &mut RowAccumulators, row, steps);
+    add_product_row(
+        update.alpha,
+        update.matrices,
+        i,
+        &mut RowAccumulators,
+        row,
+        steps,
+    );
     gather_row(
         update.beta,
         pattern.lane(i),

@@ -7,8 +7,8 @@ ghost use Rattle.sparse_products.specs.InnerProducts.{IsInLanes};
 ghost use Rattle.sparse_products.specs.InnerUpdates.{CanUpdate, ContainsProduct, IsUpdated};
 ghost use Rattle.sparse_products.specs.InnerUpdates.{steps_of};
 
-use super::update::Update;
 use super::accumulate::{Accumulators, add_product_row};
+use super::update::Update;
 use sparse_algebra::recall;
 use sparse_algebra::scalar::Ring;
 use sparse_compressed::offset_of;
@@ -120,7 +120,14 @@ pub(super) fn search_rows<T: Ring>(
     scale_values(update.beta, values, steps);
     for i in 0..pattern.major_dim() {
         let mut row_sums = EntryAccumulators { pattern, lane: i };
-        add_product_row(update.alpha, update.matrices, i, &mut row_sums, values, steps);
+        add_product_row(
+            update.alpha,
+            update.matrices,
+            i,
+            &mut row_sums,
+            values,
+            steps,
+        );
     }
 }
 

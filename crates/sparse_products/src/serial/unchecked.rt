@@ -12,8 +12,8 @@ ghost use Rattle.sparse_products.specs.ScalarProducts.{IfNotTransposed, triples_
 use super::multiplicands::{csc_operands, csr_operands};
 use super::update::{Update, update_covered};
 use sparse_algebra::error::OperationError;
-use sparse_algebra::recall;
 use sparse_algebra::operand::Op;
+use sparse_algebra::recall;
 use sparse_algebra::scalar::Ring;
 use sparse_coo_dense::steps::Steps;
 use sparse_csr_csc::csc::CscMatrix;

@@ -11,8 +11,8 @@ ghost use Rattle.sparse_factor.specs.InnerMarks.{AreMarked, AreAtMost};
 ghost use Rattle.sparse_factor.specs.InnerCountedPairs.{CountsPairs};
 
 use super::Columns;
+use super::added::{AddedRows, merge_tail, sort_rows};
 use super::runs::skip_row;
-use super::added::{AddedRows, sort_rows, merge_tail};
 use sparse_coo_dense::steps::Steps;
 use sparse_pattern::counting::Count;
 use std::alloc::AllocError;
@@ -173,7 +173,12 @@ fn merge_tail_of<C: Count>(
 }
 
 // Puts a finished column on the list of its parent's children, unless `parent` is 0: then it has no parent.
-pub(super) fn link_to_parent<C: Count>(column: usize, parent: usize, firsts: &mut [C], nexts: &mut [C])
+pub(super) fn link_to_parent<C: Count>(
+    column: usize,
+    parent: usize,
+    firsts: &mut [C],
+    nexts: &mut [C],
+)
     requires width { column + 1 < C.limit }
     requires column { column < length nexts.old }
     requires parent { parent < length firsts.old }
