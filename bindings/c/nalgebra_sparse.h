@@ -1,15 +1,15 @@
 /* Exact sparse matrices: the calls of the static library libsparse_c.a.
  *
  * Values are integers modulo 2^64, shown as int64_t: sums and products wrap. A matrix by rows (CSR) is a shape and
- * three arrays: `offsets` with rows + 1 numbers, of which row i has the places offsets[i] to offsets[i + 1] - 1; the
- * column of each place, rising strictly in each row; and the value of each place, which may be 0. The arrays of a
- * matrix by columns (CSC) are those of its transpose by rows. A dense matrix is an array of its values, column by
- * column.
+ * three arrays: `offsets` with rows + 1 numbers, where the entries of row i are those numbered offsets[i] to
+ * offsets[i + 1] - 1; the column of each entry, strictly increasing in each row; and the value of each entry, which may
+ * be 0. The arrays of a matrix by columns (CSC) are those of its transpose by rows. A dense matrix is an array of its
+ * values, column by column.
  *
- * Arrays of a matrix are sound if there are rows + 1 offsets, which begin with 0, do not fall and end with the number
- * of indices, if the indices are below the number of columns and rise strictly in each row, and if there are as many
- * values as indices. The values of a dense matrix are sound if their number is rows * cols, and lists of triplets if
- * they have one length and their indices are within the shape.
+ * Arrays of a matrix are sound if there are rows + 1 offsets, which start with 0, do not decrease and end with the
+ * number of indices, if the indices are below the number of columns and strictly increasing in each row, and if there
+ * are as many values as indices. The values of a dense matrix are sound if their number is rows * cols, and lists of
+ * triplets if they have the same length and their indices are within the shape.
  *
  * The calls whose names end in _mod compute modulo `modulus` instead, which is one of 2, 3, 5, 7, 11, 13, 101, 65537,
  * 998244353, 1000000007 and 2305843009213693951 (2^61 - 1); any other modulus has the status UNKNOWN_CHOICE. An int64_t
@@ -17,25 +17,26 @@
  * from 0 to modulus - 1.
  *
  * What is proved. Every call returns, never touches memory outside the arrays that it is given, and has a contract in
- * crates/sparse_c/src, which holds for all arrays, sound or not. At status 0 the arrays for the result begin with the
- * arrays of a sound matrix, and the plain matrix of these is the one that the call names: the transpose, the sum, the
- * product of the plain matrices of the operands; or they begin with an X that solves the equation, with the factors of
- * the matrix, with the triplets that a text means, or with the text of triplets. Longer arrays are left as they are
- * behind the result. At any other status the arrays are as they were, and the status tells why. Equations hold in the
- * ring of the call: the integers modulo 2^64, or modulo `modulus`.
+ * crates/sparse_c/src, which holds for all arrays, sound or not. At status 0 the arrays for the result start with the
+ * arrays of a sound matrix, and this matrix is the one that the call names: the transpose, the sum, the product of the
+ * operands; or they start with an X that solves the equation, with the factors of the matrix, with the triplets that a
+ * text means, or with the text of triplets. Longer arrays are unchanged after the result. At any other status the
+ * arrays are unchanged, and the status says why. Equations hold in the ring of the call: the integers modulo 2^64, or
+ * modulo `modulus`.
  *
- * At TOO_SMALL the call tells the size that is needed: the last argument, out_places, out_triplets or out_length,
- * becomes the number that it would have at status 0. So a call with short arrays, or with none, may be made again with
- * arrays of that size. The other sizes follow from the shape. At any other status than 0 and TOO_SMALL it is as it was.
- * The calls that write a dense matrix have no such argument, and nalgebra_sparse_matrix_read leaves it as it was.
+ * At TOO_SMALL the call writes the size that is needed: the last argument, out_places, out_triplets or out_length,
+ * becomes the number that it would have at status 0. So a call with short arrays, or with none, may be repeated with
+ * arrays of that size. The other sizes follow from the shape. At any status but 0 and TOO_SMALL this argument is
+ * unchanged. The calls that write a dense matrix have no such argument, and nalgebra_sparse_matrix_read leaves it
+ * unchanged at TOO_SMALL too.
  *
- * Each call lists its statuses in the order in which it looks for their causes, and has the first that applies: first
- * a number that chooses among cases, then the faults of the operands in their order, then SINGULAR, and last TOO_SMALL.
- * So at status 0, SINGULAR and TOO_SMALL all operands are sound, and at TOO_SMALL there is a result, and some array is
- * smaller than its part of it. OUT_OF_MEMORY may come in place of any status but UNKNOWN_CHOICE.
+ * Each call lists its statuses in the order in which it looks for their causes, and returns the first that applies:
+ * first a number that chooses among cases, then the faults of the operands in their order, then SINGULAR, and last
+ * TOO_SMALL. So at status 0, SINGULAR and TOO_SMALL all operands are sound, and at TOO_SMALL there is a result, and
+ * some array is smaller than its part of it. OUT_OF_MEMORY may be returned in place of any status but UNKNOWN_CHOICE.
  *
- * What is not proved. No contract says that OUT_OF_MEMORY comes only where an allocation failed: by the contracts it
- * may come at any time. A test refuses each request for memory of small calls in turn (bindings/c/test_refusals.c).
+ * What is not proved. No contract says that OUT_OF_MEMORY is returned only if an allocation failed: by the contracts it
+ * may be returned at any time. A test lets each allocation of small calls fail in turn (bindings/c/test_refusals.c).
  * This header and the programs around the library are checked by tests alone (bindings/test). The caller must see to it
  * that
  *   - each pointer is not null, even where the length is 0, is aligned, and has at least as many elements as the length
@@ -44,12 +45,12 @@
  *   - malloc, realloc and free come from one allocator, which aligns blocks as the C standard demands;
  *   - no call is made from a signal handler, or in the child of a fork of a process with threads.
  *
- * Each call takes time and memory as the call of the library does, and copies of the operands' arrays beside it. Sums
- * read the operands where they are, if the arrays for the result have room for the places of both.
+ * Each call takes the time and memory of the library's function, and memory for copies of the operands' arrays. Sums
+ * read the operands without a copy if the arrays for the result have room for the entries of both.
  *
- * Threads. The library has no variables of its own: what lasts from one call to the next is what handles own. So any
- * number of threads may call at once. They may share the arrays of operands, and each handle is used by one call at a
- * time. While a call runs, no other thread may write an array that it reads, or read or write an array for its result.
+ * Threads. The library has no global state: only what handles own lasts from one call to the next. So any number of
+ * threads may call at once. They may share the arrays of operands, and each handle is used by one call at a time. While
+ * a call runs, no other thread may write an array that it reads, or read or write an array for its result.
  *
  * The functions at the end (nalgebra_sparse_inline.h) take matrices as structs and null pointers as empty arrays, and
  * nalgebra_sparse_status_text says what a status means.
@@ -86,9 +87,9 @@ enum {
     NALGEBRA_SPARSE_INVALID_STRUCTURE = 2,
     /* A row or a column index is out of bounds. */
     NALGEBRA_SPARSE_INDEX_OUT_OF_BOUNDS = 3,
-    /* The same place is given more than once. */
+    /* Two entries have the same row and column. */
     NALGEBRA_SPARSE_DUPLICATE_ENTRY = 4,
-    /* An array for the result is too small. The call tells the size that is needed: see above. */
+    /* An array for the result is too small. The call writes the size that is needed: see above. */
     NALGEBRA_SPARSE_TOO_SMALL = 5,
     /* A value that must have an inverse has none. */
     NALGEBRA_SPARSE_SINGULAR = 6,
@@ -112,7 +113,7 @@ enum {
     NALGEBRA_SPARSE_NON_SQUARE = 15,
     /* The bytes of a text are not UTF-8. */
     NALGEBRA_SPARSE_UNREADABLE = 16,
-    /* A handle has no matrix. */
+    /* A handle is empty. */
     NALGEBRA_SPARSE_EMPTY_HANDLE = 17,
     /* The shapes of the operands do not fit. */
     NALGEBRA_SPARSE_SHAPE_MISMATCH = 18
@@ -121,10 +122,11 @@ enum {
 /* The triangles of nalgebra_sparse_fill. */
 enum { NALGEBRA_SPARSE_UPPER = 0, NALGEBRA_SPARSE_LOWER = 1, NALGEBRA_SPARSE_BOTH = 2 };
 
-/* Writes the matrix of triplets by rows: each place that occurs in the lists, with the sum of its values.
+/* Writes the matrix of a list of triplets by rows: an entry for each row and column that occur together in the lists,
+ * with the sum of the values of these triplets.
  *
  * The three lists have the same length. out_offsets needs rows + 1 numbers, and out_indices and out_values one for each
- * place: `values_len` is always enough. *out_places becomes the number of places, also at TOO_SMALL.
+ * entry: `values_len` is always enough. *out_places becomes the number of entries, also at TOO_SMALL.
  *
  * Statuses: OUT_OF_MEMORY; INVALID_STRUCTURE if the lists have different lengths; INDEX_OUT_OF_BOUNDS; TOO_SMALL.
  */
@@ -138,8 +140,8 @@ int32_t nalgebra_sparse_assemble_csr(
     int64_t *out_values, size_t out_values_len,
     size_t *out_places);
 
-/* Writes the matrix of triplets by columns: out_offsets needs cols + 1 numbers, and out_indices are rows. Otherwise as
- * nalgebra_sparse_assemble_csr.
+/* Writes the matrix of a list of triplets by columns: out_offsets needs cols + 1 numbers, and out_indices are rows.
+ * Otherwise as nalgebra_sparse_assemble_csr.
  */
 int32_t nalgebra_sparse_assemble_csc(
     size_t rows, size_t cols,
@@ -151,8 +153,8 @@ int32_t nalgebra_sparse_assemble_csc(
     int64_t *out_values, size_t out_values_len,
     size_t *out_places);
 
-/* Writes the matrix of triplets by rows modulo `modulus`: the list of moduli and the meaning of values are at the head of
- * this file. The arrays for the result are as for nalgebra_sparse_assemble_csr.
+/* Writes the matrix of a list of triplets by rows modulo `modulus`: the list of moduli and the meaning of values are at
+ * the head of this file. The arrays for the result are as for nalgebra_sparse_assemble_csr.
  *
  * Statuses: UNKNOWN_CHOICE if the modulus is not listed; otherwise as for nalgebra_sparse_assemble_csr.
  */
@@ -167,7 +169,7 @@ int32_t nalgebra_sparse_assemble_csr_mod(
     int64_t *out_values, size_t out_values_len,
     size_t *out_places);
 
-/* Writes the matrix of triplets by columns modulo `modulus`. The arrays for the result are as for
+/* Writes the matrix of a list of triplets by columns modulo `modulus`. The arrays for the result are as for
  * nalgebra_sparse_assemble_csc, and the statuses as for nalgebra_sparse_assemble_csr_mod.
  */
 int32_t nalgebra_sparse_assemble_csc_mod(
@@ -181,8 +183,8 @@ int32_t nalgebra_sparse_assemble_csc_mod(
     int64_t *out_values, size_t out_values_len,
     size_t *out_places);
 
-/* Writes the transpose of a matrix by rows, by rows too: out_offsets needs cols + 1 numbers, and out_indices and
- * out_values `values_len` each. It computes nothing, so it serves every modulus: each value is that of the operand.
+/* Writes the transpose of a matrix by rows, also by rows: out_offsets needs cols + 1 numbers, and out_indices and
+ * out_values `values_len` each. The values are copied as they are, so this call serves every modulus.
  *
  * Statuses: OUT_OF_MEMORY; INVALID_STRUCTURE, INDEX_OUT_OF_BOUNDS or DUPLICATE_ENTRY for the first fault of the arrays;
  * TOO_SMALL. Faults are looked for in this order: the number of offsets; the first and the last offset; row by row the
@@ -199,9 +201,10 @@ int32_t nalgebra_sparse_transpose(
     int64_t *out_values, size_t out_values_len,
     size_t *out_places);
 
-/* Writes the sum a + b of two matrices by rows with one shape, on the union of their places, also where a sum is 0:
- * out_offsets needs rows + 1 numbers, and for out_indices and out_values a_values_len + b_values_len is always enough.
- * With that much room the call takes no memory; with less it makes the sum in memory first, and copies it.
+/* Writes the sum a + b of two matrices by rows with the same shape. Its pattern is the union of theirs, also where a
+ * sum is 0: out_offsets needs rows + 1 numbers, and for out_indices and out_values a_values_len + b_values_len is
+ * always enough. With that much room the call allocates nothing; with less it allocates memory for the sum and copies
+ * it.
  *
  * Statuses: OUT_OF_MEMORY; the first fault of a, and otherwise that of b, as for nalgebra_sparse_transpose; TOO_SMALL.
  */
@@ -232,8 +235,8 @@ int32_t nalgebra_sparse_subtract(
     int64_t *out_values, size_t out_values_len,
     size_t *out_places);
 
-/* Writes the sum alpha a + beta b of multiples of two matrices by rows with one shape, on the union of their places, also
- * where a factor or a value is 0. Otherwise as nalgebra_sparse_add.
+/* Writes the sum of multiples alpha a + beta b of two matrices by rows with the same shape. Its pattern is the union of
+ * theirs, also where alpha, beta or a value is 0. Otherwise as nalgebra_sparse_add.
  */
 int32_t nalgebra_sparse_add_scaled(
     size_t rows, size_t cols,
@@ -303,8 +306,8 @@ int32_t nalgebra_sparse_add_scaled_mod(
     int64_t *out_values, size_t out_values_len,
     size_t *out_places);
 
-/* Writes to *out_places how many places the product of two patterns by rows has: the size for nalgebra_sparse_multiply.
- * `a` has `rows` rows and `inner` columns, `b` has `inner` rows and `cols` columns.
+/* Writes to *out_places the number of entries of the product of two matrices with these patterns by rows: the size for
+ * nalgebra_sparse_multiply. `a` has `rows` rows and `inner` columns, `b` has `inner` rows and `cols` columns.
  *
  * Statuses: OUT_OF_MEMORY; the first fault of a, and otherwise that of b, as for nalgebra_sparse_transpose.
  */
@@ -316,11 +319,11 @@ int32_t nalgebra_sparse_multiply_places(
     const size_t *b_indices, size_t b_indices_len,
     size_t *out_places);
 
-/* Writes the product a b of two matrices by rows, with a place wherever the operands share a middle index, also where
- * the sum is 0: out_offsets needs rows + 1 numbers, and out_indices and out_values as many as *out_places says at
- * TOO_SMALL, or nalgebra_sparse_multiply_places, which takes about as long as the product. One number for each
- * multiplication is always enough: the sum, over the places of a, of the lengths of the rows of b that their indices
- * name.
+/* Writes the product a b of two matrices by rows. It has an entry (i, j) wherever there are entries (i, k) of a and (k,
+ * j) of b, also where the sum is 0: out_offsets needs rows + 1 numbers, and out_indices and out_values as many as
+ * *out_places says at TOO_SMALL, or nalgebra_sparse_multiply_places, which takes about as long as the product. One
+ * number for each multiplication is always enough: the sum, over the entries (i, k) of a, of the number of entries in
+ * row k of b.
  *
  * Statuses: OUT_OF_MEMORY; the first fault of a, and otherwise that of b, as for nalgebra_sparse_transpose; TOO_SMALL.
  */
@@ -337,8 +340,8 @@ int32_t nalgebra_sparse_multiply(
     int64_t *out_values, size_t out_values_len,
     size_t *out_places);
 
-/* Writes the product a b modulo `modulus`, on the same places, also where the sum is a multiple of the modulus: the list
- * of moduli and the meaning of values are at the head of this file. The arrays for the result are as for
+/* Writes the product a b modulo `modulus`, with the same pattern, also where the sum is a multiple of the modulus: the
+ * list of moduli and the meaning of values are at the head of this file. The arrays for the result are as for
  * nalgebra_sparse_multiply.
  *
  * Statuses: UNKNOWN_CHOICE if the modulus is not listed; otherwise as for nalgebra_sparse_multiply.
@@ -384,15 +387,14 @@ int32_t nalgebra_sparse_multiply_dense_mod(
     const int64_t *b_values, size_t b_values_len,
     int64_t *out_values, size_t out_values_len);
 
-/* Writes the X for which L X = B, or for which the transpose of L times X is B where `transposed` is true. L is the
- * part on and below the diagonal of a matrix by columns with `size` rows and columns; what is above the diagonal has
- * no effect. So of a matrix by rows, whose arrays are those of its transpose by columns, the part on and above the
- * diagonal is solved with `transposed`. B and X have `cols` columns: b_values_len is size * cols, and out_values needs
- * as many numbers.
+/* Writes the X for which L X = B, or L^T X = B if `transposed` is true. L is the lower triangle, with the diagonal, of
+ * a matrix by columns with `size` rows and columns; entries above the diagonal are ignored. To solve with the upper
+ * triangle of a matrix by rows, pass its arrays with `transposed`: they are those of its transpose by columns. B and X
+ * have `cols` columns: b_values_len is size * cols, and out_values needs as many numbers.
  *
  * Statuses: OUT_OF_MEMORY; the first fault of the arrays, as for nalgebra_sparse_transpose; INVALID_STRUCTURE if B has
- * another number of values; SINGULAR if there is a column to solve for, and some entry of the diagonal is not stored
- * or is even, since odd numbers alone have an inverse modulo 2^64; TOO_SMALL.
+ * another number of values; SINGULAR if there is a column to solve for, and some diagonal entry is missing or even,
+ * since only odd numbers have an inverse modulo 2^64; TOO_SMALL.
  */
 int32_t nalgebra_sparse_solve_lower(
     size_t size, size_t cols,
@@ -406,7 +408,7 @@ int32_t nalgebra_sparse_solve_lower(
 /* Writes that X modulo `modulus`: the list of moduli and the meaning of values are at the head of this file.
  *
  * Statuses: UNKNOWN_CHOICE if the modulus is not listed; otherwise as for nalgebra_sparse_solve_lower, and SINGULAR if
- * there is a column to solve for, and some entry of the diagonal is not stored or is a multiple of the modulus.
+ * there is a column to solve for, and some diagonal entry is missing or a multiple of the modulus.
  */
 int32_t nalgebra_sparse_solve_lower_mod(
     uint64_t modulus,
@@ -418,8 +420,8 @@ int32_t nalgebra_sparse_solve_lower_mod(
     const int64_t *b_values, size_t b_values_len,
     int64_t *out_values, size_t out_values_len);
 
-/* Writes the quotient of a matrix by rows and an integer: each value times the inverse of the integer, at the same
- * places: out_offsets needs rows + 1 numbers, and out_indices and out_values `values_len` each.
+/* Writes the quotient of a matrix by rows and an integer: each value times the inverse of the integer, with the same
+ * pattern: out_offsets needs rows + 1 numbers, and out_indices and out_values `values_len` each.
  *
  * Statuses: OUT_OF_MEMORY; the first fault of the arrays, as for nalgebra_sparse_transpose; SINGULAR if the divisor is
  * even, since it has no inverse modulo 2^64; TOO_SMALL.
@@ -453,10 +455,10 @@ int32_t nalgebra_sparse_divide_mod(
     int64_t *out_values, size_t out_values_len,
     size_t *out_places);
 
-/* Writes to *out_places how many places the factor L of a symmetric elimination has: the size for nalgebra_sparse_fill.
- * `triangle` says which entries of the pattern by columns, with `size` rows and columns, the elimination starts from:
- * NALGEBRA_SPARSE_UPPER, those on and above the diagonal; NALGEBRA_SPARSE_LOWER, those on and below it;
- * NALGEBRA_SPARSE_BOTH, all.
+/* Writes to *out_places the number of entries of the factor L of a symmetric matrix: the size for nalgebra_sparse_fill.
+ * `triangle` says which entries of the pattern by columns, with `size` rows and columns, give the pattern of the
+ * symmetric matrix: NALGEBRA_SPARSE_UPPER, those on and above the diagonal; NALGEBRA_SPARSE_LOWER, those on and below
+ * it; NALGEBRA_SPARSE_BOTH, all.
  *
  * Statuses: UNKNOWN_CHOICE if `triangle` is another number; OUT_OF_MEMORY; the first fault of the arrays, as for
  * nalgebra_sparse_transpose.
@@ -467,8 +469,8 @@ int32_t nalgebra_sparse_fill_places(
     const size_t *indices, size_t indices_len,
     size_t *out_places);
 
-/* Writes the pattern of that factor, by columns: the smallest set of places on and below the diagonal that has the
- * places that the elimination starts from, and that has (i, j) wherever it has (i, k) and (j, k) with k < j <= i.
+/* Writes the pattern of this factor L, by columns: the smallest set of pairs (i, j), i >= j, that has the given
+ * entries, those above the diagonal transposed, and that has (i, j) wherever it has (i, k) and (j, k) with k < j <= i.
  * out_offsets needs size + 1 numbers, and out_indices as many as nalgebra_sparse_fill_places says.
  *
  * Statuses: as for nalgebra_sparse_fill_places; TOO_SMALL.
@@ -482,10 +484,10 @@ int32_t nalgebra_sparse_fill(
     size_t *out_places);
 
 /* Writes the X for which A X = B, where A is the symmetric matrix whose entries on and above the diagonal are those of
- * a matrix by columns with `size` rows and columns, by the exact factorisation of A into L D L^T. What is below the
- * diagonal has no effect, and no call tests it: for a matrix that is not symmetric, X solves another system. (A matrix
- * is symmetric where all values of nalgebra_sparse_subtract of it and its nalgebra_sparse_transpose are 0.) B and X
- * have `cols` columns: b_values_len is size * cols, and out_values needs as many numbers.
+ * a matrix by columns with `size` rows and columns, by the exact factorisation of A into L D L^T. Entries below the
+ * diagonal are ignored: for a matrix that is not symmetric, X solves another system. (A matrix is symmetric if all
+ * values of nalgebra_sparse_subtract of it and its nalgebra_sparse_transpose are 0.) B and X have `cols` columns:
+ * b_values_len is size * cols, and out_values needs as many numbers.
  *
  * Statuses: OUT_OF_MEMORY; the first fault of the arrays, as for nalgebra_sparse_transpose; INVALID_STRUCTURE if B has
  * another number of values; SINGULAR if no factorisation exists; TOO_SMALL.
@@ -512,13 +514,13 @@ int32_t nalgebra_sparse_solve_symmetric_mod(
     int64_t *out_values, size_t out_values_len);
 
 /* Writes the exact factors of a symmetric matrix, A = L D L^T, where A has the entries on and above the diagonal of a
- * matrix by columns with `size` rows and columns. What is below the diagonal has no effect, and no call tests it. L has
- * ones on the diagonal and zeros above it, and is written by columns; D is diagonal, each of its values has an inverse,
- * and they are written to out_diagonal. No other L and D satisfy the equation.
+ * matrix by columns with `size` rows and columns. Entries below the diagonal are ignored. L has ones on the diagonal
+ * and zeros above it, and is written by columns; D is diagonal, each of its values has an inverse, and they are written
+ * to out_diagonal. No other L and D satisfy the equation.
  *
- * L has exactly the places that nalgebra_sparse_fill gives for NALGEBRA_SPARSE_UPPER, also where a value is 0: so
- * out_indices and out_values need as many numbers as nalgebra_sparse_fill_places says for that triangle, out_offsets
- * needs size + 1, and out_diagonal `size`. *out_places becomes the number of places of L.
+ * The pattern of L is exactly the one that nalgebra_sparse_fill gives for NALGEBRA_SPARSE_UPPER, also where a value is
+ * 0: so out_indices and out_values need as many numbers as nalgebra_sparse_fill_places says for that triangle,
+ * out_offsets needs size + 1, and out_diagonal `size`. *out_places becomes the number of entries of L.
  *
  * Statuses: OUT_OF_MEMORY; the first fault of the arrays, as for nalgebra_sparse_transpose; SINGULAR if no
  * factorisation exists; TOO_SMALL.
@@ -553,20 +555,21 @@ int32_t nalgebra_sparse_factor_symmetric_mod(
 /* Reads the bytes of a text in Matrix Market format, with integers or as an array of integers, and writes the shape of
  * its matrix and the number of its triplets: the size for nalgebra_sparse_read.
  *
- * Statuses: OUT_OF_MEMORY; UNREADABLE; and the first error of the text, in this order: INVALID_TEXT if it does not match
- * the grammar; INVALID_HEADER; INVALID_TEXT if the size line does not fit the header or a size is 2^64 or more;
+ * Statuses: OUT_OF_MEMORY; UNREADABLE; and the first error of the text, in this order: INVALID_TEXT if it does not
+ * match the grammar; INVALID_HEADER; INVALID_TEXT if the size line does not fit the header or a size is 2^64 or more;
  * NON_SQUARE; ENTRY_MISMATCH; then, entry by entry, INVALID_TEXT if it has not the numbers that the header asks for or
  * an index is 2^64 or more; ZERO_INDEX; INVALID_TEXT if its value is no integer from -2^127 to 2^127 - 1; TYPE_MISMATCH
- * if the value is no integer of 64 bits; NOT_LOWER_TRIANGLE; DIAGONAL_ENTRY; last INDEX_OUT_OF_BOUNDS. So the line
- * `0 1 x` is INVALID_TEXT, and `0 1 1.0` is ZERO_INDEX, although 1.0 is no integer.
+ * if the value is no integer of 64 bits; NOT_LOWER_TRIANGLE; DIAGONAL_ENTRY; last INDEX_OUT_OF_BOUNDS. So the line `0 1
+ * x` is INVALID_TEXT, and `0 1 1.0` is ZERO_INDEX, although 1.0 is no integer.
  */
 int32_t nalgebra_sparse_read_sizes(
     const uint8_t *text, size_t text_len,
     size_t *out_rows, size_t *out_cols, size_t *out_triplets);
 
-/* Writes the triplets of such a text, in its order: rows and columns count from 0, repeated places are kept, and the
- * mirrored entry that a symmetry implies directly follows its own. The three arrays need as many numbers as
- * nalgebra_sparse_read_sizes says there are triplets, and *out_triplets becomes their number.
+/* Writes the triplets of such a text, in the order of the text: rows and columns count from 0, triplets with the same
+ * row and column are kept, and the mirrored triplet that a symmetry implies directly follows the triplet of the text.
+ * The three arrays need as many numbers as nalgebra_sparse_read_sizes says there are triplets, and *out_triplets
+ * becomes their number.
  *
  * Statuses: as for nalgebra_sparse_read_sizes; TOO_SMALL.
  */
@@ -577,7 +580,7 @@ int32_t nalgebra_sparse_read(
     int64_t *out_values, size_t out_values_len,
     size_t *out_triplets);
 
-/* Writes to *out_length how many bytes the text of triplets has: the size for nalgebra_sparse_write.
+/* Writes to *out_length how many bytes the text of a list of triplets has: the size for nalgebra_sparse_write.
  *
  * Statuses: as for nalgebra_sparse_assemble_csr, but for TOO_SMALL.
  */
@@ -588,8 +591,9 @@ int32_t nalgebra_sparse_write_length(
     const int64_t *values, size_t values_len,
     size_t *out_length);
 
-/* Writes the text of triplets in Matrix Market format (coordinate, integer, general), with a line for each triplet in
- * the order of the lists. It is ASCII, and no zero byte ends it. *out_length becomes the number of its bytes.
+/* Writes the text of a list of triplets in Matrix Market format (coordinate, integer, general), with a line for each
+ * triplet in the order of the lists. It is ASCII, and no zero byte ends it. *out_length becomes the number of its
+ * bytes.
  *
  * Statuses: as for nalgebra_sparse_write_length; TOO_SMALL.
  */
@@ -603,42 +607,43 @@ int32_t nalgebra_sparse_write(
 
 /* Handles.
  *
- * A handle stands for a matrix that the library owns, over the integers modulo 2^64, or for none: it is then
- * {NULL}, as NALGEBRA_SPARSE_NO_MATRIX. The calls below take handles in place of arrays, so a chain of them tests no
- * array twice. Transposes, multiples, sums and products copy no operand; a solve with a triangle and a factorisation
- * copy the matrix, and each solve copies its right side. Their contracts are equations between the plain matrices
- * behind handles (crates/sparse_c/src/handles.rt, handle_operations.rt, handle_systems.rt and handle_texts.rt). No call
- * over handles computes modulo another number.
+ * A handle is an opaque pointer to a matrix that the library owns, over the integers modulo 2^64. An empty handle holds
+ * no matrix: it is {NULL}, as NALGEBRA_SPARSE_NO_MATRIX. The calls below take handles in place of arrays, so a chain of
+ * them checks no array twice. Transposes, multiples, sums and products copy no operand; a triangular solve and a
+ * factorisation copy the matrix, and each solve copies its right-hand side. Their contracts are equations between the
+ * matrices that the handles hold (crates/sparse_c/src/handles.rt, handle_operations.rt, handle_systems.rt and
+ * handle_texts.rt). No call with handles computes modulo another number.
  *
- *     nalgebra_sparse_matrix a = NALGEBRA_SPARSE_NO_MATRIX, square = NALGEBRA_SPARSE_NO_MATRIX, copy = NALGEBRA_SPARSE_NO_MATRIX;
+ *     nalgebra_sparse_matrix a = NALGEBRA_SPARSE_NO_MATRIX, square = NALGEBRA_SPARSE_NO_MATRIX;
+ *     nalgebra_sparse_matrix copy = NALGEBRA_SPARSE_NO_MATRIX;
  *     status = nalgebra_sparse_matrix_from_rows(2, 2, offsets, 3, indices, 2, values, 2, &a);
  *     status = nalgebra_sparse_matrix_clone(&a, &copy);
  *     status = nalgebra_sparse_matrix_multiply(&a, &copy, &square);
  *     nalgebra_sparse_matrix_free(&a), nalgebra_sparse_matrix_free(&copy), nalgebra_sparse_matrix_free(&square);
  *
- * A result goes behind `out`, and the matrix that was there before is dropped. At any status but 0 `out` is unchanged.
- * Each handle with a matrix must be freed once, and a handle that was freed is empty: it may be freed again and used
- * again.
+ * A result is stored in `out`, and the matrix that `out` held before is dropped. At any status but 0 `out` is
+ * unchanged. Each handle that holds a matrix must be freed once. A handle that was freed is empty: it may be freed
+ * again and used again.
  *
  * The caller must see to it that
- *   - a handle is either empty or as a call left it: it is not made of other bytes, and after its bytes were copied only
+ *   - a handle is either empty or as a call left it: its bytes are not set in another way, and if they are copied, only
  *     one of the copies is passed to calls;
- *   - the handles of one call are different variables: for the square of a matrix, or to put a result in place of an
+ *   - the handles of one call are different variables: for the square of a matrix, or to store a result in place of an
  *     operand, clone it first, which copies no array;
- *   - each handle is used by one call at a time. Between calls a handle may go to another thread, and handles that share a
- *     matrix may be used by several threads at once.
+ *   - each handle is used by one call at a time. Between calls a handle may be passed to another thread, and handles
+ *     that share a matrix may be used by several threads at once.
  *
- * Statuses: OUT_OF_MEMORY; EMPTY_HANDLE exactly if an operand has no matrix, before each status but OUT_OF_MEMORY;
+ * Statuses: OUT_OF_MEMORY; EMPTY_HANDLE exactly if an operand is empty, before each status but OUT_OF_MEMORY;
  * SHAPE_MISMATCH if the shapes of two operands do not fit; and those that a call names.
  */
 typedef struct {
     void *matrix;
 } nalgebra_sparse_matrix;
 
-/* A handle with no matrix. */
+/* An empty handle. */
 #define NALGEBRA_SPARSE_NO_MATRIX {NULL}
 
-/* Puts the matrix with these arrays by rows behind `out`. Statuses: the first fault of the arrays, as for
+/* Stores in `out` the matrix with these arrays by rows. Statuses: the first fault of the arrays, as for
  * nalgebra_sparse_transpose. The arrays are copied.
  */
 int32_t nalgebra_sparse_matrix_from_rows(
@@ -648,7 +653,7 @@ int32_t nalgebra_sparse_matrix_from_rows(
     const int64_t *values, size_t values_len,
     nalgebra_sparse_matrix *out);
 
-/* Puts the matrix of triplets behind `out`: each place that occurs in the lists, with the sum of its values. Statuses:
+/* Stores in `out` the matrix of a list of triplets, as nalgebra_sparse_assemble_csr writes it. Statuses:
  * INVALID_STRUCTURE if the lists have different lengths; INDEX_OUT_OF_BOUNDS.
  */
 int32_t nalgebra_sparse_matrix_from_triplets(
@@ -658,11 +663,12 @@ int32_t nalgebra_sparse_matrix_from_triplets(
     const int64_t *values, size_t values_len,
     nalgebra_sparse_matrix *out);
 
-/* Writes the numbers of rows, columns and places of the matrix behind `a`. */
+/* Writes the numbers of rows, columns and entries of the matrix that `a` holds. */
 int32_t nalgebra_sparse_matrix_sizes(nalgebra_sparse_matrix *a, size_t *out_rows, size_t *out_cols, size_t *out_places);
 
-/* Writes the matrix behind `a` by rows: out_offsets needs rows + 1 numbers, and out_indices and out_values one for each
- * place, which nalgebra_sparse_matrix_sizes tells. *out_places becomes the number of places. Statuses: TOO_SMALL.
+/* Writes the arrays by rows of the matrix that `a` holds: out_offsets needs rows + 1 numbers, and out_indices and
+ * out_values one for each entry, whose number nalgebra_sparse_matrix_sizes writes. *out_places becomes the number of
+ * entries. Statuses: TOO_SMALL.
  */
 int32_t nalgebra_sparse_matrix_read(
     nalgebra_sparse_matrix *a,
@@ -671,59 +677,61 @@ int32_t nalgebra_sparse_matrix_read(
     int64_t *out_values, size_t out_values_len,
     size_t *out_places);
 
-/* Puts the transpose of the matrix behind `a` behind `out`. */
+/* Stores in `out` the transpose of the matrix that `a` holds. */
 int32_t nalgebra_sparse_matrix_transpose(nalgebra_sparse_matrix *a, nalgebra_sparse_matrix *out);
 
-/* Puts the product of a number and the matrix behind `a` behind `out`, on its places. */
+/* Stores in `out` the matrix that `a` holds, times a number, with the same pattern. */
 int32_t nalgebra_sparse_matrix_scale(int64_t factor, nalgebra_sparse_matrix *a, nalgebra_sparse_matrix *out);
 
-/* Puts the sum a + b of two matrices with one shape behind `out`, on the union of their places. */
+/* Stores in `out` the sum a + b of two matrices with the same shape. Its pattern is the union of theirs. */
 int32_t nalgebra_sparse_matrix_add(nalgebra_sparse_matrix *a, nalgebra_sparse_matrix *b, nalgebra_sparse_matrix *out);
 
-/* Puts the difference a - b of two matrices with one shape behind `out`, on the union of their places. */
+/* Stores in `out` the difference a - b of two matrices with the same shape. Its pattern is the union of theirs. */
 int32_t nalgebra_sparse_matrix_subtract(nalgebra_sparse_matrix *a, nalgebra_sparse_matrix *b, nalgebra_sparse_matrix *out);
 
-/* Puts the sum alpha a + beta b of multiples of two matrices with one shape behind `out`, on the union of their places. */
+/* Stores in `out` the sum alpha a + beta b of multiples of two matrices with the same shape. Its pattern is the union
+ * of theirs.
+ */
 int32_t nalgebra_sparse_matrix_add_scaled(
     int64_t alpha, nalgebra_sparse_matrix *a,
     int64_t beta, nalgebra_sparse_matrix *b,
     nalgebra_sparse_matrix *out);
 
-/* Puts the product a b behind `out`, with a place wherever the operands share a middle index. `a` has as many columns as
- * `b` has rows.
+/* Stores in `out` the product a b, with the pattern of nalgebra_sparse_multiply. The matrix of `a` has as many columns
+ * as that of `b` has rows.
  */
 int32_t nalgebra_sparse_matrix_multiply(nalgebra_sparse_matrix *a, nalgebra_sparse_matrix *b, nalgebra_sparse_matrix *out);
 
-/* Makes `out` a second handle of the matrix behind `a`: both share it, and each is freed. It copies no array. */
+/* Stores in `out` the matrix that `a` holds: both handles share it, and each must be freed. No array is copied. */
 int32_t nalgebra_sparse_matrix_clone(nalgebra_sparse_matrix *a, nalgebra_sparse_matrix *out);
 
-/* Frees a handle, which is empty from then on. The matrix is dropped with the last handle that shares it. */
+/* Empties a handle. The matrix that it held is freed with the last handle that shares it. */
 void nalgebra_sparse_matrix_free(nalgebra_sparse_matrix *a);
 
-/* Puts the matrix of a text in Matrix Market format, with integers or as an array of integers, behind `out`: each place of
- * the text, with the sum of its values. Statuses: as for nalgebra_sparse_read_sizes.
+/* Stores in `out` the matrix of a text in Matrix Market format, with integers or as an array of integers. Values with
+ * the same row and column are added. Statuses: as for nalgebra_sparse_read_sizes.
  */
 int32_t nalgebra_sparse_matrix_from_text(const uint8_t *text, size_t text_len, nalgebra_sparse_matrix *out);
 
-/* Writes the text of the matrix behind `a` in Matrix Market format (coordinate, integer, general), with a line for each
- * place, row by row. It is ASCII, and no zero byte ends it. *out_length becomes the number of its bytes, also at
+/* Writes the text of the matrix that `a` holds in Matrix Market format (coordinate, integer, general), with a line for
+ * each entry, row by row. It is ASCII, and no zero byte ends it. *out_length becomes the number of its bytes, also at
  * TOO_SMALL, where `out_text` is unchanged. Statuses: TOO_SMALL if out_text_len is less.
  */
 int32_t nalgebra_sparse_matrix_to_text(nalgebra_sparse_matrix *a, uint8_t *out_text, size_t out_text_len, size_t *out_length);
 
-/* Solves L X = B, or L^T X = B where `transposed` is set: L is the part on and below the diagonal of the square matrix
- * behind `a`. `values` has B, column by column, and then X: values_len is the number of rows times `cols`. Beside it
- * the call takes memory for a copy of B and of the matrix.
+/* Solves L X = B in place, or L^T X = B if `transposed` is set: L is the lower triangle, with the diagonal, of the
+ * square matrix that `a` holds. `values` has the values of B, column by column, before the call and those of X after
+ * it: values_len is the number of rows times `cols`. The call allocates memory for copies of B and of the matrix.
  *
  * Statuses: SHAPE_MISMATCH if the matrix is not square; INVALID_STRUCTURE if B has another number of values; SINGULAR
- * if there is a column to solve for, and some entry of the diagonal is not stored or is even. `values` is then
+ * if there is a column to solve for, and some diagonal entry is missing or even. At any status but 0 `values` is
  * unchanged.
  */
 int32_t nalgebra_sparse_matrix_solve_lower(
     nalgebra_sparse_matrix *a, bool transposed,
     size_t cols, int64_t *values, size_t values_len);
 
-/* Solves U X = B, or U^T X = B, where U is the part on and above the diagonal. Otherwise as
+/* Solves U X = B, or U^T X = B, where U is the upper triangle, with the diagonal. Otherwise as
  * nalgebra_sparse_matrix_solve_lower.
  */
 int32_t nalgebra_sparse_matrix_solve_upper(
@@ -732,8 +740,8 @@ int32_t nalgebra_sparse_matrix_solve_upper(
 
 /* Handles of factors.
  *
- * They stand for the exact factors L D L^T of a symmetric matrix, as nalgebra_sparse_factor_symmetric writes them, or
- * for none. What is said of handles of matrices holds of them.
+ * A handle of factors holds the exact factors L D L^T of a symmetric matrix, as nalgebra_sparse_factor_symmetric writes
+ * them, or is empty. The rules for handles of matrices apply to it.
  *
  *     nalgebra_sparse_factors f = NALGEBRA_SPARSE_NO_FACTORS;
  *     status = nalgebra_sparse_matrix_factor(&a, &f);
@@ -744,27 +752,26 @@ typedef struct {
     void *factors;
 } nalgebra_sparse_factors;
 
-/* A handle with no factors. */
+/* An empty handle. */
 #define NALGEBRA_SPARSE_NO_FACTORS {NULL}
 
-/* Puts the factors of the symmetric matrix behind `out` whose entries on and above the diagonal are those of the matrix
- * behind `a`. What is below the diagonal has no effect, and no call tests it: where nalgebra_sparse_matrix_subtract of
- * the matrix and its transpose has a value other than 0, the factors are those of another matrix. Beside them the call
- * takes memory for a copy of the matrix. Statuses: SHAPE_MISMATCH if the matrix is not square; SINGULAR if no
- * factorisation exists.
+/* Stores in `out` the factors of the symmetric matrix whose entries on and above the diagonal are those of the matrix
+ * that `a` holds. Entries below the diagonal are ignored: if nalgebra_sparse_matrix_subtract of the matrix and its
+ * transpose has a value other than 0, the factors are those of another matrix. The call also allocates memory for a
+ * copy of the matrix. Statuses: SHAPE_MISMATCH if the matrix is not square; SINGULAR if no factorisation exists.
  */
 int32_t nalgebra_sparse_matrix_factor(nalgebra_sparse_matrix *a, nalgebra_sparse_factors *out);
 
-/* Solves L D L^T X = B with the factors behind `f`. `values` has B, column by column, and then X: values_len is the number
- * of rows of L times `cols`. Beside it the call takes memory for a copy of B. Statuses: INVALID_STRUCTURE if B has
- * another number of values; `values` is then unchanged.
+/* Solves L D L^T X = B in place with the factors that `f` holds. `values` has the values of B, column by column, before
+ * the call and those of X after it: values_len is the number of rows of L times `cols`. The call allocates memory for a
+ * copy of B. Statuses: INVALID_STRUCTURE if B has another number of values. At any status but 0 `values` is unchanged.
  */
 int32_t nalgebra_sparse_factors_solve(nalgebra_sparse_factors *f, size_t cols, int64_t *values, size_t values_len);
 
-/* Makes `out` a second handle of the factors behind `f`: both share them, and each is freed. It copies no array. */
+/* Stores in `out` the factors that `f` holds: both handles share them, and each must be freed. No array is copied. */
 int32_t nalgebra_sparse_factors_clone(nalgebra_sparse_factors *f, nalgebra_sparse_factors *out);
 
-/* Frees a handle of factors, which is empty from then on. */
+/* Empties a handle of factors. The factors that it held are freed with the last handle that shares them. */
 void nalgebra_sparse_factors_free(nalgebra_sparse_factors *f);
 
 #include "nalgebra_sparse_inline.h"

@@ -1,11 +1,11 @@
-/* The inline functions of nalgebra_sparse.h, which includes this file: the calls with matrices as structs, and the texts of
- * statuses.
+/* The inline functions of nalgebra_sparse.h, which includes this file: the calls with matrices as structs, and the
+ * texts of statuses.
  *
- * Each function takes structs and calls the function of nalgebra_sparse.h whose name it has without its last word:
- * nalgebra_sparse_multiply_rows calls nalgebra_sparse_multiply. It has the statuses of that function, and SHAPE_MISMATCH
- * if the shapes of the operands do not fit. A null pointer stands for an array of length 0, whatever length goes with it,
- * so the data of an empty std::vector may be passed. Those over handles take arrays as the functions of
- * nalgebra_sparse.h do, and null ones too. These functions are tested, not proved.
+ * Each function takes structs and calls the function of nalgebra_sparse.h whose name is its own without the last word:
+ * nalgebra_sparse_multiply_rows calls nalgebra_sparse_multiply. It has the statuses of that function, and
+ * SHAPE_MISMATCH if the shapes of the operands do not fit. A null pointer stands for an array of length 0, whatever
+ * length is passed with it, so the data of an empty std::vector may be passed. The functions with handles take arrays
+ * as those of nalgebra_sparse.h do, and null pointers too. These functions are tested, not proved.
  */
 #ifndef NALGEBRA_SPARSE_INLINE_H
 #define NALGEBRA_SPARSE_INLINE_H
@@ -67,9 +67,10 @@ typedef struct {
     size_t values_len;
 } nalgebra_sparse_dense;
 
-/* Arrays for a matrix by rows or by columns: `offsets` with offsets_len numbers, `indices` and `values` with `room` each.
- * At status 0 the call sets `rows`, `cols` and `places`. At TOO_SMALL it sets `places` alone, to the `room` that is needed:
- * the arrays, which may be null, hold no matrix then. Otherwise it leaves all as it is.
+/* Output arrays for a matrix by rows or by columns: `offsets` with offsets_len numbers, `indices` and `values` with
+ * `room` each. At status 0 the call sets `rows`, `cols` and `places`, the number of entries. At TOO_SMALL it sets only
+ * `places`, to the `room` that is needed: the arrays, which may be null, then hold no matrix. At any other status all
+ * fields are unchanged.
  */
 typedef struct {
     size_t *offsets;
@@ -80,8 +81,8 @@ typedef struct {
     size_t rows, cols, places;
 } nalgebra_sparse_result;
 
-/* Arrays for triplets, with `room` numbers each. nalgebra_sparse_read_sizes_lists sets `rows`, `cols` and `count`, the `room`
- * that is needed.
+/* Output arrays for triplets, with `room` numbers each. nalgebra_sparse_read_sizes_lists sets `rows`, `cols` and
+ * `count`, the `room` that is needed.
  */
 typedef struct {
     size_t *row_indices, *col_indices;
@@ -139,7 +140,9 @@ static inline const uint8_t *nalgebra_sparse_no_text(void) {
     NALGEBRA_SPARSE_SIZES((r)->offsets, (r)->offsets_len), NALGEBRA_SPARSE_SIZES((r)->indices, (r)->room), \
         NALGEBRA_SPARSE_VALUES((r)->values, (r)->room)
 
-/* Sets the shape and the places of a result, if the call wrote it, or the places that are needed, and returns the status. */
+/* Sets the shape and the number of entries of a result if the call wrote it, or the number of entries that is needed,
+ * and returns the status.
+ */
 static inline int32_t nalgebra_sparse_written(int32_t status, nalgebra_sparse_result *out, size_t rows, size_t cols, size_t places) {
     if (status == NALGEBRA_SPARSE_DONE) {
         out->rows = rows;
@@ -353,7 +356,7 @@ static inline int32_t nalgebra_sparse_fill_places_cols(nalgebra_sparse_cols a, i
     return nalgebra_sparse_fill_places(a.cols, triangle, NALGEBRA_SPARSE_PATTERN(a, a.cols), out_places);
 }
 
-/* The values of `out` are left as they are, and may be null. */
+/* The values of `out` are unchanged, and may be null. */
 static inline int32_t nalgebra_sparse_fill_cols(nalgebra_sparse_cols a, int32_t triangle, nalgebra_sparse_result *out) {
     size_t places = 0;
     if (a.rows != a.cols) return NALGEBRA_SPARSE_SHAPE_MISMATCH;
@@ -389,7 +392,9 @@ static inline int32_t nalgebra_sparse_matrix_from_text_bytes(const uint8_t *text
     return nalgebra_sparse_matrix_from_text(NALGEBRA_SPARSE_TEXT(text, text_len), out);
 }
 
-/* Writes the length of the text of the matrix behind `a` to *out_length: the room that nalgebra_sparse_matrix_to_text needs. */
+/* Writes the length of the text of the matrix that `a` holds to *out_length: the room that
+ * nalgebra_sparse_matrix_to_text needs.
+ */
 static inline int32_t nalgebra_sparse_matrix_text_length(nalgebra_sparse_matrix *a, size_t *out_length) {
     uint8_t nothing = 0;
     int32_t status = nalgebra_sparse_matrix_to_text(a, &nothing, 0, out_length);

@@ -1,11 +1,11 @@
-/* Squares a matrix by rows and prints its places. */
+/* Squares a matrix by rows and prints its entries. */
 #include "nalgebra_sparse.h"
 
 #include <inttypes.h>
 #include <stdio.h>
 
 int main(void) {
-    /* The place (1, 1) is given twice; its values are added. */
+    /* The entry (1, 1) is given twice; its values are added. */
     const size_t rows[] = {0, 0, 1, 1}, cols[] = {0, 1, 1, 1};
     const int64_t values[] = {1, 2, 2, 1};
     const nalgebra_sparse_lists triplets = {2, 2, rows, cols, values, 4};

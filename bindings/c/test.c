@@ -8,7 +8,7 @@
 
 enum { MOST = 5, ROOM = 64 };
 
-/* A plain matrix: which places it has, and their values modulo 2^64. */
+/* A plain matrix: its set of places, and their values modulo 2^64. */
 typedef struct {
     size_t rows, cols;
     int has[MOST][MOST];
@@ -92,7 +92,7 @@ static plain product(const plain *a, const plain *b) {
     return p;
 }
 
-/* Checks that r has the arrays of a, and nothing but the marks of `blank` behind them. */
+/* Checks that r has the arrays of a, and only the marks of `blank` after them. */
 static void check_result(const plain *a, const arrays *r) {
     arrays want = arrays_of(a);
     CHECK(r->places == want.places);
@@ -196,7 +196,7 @@ static void check_solve(void) {
     }
 }
 
-/* The fill of the places on and below the diagonal, by the definition. */
+/* The fill of the entries on and below the diagonal, by the definition. */
 static void fill_plain(plain *l) {
     for (size_t k = 0; k < l->rows; k++)
         for (size_t i = k + 1; i < l->rows; i++)
@@ -298,7 +298,9 @@ static void check_random_case(void) {
     check_symmetric();
 }
 
-/* Each fault of a matrix of two rows and three columns: status, offsets and their number, indices, places, number of values. */
+/* Each fault of a matrix of two rows and three columns: status, offsets and their number, indices and their number,
+ * number of values.
+ */
 static const struct {
     int32_t status;
     size_t offsets[3], offsets_len, indices[2], places, values_len;
@@ -333,7 +335,7 @@ static void check_faults(void) {
     /* One row pointer more than there are addresses. */
     CHECK(nalgebra_sparse_assemble_csr(SIZE_MAX, 2, empty, 0, empty, 0, values, 0, OUT(r)) == NALGEBRA_SPARSE_OUT_OF_MEMORY);
     check_untouched(&r);
-    /* Arrays for the result that are too short by one: the call tells how many places there are. */
+    /* Arrays for the result that are too short by one: the call writes the number of entries. */
     const int32_t small = NALGEBRA_SPARSE_TOO_SMALL;
     CHECK(nalgebra_sparse_transpose(2, 3, sound_offsets, 3, sound_indices, 2, values, 2, r.offsets, 3, r.indices, 2, r.values, 2, &r.places) == small);
     CHECK(nalgebra_sparse_transpose(2, 3, sound_offsets, 3, sound_indices, 2, values, 2, r.offsets, 4, r.indices, 1, r.values, 2, &r.places) == small);

@@ -1,5 +1,6 @@
-/* Compares solves, factors and texts of matrices behind handles with plain dense matrices in random cases, and tries each
- * error of these calls. Run by bindings/test. */
+/* Compares solves, factors and texts of matrices held by handles with plain dense matrices in random cases, and tries
+ * each error of these calls. Run by bindings/test.
+ */
 #include "nalgebra_sparse.h"
 
 #include <stdio.h>
@@ -37,7 +38,7 @@ typedef struct {
     int has[MOST][MOST];
 } plain;
 
-/* Makes a random square matrix and puts it behind a handle. Most of its diagonal is odd. */
+/* Stores a random square matrix in a handle. Most of its diagonal is odd. */
 static plain make(nalgebra_sparse_matrix *out) {
     plain p;
     size_t offsets[MOST + 1] = {0}, indices[ROOM], count = 0;
@@ -89,7 +90,9 @@ static uint64_t inverse(uint64_t odd) {
     return x;
 }
 
-/* Makes the matrix symmetric by its entries on and above the diagonal, and says whether elimination meets odd pivots alone. */
+/* Makes the matrix symmetric by its entries on and above the diagonal, and says whether elimination meets odd pivots
+ * alone.
+ */
 static int has_factors(plain *a) {
     EACH(i, a->size) EACH(j, i) a->value[i][j] = a->value[j][i];
     plain p = *a;
@@ -160,7 +163,7 @@ static void check_text(nalgebra_sparse_matrix *a, const plain *p) {
     nalgebra_sparse_matrix_free(&back);
 }
 
-/* Texts from outside, and those that are refused. */
+/* Texts written by hand, with and without errors. */
 static void check_texts(void) {
     static const struct {
         const char *text;
@@ -190,7 +193,7 @@ static void check_texts(void) {
     nalgebra_sparse_matrix_free(&a);
 }
 
-/* Handles with nothing behind them, shapes that do not fit, and null pointers. */
+/* Empty handles, shapes that do not fit, and null pointers. */
 static void refuse(void) {
     nalgebra_sparse_matrix none = NALGEBRA_SPARSE_NO_MATRIX, wide = NALGEBRA_SPARSE_NO_MATRIX, one = NALGEBRA_SPARSE_NO_MATRIX;
     nalgebra_sparse_factors f = NALGEBRA_SPARSE_NO_FACTORS, g = NALGEBRA_SPARSE_NO_FACTORS;

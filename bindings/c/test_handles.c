@@ -1,5 +1,6 @@
-/* Compares chains of calls over handles with plain dense matrices in random cases, and tries each error of these calls. Run
- * by bindings/test. */
+/* Compares chains of calls over handles with plain dense matrices in random cases, and tries each error of these calls.
+ * Run by bindings/test.
+ */
 #include "nalgebra_sparse.h"
 
 #include <stdio.h>
@@ -74,7 +75,7 @@ static int same_shape(const plain *a, const plain *b) { return a->rows == b->row
 static nalgebra_sparse_matrix handles[HANDLES];
 static plain models[HANDLES];
 
-/* Reads a handle, and compares it with its model: sizes, places and values. */
+/* Reads the matrix of a handle, and compares it with its model: shape, entries and values. */
 static void compare(size_t at) {
     const plain *p = &models[at];
     size_t offsets[MOST + 1], indices[ROOM], rows, cols, places, count = MARK, seen = 0;
@@ -181,7 +182,7 @@ static void step(void) {
     compare(a), compare(b), compare(out);
 }
 
-/* The faults of arrays, and what a refused call leaves. */
+/* The faults of arrays, and what a call leaves unchanged on an error. */
 static void refuse(void) {
     nalgebra_sparse_matrix a = NALGEBRA_SPARSE_NO_MATRIX;
     size_t offsets[] = {0, 1, 2}, fallen[] = {0, 2, 1}, indices[] = {0, 1}, wide[] = {0, 2}, rows, cols, places;

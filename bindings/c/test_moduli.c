@@ -1,5 +1,6 @@
-/* Compares the calls with a modulus, and the factors of symmetric matrices, with plain dense matrices in random cases, and
- * tries each error. Run by bindings/test. */
+/* Compares the calls with a modulus, and the factors of symmetric matrices, with plain dense matrices in random cases,
+ * and tries each error. Run by bindings/test.
+ */
 #include "nalgebra_sparse.h"
 
 #include <stdio.h>
@@ -172,7 +173,7 @@ static void check_quotient(uint64_t m, const matrix *a) {
     }
 }
 
-/* Checks L and D, of which nothing may be written where there are none, and the places of L. */
+/* Checks L and D, of which nothing may be written if there are none, and the number of entries of L. */
 static void check_factors(uint64_t m, const matrix *a) {
     size_t n = a->size, offsets[ROOM], indices[ROOM], places = 77, fill_offsets[ROOM], fill[ROOM], count;
     int64_t values[ROOM], diagonal[ROOM];

@@ -17,7 +17,7 @@ typedef struct {
     uint8_t text[TEXT];
 } target;
 
-/* The number of the request that is refused, the requests of the call so far, and the blocks that it has not freed. */
+/* The number of the allocation that fails, the allocations of the call so far, and the blocks that it has not freed. */
 static size_t refused, requests, blocks;
 
 void *__real_malloc(size_t size);
@@ -44,8 +44,9 @@ void __wrap_free(void *block) {
     __real_free(block);
 }
 
-/* The matrix 1 0 2 / 0 3 0 / 4 0 5 by rows, or its transpose by columns; triplets, two of them at one place; a right
- * side with two columns; and a text. */
+/* The matrix 1 0 2 / 0 3 0 / 4 0 5 by rows, or its transpose by columns; triplets, two of them with the same row and
+ * column; a right side with two columns; and a text.
+ */
 static const size_t OFFSETS[] = {0, 2, 3, 5}, INDICES[] = {0, 2, 1, 0, 2}, ROWS[] = {2, 0, 2, 1}, COLS[] = {1, 2, 1, 0};
 static const int64_t VALUES[] = {1, 2, 3, 4, 5}, SIDES[] = {1, -2, 3, 4, 5, 6};
 static const char LINES[] = "%%MatrixMarket matrix coordinate integer symmetric\n3 3 2\n1 1 5\n3 1 -7\n";
@@ -57,7 +58,8 @@ static const char LINES[] = "%%MatrixMarket matrix coordinate integer symmetric\
 #define TO_PATTERN t->offsets, ROOM, t->indices, ROOM
 #define TO_VALUES t->values, ROOM
 #define TO_MATRIX TO_PATTERN, TO_VALUES, &t->count
-/* Room for the sum of MATRIX and itself, but not for the places of both: the sum is then made in memory first. */
+/* Room for the sum of MATRIX and itself, but not for the entries of both: the call then allocates memory for the sum.
+ */
 #define TO_SUM t->offsets, ROOM, t->indices, 5, t->values, 5, &t->count
 #define TO_FACTORS TO_PATTERN, TO_VALUES, t->diagonal, ROOM, &t->count
 
@@ -94,11 +96,11 @@ static const char LINES[] = "%%MatrixMarket matrix coordinate integer symmetric\
     CALL(write_length, 3, 3, LISTS, &t->count)                          \
     CALL(write, 3, 3, LISTS, t->text, TEXT, &t->count)
 
-/* Operands behind handles, which are made before the first call, and the handles of results. */
+/* Handles of operands, which are filled before the first call, and handles of results. */
 static nalgebra_sparse_matrix a = NALGEBRA_SPARSE_NO_MATRIX, b = NALGEBRA_SPARSE_NO_MATRIX, out = NALGEBRA_SPARSE_NO_MATRIX;
 static nalgebra_sparse_factors f = NALGEBRA_SPARSE_NO_FACTORS, g = NALGEBRA_SPARSE_NO_FACTORS;
 
-/* Each call over handles, with a result behind `out` or `g`, or in arrays. */
+/* Each call with handles, with a result in `out` or `g`, or in arrays. */
 #define HANDLE_CALLS(CALL)                                       \
     CALL(matrix_from_rows, 3, 3, MATRIX, &out)                   \
     CALL(matrix_from_triplets, 3, 3, LISTS, &out)                \
@@ -119,8 +121,9 @@ static nalgebra_sparse_factors f = NALGEBRA_SPARSE_NO_FACTORS, g = NALGEBRA_SPAR
     CALL(factors_solve, &f, 2, t->values, 6)                     \
     CALL(factors_clone, &f, &g)
 
-/* Reads what a call has put behind `out`, solves with what it has put behind `g`, and frees both. These requests are not
- * counted, and none is refused. */
+/* Reads what a call has stored in `out`, solves with what it has stored in `g`, and frees both. These allocations are
+ * not counted, and none fails.
+ */
 static int32_t shown(int32_t status, target *t) {
     size_t made = requests;
     refused = SIZE_MAX;
@@ -147,7 +150,7 @@ static const struct {
 } TABLE[] = {CALLS(ROW) HANDLE_CALLS(ROW)};
 enum { COUNT = sizeof TABLE / sizeof *TABLE };
 
-/* Runs a call with a request refused, on arrays full of marks. Ends the program if it loses memory. */
+/* Runs a call in which one allocation fails, on arrays full of marks. Ends the program if it loses memory. */
 static int32_t run(size_t call, size_t request, target *t) {
     memset(t, 77, sizeof *t);
     refused = request, requests = 0, blocks = 0;

@@ -1,5 +1,6 @@
-/* Compares assembly, sums and products modulo each modulus and modulo 2^64 with plain dense matrices in random cases, and
- * tries each error of the calls with a modulus. Run by bindings/test. */
+/* Compares assembly, sums and products modulo each modulus and modulo 2^64 with plain dense matrices in random cases,
+ * and tries each error of the calls with a modulus. Run by bindings/test.
+ */
 #include "nalgebra_sparse.h"
 
 #include <stdio.h>
@@ -118,7 +119,7 @@ static void clear(void) {
     places = MARK;
 }
 
-/* Checks a result by rows, or by columns, and that what is behind it is unchanged. */
+/* Checks a result by rows, or by columns, and that longer arrays are unchanged after it. */
 static void check(int32_t status, const plain *want, int by_cols) {
     size_t lanes = by_cols ? want->cols : want->rows, across = by_cols ? want->rows : want->cols, p = 0;
     CHECK(status == NALGEBRA_SPARSE_DONE);

@@ -1,6 +1,7 @@
-/* Makes each call with arrays that are too short: it tells the size that is needed, leaves the arrays, and writes the same result
- * into arrays of that size. The arrays are blocks of their own, so that the sanitizers see a place too many. Run by
- * bindings/test. */
+/* Makes each call with arrays that are too short: it tells the size that is needed, leaves the arrays, and writes the
+ * same result into arrays of that size. The arrays are blocks of their own, so that the sanitizers see an access past
+ * the end. Run by bindings/test.
+ */
 #include "nalgebra_sparse.h"
 
 #include <stdio.h>
@@ -30,7 +31,9 @@ static const nalgebra_sparse_rows A = {4, 4, OFFSETS, INDICES, VALUES, 8};
 static const size_t B_OFFSETS[] = {0, 4, 5, 6, 7}, B_INDICES[] = {0, 1, 2, 3, 1, 2, 3};
 static const int64_t B_VALUES[] = {1, 1, 1, 1, 1, 1, 1};
 static const nalgebra_sparse_rows B = {4, 4, B_OFFSETS, B_INDICES, B_VALUES, 7};
-/* The transpose of B by columns: the symmetric matrix with the first row and column of ones, whose elimination fills all. */
+/* The transpose of B by columns: the symmetric matrix with the first row and column of ones, whose elimination fills
+ * all.
+ */
 static const size_t C_OFFSETS[] = {0, 1, 3, 5, 7}, C_INDICES[] = {0, 0, 1, 0, 2, 0, 3};
 static const int64_t C_VALUES[] = {1, 1, 2, 1, 3, 1, 5};
 static const nalgebra_sparse_cols C = {4, 4, C_OFFSETS, C_INDICES, C_VALUES, 7};
@@ -60,7 +63,7 @@ CALL(fill_cols, C, NALGEBRA_SPARSE_UPPER, out)
 CALL(factor_symmetric_cols, C, out, diagonal, LANES)
 CALL(factor_symmetric_mod_cols, 101, C, out, diagonal, LANES)
 
-/* Each call that writes a matrix, and the places of its result, counted by hand. */
+/* Each call that writes a matrix, and the number of entries of its result, counted by hand. */
 static const struct {
     call made;
     size_t needed;
@@ -97,7 +100,7 @@ static void release(nalgebra_sparse_result *r) {
     free(r->values);
 }
 
-/* Checks that a call with so much room is refused, tells this size and writes nothing else. */
+/* Checks that a call with so much room returns TOO_SMALL, writes this size and nothing else. */
 static void check_small(call made, size_t offsets, size_t places, size_t needed) {
     nalgebra_sparse_result r = room(offsets, places);
     CHECK(made(&r) == SMALL && r.places == needed && r.rows == MARK && r.cols == MARK);

@@ -1,4 +1,5 @@
-/* Compares texts that are read and written with plain ones in random cases, and tries each error. Run by bindings/test. */
+/* Compares texts that are read and written with plain ones in random cases, and tries each error. Run by bindings/test.
+ */
 #include "nalgebra_sparse.h"
 
 #include <inttypes.h>
@@ -53,7 +54,7 @@ static void push(list *m, size_t i, size_t j, int64_t value) {
 
 #define LISTS(m) (m).row, (m).count, (m).col, (m).count, (m).value, (m).count
 
-/* Checks that a text is read as this list, and that nothing is written behind it. */
+/* Checks that a text is read as this list, and that nothing is written after it. */
 static void check_read(const char *text, const list *want) {
     const uint8_t *bytes = (const uint8_t *)text;
     size_t length = strlen(text);
@@ -70,7 +71,7 @@ static void check_read(const char *text, const list *want) {
     }
 }
 
-/* Checks that this text is written for the list, and that nothing is written behind it. */
+/* Checks that this text is written for the list, and that nothing is written after it. */
 static void check_written(const list *m, const char *want) {
     static uint8_t text[TEXT];
     size_t length = 77, written = 77;

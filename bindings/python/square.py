@@ -3,7 +3,7 @@ import numpy as np
 
 import nalgebra_sparse
 
-# The place (1, 1) is given twice; its values are added.
+# The entry (1, 1) is given twice; its values are added.
 rows, cols, values = np.array([0, 0, 1, 1]), np.array([0, 1, 1, 1]), np.array([1, 2, 2, 1])
 matrix = nalgebra_sparse.assemble_csr((2, 2), rows, cols, values)
 square = nalgebra_sparse.multiply(matrix, matrix).tocoo()

@@ -158,7 +158,7 @@ def check_symmetry():
         assert "not symmetric" in message and "(0, 1)" in message, message
     assert upper.solve(b, assume_symmetric=True).tolist() == [1, 2]
     assert upper.factor(assume_symmetric=True).solve(b).tolist() == [1, 2]
-    # A place with the value 0 need not be mirrored.
+    # An entry with the value 0 need not be mirrored.
     zero = Exact.from_triplets((2, 2), np.array([0, 0, 1]), np.array([0, 1, 1]), np.array([1, 0, 1]))
     assert zero.solve(b).tolist() == [5, 12]
     wide = Exact.from_scipy(sp.csr_array(np.array([[1, 2]])))

@@ -127,7 +127,7 @@ class Exact:
         1 2 1
         1 2 4
         """
-        # A line has at most 63 bytes, and what is before the places at most three lines more.
+        # A line has at most 63 bytes, and the lines before the entries are at most three.
         text, length = empty(64 * (self._nnz + 3), np.uint8), ctypes.c_size_t()
         with self._own() as a:
             call("matrix_to_text", a, text, length)

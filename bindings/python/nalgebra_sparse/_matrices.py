@@ -132,8 +132,8 @@ def multiply(a: Matrix, b: Matrix, modulus: Optional[int] = None) -> Matrix:
     return matrix_of(x.kind, parts, (rows, cols))
 
 
-# Up to this many places, a product is computed into room for one place for each multiplication. What is left of the
-# room is never touched, so it takes no memory.
+# A product is computed into room for one entry for each multiplication, up to this many. Unused room is never touched,
+# so it takes no memory.
 _MOST_UNCOUNTED = 1 << 24
 
 

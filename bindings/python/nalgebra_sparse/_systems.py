@@ -76,7 +76,7 @@ def fill(matrix: Matrix, triangle: str = "upper") -> tuple[Integers, Integers]:
         raise Error(f"triangle must be one of {', '.join(_TRIANGLES)}, not {triangle!r}")
     size, lanes = square_of("matrix", matrix)
     offsets = empty(size + 1)
-    # Enough where the elimination adds no place but those of the diagonal.
+    # Enough if the factor has no entries but the given ones and the diagonal.
     room = lanes.indices.size + size
     (indices,) = with_room(room, (np.int64,), "fill", size, _TRIANGLES[triangle], lanes.offsets, lanes.indices, offsets)
     return offsets, indices

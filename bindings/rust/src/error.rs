@@ -2,7 +2,7 @@
 
 use std::fmt;
 
-/// Why a call is refused.
+/// Why a call fails.
 #[derive(Clone, Copy, Debug, PartialEq, Eq)]
 #[non_exhaustive]
 pub enum Error {
@@ -12,7 +12,7 @@ pub enum Error {
     InvalidStructure,
     /// A row or a column index is out of bounds.
     IndexOutOfBounds,
-    /// The same place is given more than once.
+    /// Two entries have the same row and column.
     DuplicateEntry,
     /// A value that must have an inverse has none.
     Singular,
@@ -95,7 +95,8 @@ pub(crate) fn answer(status: i32) -> Result<(), Error> {
         15 => Err(Error::NonSquare),
         16 => Err(Error::Unreadable),
         18 => Err(Error::ShapeMismatch),
-        // A call is made again with the size that it tells, and a `Matrix` is never empty, so 5 and 17 are not among them.
+        // A call is made again with the size that it tells, and a `Matrix` is never empty, so 5 and 17 are not among
+        // them.
         _ => Err(Error::UnknownStatus(status)),
     }
 }

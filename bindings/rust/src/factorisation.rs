@@ -9,14 +9,14 @@ use crate::error::answer;
 use crate::{calls, Error, Matrix, System};
 
 impl Matrix {
-    /// Replaces B by the X for which `L X = B` or `L^T X = B`, where L is the part of the matrix on and below its
-    /// diagonal. B and X have `cols` columns, one after the other. The call copies B and the matrix.
+    /// Replaces B by the X for which `L X = B` or `L^T X = B`, where L is the lower triangle of the matrix, with the
+    /// diagonal. B and X have `cols` columns and are stored column by column. The call copies B and the matrix.
     ///
     /// # Errors
     ///
     /// [`Error::OutOfMemory`]; [`Error::ShapeMismatch`] if the matrix is not square; [`Error::InvalidStructure`] if B
-    /// has another number of values; [`Error::Singular`] if there is a column to solve for, and some entry of the
-    /// diagonal is not stored or is even. `values` is then unchanged.
+    /// has another number of values; [`Error::Singular`] if there is a column to solve for, and some diagonal
+    /// entry is missing or even. On an error `values` is unchanged.
     ///
     /// # Examples
     ///
@@ -31,13 +31,13 @@ impl Matrix {
     /// ```
     pub fn solve_lower_mut(&self, system: System, cols: usize, values: &mut [i64]) -> Result<(), Error> {
         let (transposed, count) = (system == System::Transposed, values.len());
-        // SAFETY: the pointer is that of a slice, with the slice's length behind it. The handle is as a call left it.
+        // SAFETY: the pointer is that of a slice, with the slice's length after it. The handle is as a call left it.
         answer(unsafe {
             calls::nalgebra_sparse_matrix_solve_lower(self.handle.get(), transposed, cols, values.as_mut_ptr(), count)
         })
     }
 
-    /// Replaces B by the X for which `U X = B` or `U^T X = B`, where U is the part of the matrix on and above its
+    /// Replaces B by the X for which `U X = B` or `U^T X = B`, where U is the upper triangle of the matrix, with the
     /// diagonal.
     ///
     /// # Errors
@@ -45,14 +45,14 @@ impl Matrix {
     /// Those of [`Matrix::solve_lower_mut`].
     pub fn solve_upper_mut(&self, system: System, cols: usize, values: &mut [i64]) -> Result<(), Error> {
         let (transposed, count) = (system == System::Transposed, values.len());
-        // SAFETY: the pointer is that of a slice, with the slice's length behind it. The handle is as a call left it.
+        // SAFETY: the pointer is that of a slice, with the slice's length after it. The handle is as a call left it.
         answer(unsafe {
             calls::nalgebra_sparse_matrix_solve_upper(self.handle.get(), transposed, cols, values.as_mut_ptr(), count)
         })
     }
 
     /// Returns the exact factors `L D L^T` of the symmetric matrix whose entries on and above the diagonal are those of
-    /// this matrix, which is copied. What is below the diagonal has no effect: [`Matrix::factor_checked`] tests that
+    /// this matrix, which is copied. Entries below the diagonal are ignored: [`Matrix::factor_checked`] tests that
     /// the matrix is symmetric.
     ///
     /// # Errors
@@ -84,7 +84,7 @@ pub struct Factorisation {
     handle: UnsafeCell<FactorHandle>,
 }
 
-// SAFETY: `Send` is proved of the handle (crates/sparse_handles). It is not `Sync`, since a call writes its operand.
+// SAFETY: `Send` is proved of the handle (crates/c_handles). It is not `Sync`, since a call writes its operand.
 unsafe impl Send for Factorisation {}
 
 impl Factorisation {
@@ -95,14 +95,14 @@ impl Factorisation {
         Ok(factors)
     }
 
-    /// Replaces B by the X for which `L D L^T X = B`. B and X have `cols` columns, one after the other.
+    /// Replaces B by the X for which `L D L^T X = B`. B and X have `cols` columns and are stored column by column.
     ///
     /// # Errors
     ///
-    /// [`Error::OutOfMemory`]; [`Error::InvalidStructure`] if B has another number of values. `values` is then
-    /// unchanged.
+    /// [`Error::OutOfMemory`]; [`Error::InvalidStructure`] if B has another number of values. On an error
+    /// `values` is unchanged.
     pub fn solve_mut(&self, cols: usize, values: &mut [i64]) -> Result<(), Error> {
-        // SAFETY: the pointer is that of a slice, with the slice's length behind it. The handle is as a call left it.
+        // SAFETY: the pointer is that of a slice, with the slice's length after it. The handle is as a call left it.
         answer(unsafe {
             calls::nalgebra_sparse_factors_solve(self.handle.get(), cols, values.as_mut_ptr(), values.len())
         })
@@ -123,7 +123,7 @@ impl Factorisation {
 ///
 /// # Panics
 ///
-/// Panics if an allocation fails, where [`Factorisation::try_clone`] returns an error.
+/// Panics if an allocation fails; [`Factorisation::try_clone`] returns an error instead.
 impl Clone for Factorisation {
     fn clone(&self) -> Self {
         self.try_clone().expect("an allocation failed")

@@ -14,15 +14,15 @@ pub struct Factors {
     pub d: Vec<i64>,
 }
 
-/// Returns the factors of the symmetric matrix whose entries on and above the diagonal are those of a square matrix. L has
-/// exactly the places of [`fill`](crate::fill) with the upper triangle. What is below the diagonal has no effect:
+/// Returns the factors of the symmetric matrix whose entries on and above the diagonal are those of a square matrix.
+/// The pattern of L is that of [`fill`](crate::fill) with the upper triangle. Entries below the diagonal are ignored:
 /// [`factor_symmetric_checked`](crate::factor_symmetric_checked) tests that the matrix is symmetric.
 ///
 /// # Errors
 ///
-/// [`Error::OutOfMemory`]; [`Error::InvalidStructure`], [`Error::IndexOutOfBounds`] or [`Error::DuplicateEntry`] for the
-/// first fault of the arrays; [`Error::ShapeMismatch`] if the matrix is not square;
-/// [`Error::Singular`] if no factorisation exists.
+/// [`Error::OutOfMemory`]; [`Error::InvalidStructure`], [`Error::IndexOutOfBounds`] or [`Error::DuplicateEntry`] for
+/// the first fault of the arrays; [`Error::ShapeMismatch`] if the matrix is not square; [`Error::Singular`] if no
+/// factorisation exists.
 ///
 /// # Examples
 ///
@@ -37,7 +37,7 @@ pub struct Factors {
 /// # Ok::<(), nalgebra_sparse_exact::Error>(())
 /// ```
 pub fn factor_symmetric(a: Columns<'_>) -> Result<Factors, Error> {
-    // SAFETY: each pointer is that of a slice, with the slice's length behind it.
+    // SAFETY: each pointer is that of a slice, with the slice's length after it.
     into_factors(a, |o, x, v, d, places| unsafe {
         calls::nalgebra_sparse_factor_symmetric(
             a.rows,
@@ -53,7 +53,7 @@ pub fn factor_symmetric(a: Columns<'_>) -> Result<Factors, Error> {
 ///
 /// [`Error::UnknownModulus`]; otherwise as [`factor_symmetric`].
 pub fn factor_symmetric_mod(modulus: u64, a: Columns<'_>) -> Result<Factors, Error> {
-    // SAFETY: each pointer is that of a slice, with the slice's length behind it.
+    // SAFETY: each pointer is that of a slice, with the slice's length after it.
     into_factors(a, |o, x, v, d, places| unsafe {
         calls::nalgebra_sparse_factor_symmetric_mod(
             modulus, a.rows,

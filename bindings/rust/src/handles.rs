@@ -10,9 +10,9 @@ use crate::{calls, Arrays, Error, Rows};
 
 /// A matrix over the integers modulo 2^64 that the library owns.
 ///
-/// Its arrays are tested once, when it is made. Transposes, multiples, sums and products copy no operand; solves with a
-/// triangle and factorisations copy the matrix. Clones share the arrays. It may go to another thread; threads that use
-/// a matrix at once have a clone each.
+/// Its arrays are checked once, when it is built. Transposes, multiples, sums and products copy no operand; solves with
+/// a triangle and factorisations copy the matrix. Clones share the arrays. It may go to another thread; threads that
+/// use a matrix at once have a clone each.
 ///
 /// ```
 /// use nalgebra_sparse_exact::Matrix;
@@ -27,7 +27,8 @@ pub struct Matrix {
     pub(crate) handle: UnsafeCell<Handle>,
 }
 
-// SAFETY: `Send` is proved of the handle (crates/sparse_handles). `Matrix` is not `Sync`, since a call writes its operand.
+// SAFETY: `Send` is proved of the handle (crates/c_handles). `Matrix` is not `Sync`, since a call writes its
+// operand.
 unsafe impl Send for Matrix {}
 
 impl Matrix {
@@ -55,7 +56,7 @@ impl Matrix {
     /// [`Error::OutOfMemory`]; [`Error::InvalidStructure`], [`Error::IndexOutOfBounds`] or [`Error::DuplicateEntry`]
     /// for the first fault of the arrays.
     pub fn from_rows(a: Rows<'_>) -> Result<Matrix, Error> {
-        // SAFETY: each pointer is that of a slice, with the slice's length behind it, and the handle is empty.
+        // SAFETY: each pointer is that of a slice, with the slice's length after it, and the handle is empty.
         Matrix::made(|out| unsafe {
             calls::nalgebra_sparse_matrix_from_rows(
                 a.rows, a.cols, a.offsets.as_ptr(), a.offsets.len(), a.indices.as_ptr(), a.indices.len(),
@@ -64,14 +65,14 @@ impl Matrix {
         })
     }
 
-    /// Returns the matrix of triplets. Values at the same place are added, and a place is kept where its sum is 0.
+    /// Returns the matrix of triplets. Values with the same row and column are added; an entry whose sum is 0 is kept.
     ///
     /// # Errors
     ///
     /// [`Error::OutOfMemory`]; [`Error::InvalidStructure`] if the lists have different lengths;
     /// [`Error::IndexOutOfBounds`].
     pub fn from_triplets((rows, cols): (usize, usize), i: &[usize], j: &[usize], values: &[i64]) -> Result<Matrix, Error> {
-        // SAFETY: each pointer is that of a slice, with the slice's length behind it, and the handle is empty.
+        // SAFETY: each pointer is that of a slice, with the slice's length after it, and the handle is empty.
         Matrix::made(|out| unsafe {
             calls::nalgebra_sparse_matrix_from_triplets(
                 rows, cols, i.as_ptr(), i.len(), j.as_ptr(), j.len(), values.as_ptr(), values.len(), out,
@@ -79,7 +80,8 @@ impl Matrix {
         })
     }
 
-    /// Returns the matrix of a text in Matrix Market format with integers. Values at the same place are added.
+    /// Returns the matrix of a text in Matrix Market format with integers. Values with the same row and column are
+    /// added.
     ///
     /// # Errors
     ///
@@ -95,20 +97,20 @@ impl Matrix {
     /// # Ok::<(), nalgebra_sparse_exact::Error>(())
     /// ```
     pub fn from_text(text: &[u8]) -> Result<Matrix, Error> {
-        // SAFETY: the pointer is that of a slice, with the slice's length behind it, and the handle is empty.
+        // SAFETY: the pointer is that of a slice, with the slice's length after it, and the handle is empty.
         Matrix::made(|out| unsafe { calls::nalgebra_sparse_matrix_from_text(text.as_ptr(), text.len(), out) })
     }
 
-    /// Returns the text of the matrix, with a line for each place, row by row. It is ASCII.
+    /// Returns the text of the matrix, with a line for each entry, row by row. It is ASCII.
     ///
     /// # Errors
     ///
     /// [`Error::OutOfMemory`].
     pub fn to_text(&self) -> Result<Vec<u8>, Error> {
-        // A line has at most 63 bytes, and what is before the places at most three lines more.
+        // A line has at most 63 bytes, and the lines before the entries are at most three.
         let room = self.nnz()?.checked_add(3).and_then(|lines| lines.checked_mul(64)).ok_or(Error::OutOfMemory)?;
         let (mut text, mut length) = (crate::room::zeros(room)?, 0);
-        // SAFETY: each pointer is that of a slice, with the slice's length behind it. The handle is as a call left it.
+        // SAFETY: each pointer is that of a slice, with the slice's length after it. The handle is as a call left it.
         answer(unsafe {
             calls::nalgebra_sparse_matrix_to_text(self.handle.get(), text.as_mut_ptr(), text.len(), &mut length)
         })?;
@@ -117,7 +119,7 @@ impl Matrix {
         Ok(text)
     }
 
-    /// Returns the numbers of rows, columns and places.
+    /// Returns the numbers of rows, columns and entries.
     fn sizes(&self) -> Result<(usize, usize, usize), Error> {
         let (mut rows, mut cols, mut places) = (0, 0, 0);
         // SAFETY: the handle is as a call left it, and no other call uses it, since `Matrix` is not `Sync`.
@@ -129,17 +131,17 @@ impl Matrix {
     ///
     /// # Errors
     ///
-    /// [`Error::OutOfMemory`], where 2^63 clones share the matrix.
+    /// [`Error::OutOfMemory`], if 2^63 clones share the matrix.
     pub fn shape(&self) -> Result<(usize, usize), Error> {
         let (rows, cols, _) = self.sizes()?;
         Ok((rows, cols))
     }
 
-    /// Returns the number of places, those with the value 0 too.
+    /// Returns the number of entries, also those with the value 0.
     ///
     /// # Errors
     ///
-    /// [`Error::OutOfMemory`], where 2^63 clones share the matrix.
+    /// [`Error::OutOfMemory`], if 2^63 clones share the matrix.
     pub fn nnz(&self) -> Result<usize, Error> {
         Ok(self.sizes()?.2)
     }
@@ -152,7 +154,8 @@ impl Matrix {
     pub fn to_arrays(&self) -> Result<Arrays, Error> {
         let (rows, cols, places) = self.sizes()?;
         let parts = crate::room::into_parts(rows, places, |o, x, v, count| {
-            // SAFETY: each pointer is that of a slice, with the slice's length behind it. The handle is as a call left it.
+            // SAFETY: each pointer is that of a slice, with the slice's length after it. The handle is as a call left
+            // it.
             unsafe {
                 calls::nalgebra_sparse_matrix_read(
                     self.handle.get(), o.as_mut_ptr(), o.len(), x.as_mut_ptr(), x.len(), v.as_mut_ptr(), v.len(), count,
@@ -172,7 +175,7 @@ impl Matrix {
         Matrix::made(|out| unsafe { calls::nalgebra_sparse_matrix_transpose(self.handle.get(), out) })
     }
 
-    /// Returns the product of a number and the matrix, on its places.
+    /// Returns the matrix times a number, with the same pattern.
     ///
     /// # Errors
     ///
@@ -182,7 +185,7 @@ impl Matrix {
         Matrix::made(|out| unsafe { calls::nalgebra_sparse_matrix_scale(factor, self.handle.get(), out) })
     }
 
-    /// Returns the sum `self + b`, on the union of the places.
+    /// Returns the sum `self + b`. Its pattern is the union of both.
     ///
     /// # Errors
     ///
@@ -192,7 +195,7 @@ impl Matrix {
         self.combined(b, |a, b, out| unsafe { calls::nalgebra_sparse_matrix_add(a, b, out) })
     }
 
-    /// Returns the difference `self - b`, on the union of the places.
+    /// Returns the difference `self - b`. Its pattern is the union of both.
     ///
     /// # Errors
     ///
@@ -202,7 +205,7 @@ impl Matrix {
         self.combined(b, |a, b, out| unsafe { calls::nalgebra_sparse_matrix_subtract(a, b, out) })
     }
 
-    /// Returns the sum `alpha self + beta b`, on the union of the places.
+    /// Returns the sum `alpha self + beta b`. Its pattern is the union of both.
     ///
     /// # Errors
     ///
@@ -212,7 +215,8 @@ impl Matrix {
         self.combined(b, |a, b, out| unsafe { calls::nalgebra_sparse_matrix_add_scaled(alpha, a, beta, b, out) })
     }
 
-    /// Returns the product `self * b`, with a place wherever the operands share a middle index.
+    /// Returns the product `self * b`, with an entry (i, j) wherever there are entries (i, k) of `self` and (k, j) of
+    /// `b`.
     ///
     /// # Errors
     ///
@@ -237,7 +241,7 @@ impl Matrix {
 ///
 /// # Panics
 ///
-/// Panics if an allocation fails, where [`Matrix::try_clone`] returns an error.
+/// Panics if an allocation fails; [`Matrix::try_clone`] returns an error instead.
 impl Clone for Matrix {
     fn clone(&self) -> Self {
         self.try_clone().expect("an allocation failed")

@@ -10,11 +10,11 @@ pub struct Rows<'a> {
     pub rows: usize,
     /// The number of columns.
     pub cols: usize,
-    /// The position of the first place of each row, and then the number of places.
+    /// The offset of the first entry of each row, and then the number of entries.
     pub offsets: &'a [usize],
-    /// The column of each place, rising in each row.
+    /// The column of each entry, strictly increasing in each row.
     pub indices: &'a [usize],
-    /// The value of each place.
+    /// The value of each entry.
     pub values: &'a [i64],
 }
 
@@ -49,11 +49,11 @@ pub struct Columns<'a> {
     pub rows: usize,
     /// The number of columns.
     pub cols: usize,
-    /// The position of the first place of each column, and then the number of places.
+    /// The offset of the first entry of each column, and then the number of entries.
     pub offsets: &'a [usize],
-    /// The row of each place, rising in each column.
+    /// The row of each entry, strictly increasing in each column.
     pub indices: &'a [usize],
-    /// The value of each place.
+    /// The value of each entry.
     pub values: &'a [i64],
 }
 
@@ -79,11 +79,11 @@ pub struct Arrays {
     pub rows: usize,
     /// The number of columns.
     pub cols: usize,
-    /// The position of the first place of each row, and then the number of places.
+    /// The offset of the first entry of each row, and then the number of entries.
     pub offsets: Vec<usize>,
-    /// The column of each place, rising in each row.
+    /// The column of each entry, strictly increasing in each row.
     pub indices: Vec<usize>,
-    /// The value of each place.
+    /// The value of each entry.
     pub values: Vec<i64>,
 }
 
@@ -121,11 +121,11 @@ pub struct ColumnArrays {
     pub rows: usize,
     /// The number of columns.
     pub cols: usize,
-    /// The position of the first place of each column, and then the number of places.
+    /// The offset of the first entry of each column, and then the number of entries.
     pub offsets: Vec<usize>,
-    /// The row of each place, rising in each column.
+    /// The row of each entry, strictly increasing in each column.
     pub indices: Vec<usize>,
-    /// The value of each place.
+    /// The value of each entry.
     pub values: Vec<i64>,
 }
 

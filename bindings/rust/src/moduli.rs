@@ -19,7 +19,7 @@ pub const MODULI: [u64; 11] = [2, 3, 5, 7, 11, 13, 101, 65_537, 998_244_353, 1_0
 pub fn assemble_csr_mod(
     modulus: u64, rows: usize, cols: usize, i: &[usize], j: &[usize], values: &[i64],
 ) -> Result<Arrays, Error> {
-    // SAFETY: each pointer is that of a slice, with the slice's length behind it.
+    // SAFETY: each pointer is that of a slice, with the slice's length after it.
     let parts = into_parts(rows, values.len(), |o, x, v, places| unsafe {
         calls::nalgebra_sparse_assemble_csr_mod(
             modulus, rows, cols, i.as_ptr(), i.len(), j.as_ptr(), j.len(), values.as_ptr(), values.len(),
@@ -37,7 +37,7 @@ pub fn assemble_csr_mod(
 pub fn assemble_csc_mod(
     modulus: u64, rows: usize, cols: usize, i: &[usize], j: &[usize], values: &[i64],
 ) -> Result<ColumnArrays, Error> {
-    // SAFETY: each pointer is that of a slice, with the slice's length behind it.
+    // SAFETY: each pointer is that of a slice, with the slice's length after it.
     let parts = into_parts(cols, values.len(), |o, x, v, places| unsafe {
         calls::nalgebra_sparse_assemble_csc_mod(
             modulus, rows, cols, i.as_ptr(), i.len(), j.as_ptr(), j.len(), values.as_ptr(), values.len(),
@@ -56,7 +56,7 @@ pub fn add_mod(modulus: u64, a: Rows<'_>, b: Rows<'_>) -> Result<Arrays, Error> 
     if (a.rows, a.cols) != (b.rows, b.cols) {
         return Err(Error::ShapeMismatch);
     }
-    // SAFETY: each pointer is that of a slice, with the slice's length behind it.
+    // SAFETY: each pointer is that of a slice, with the slice's length after it.
     let parts = into_parts(a.rows, a.values.len().saturating_add(b.values.len()), |o, x, v, places| unsafe {
         calls::nalgebra_sparse_add_mod(
             modulus, a.rows, a.cols,
@@ -77,7 +77,7 @@ pub fn subtract_mod(modulus: u64, a: Rows<'_>, b: Rows<'_>) -> Result<Arrays, Er
     if (a.rows, a.cols) != (b.rows, b.cols) {
         return Err(Error::ShapeMismatch);
     }
-    // SAFETY: each pointer is that of a slice, with the slice's length behind it.
+    // SAFETY: each pointer is that of a slice, with the slice's length after it.
     let parts = into_parts(a.rows, a.values.len().saturating_add(b.values.len()), |o, x, v, places| unsafe {
         calls::nalgebra_sparse_subtract_mod(
             modulus, a.rows, a.cols,
@@ -98,7 +98,7 @@ pub fn add_scaled_mod(modulus: u64, alpha: i64, a: Rows<'_>, beta: i64, b: Rows<
     if (a.rows, a.cols) != (b.rows, b.cols) {
         return Err(Error::ShapeMismatch);
     }
-    // SAFETY: each pointer is that of a slice, with the slice's length behind it.
+    // SAFETY: each pointer is that of a slice, with the slice's length after it.
     let parts = into_parts(a.rows, a.values.len().saturating_add(b.values.len()), |o, x, v, places| unsafe {
         calls::nalgebra_sparse_add_scaled_mod(
             modulus, a.rows, a.cols,
@@ -112,7 +112,7 @@ pub fn add_scaled_mod(modulus: u64, alpha: i64, a: Rows<'_>, beta: i64, b: Rows<
     Ok(Arrays::new((a.rows, a.cols), parts))
 }
 
-/// Returns the product of [`multiply`](crate::multiply), modulo one of [`MODULI`]. It has the same places.
+/// Returns the product of [`multiply`](crate::multiply), modulo one of [`MODULI`]. It has the same pattern.
 ///
 /// # Errors
 ///
@@ -132,7 +132,7 @@ pub fn multiply_mod(modulus: u64, a: Rows<'_>, b: Rows<'_>) -> Result<Arrays, Er
     if a.cols != b.rows {
         return Err(Error::ShapeMismatch);
     }
-    // SAFETY: each pointer is that of a slice, with the slice's length behind it.
+    // SAFETY: each pointer is that of a slice, with the slice's length after it.
     let parts = into_parts(a.rows, product_room(a, b), |o, x, v, places| unsafe {
         calls::nalgebra_sparse_multiply_mod(
             modulus, a.rows, a.cols, b.cols,
@@ -150,7 +150,7 @@ pub fn multiply_mod(modulus: u64, a: Rows<'_>, b: Rows<'_>) -> Result<Arrays, Er
 ///
 /// [`Error::UnknownModulus`]; otherwise as [`multiply_dense`](crate::multiply_dense).
 pub fn multiply_dense_mod(modulus: u64, a: Rows<'_>, cols: usize, b: &[i64]) -> Result<Vec<i64>, Error> {
-    // SAFETY: each pointer is that of a slice, with the slice's length behind it.
+    // SAFETY: each pointer is that of a slice, with the slice's length after it.
     into_values(a.rows, cols, |v| unsafe {
         calls::nalgebra_sparse_multiply_dense_mod(
             modulus, a.rows, a.cols, cols,
@@ -160,15 +160,15 @@ pub fn multiply_dense_mod(modulus: u64, a: Rows<'_>, cols: usize, b: &[i64]) -> 
     })
 }
 
-/// Returns a matrix by rows with each value times the inverse of the divisor, modulo one of [`MODULI`]. An integer means its
-/// residue, and the values of the result are from 0 to `modulus - 1`.
+/// Returns a matrix by rows with each value times the inverse of the divisor, modulo one of [`MODULI`]. An integer
+/// means its residue, and the values of the result are from 0 to `modulus - 1`.
 ///
 /// # Errors
 ///
-/// [`Error::UnknownModulus`]; otherwise as [`divide`](crate::divide), and [`Error::Singular`] if the divisor is a multiple of
-/// the modulus.
+/// [`Error::UnknownModulus`]; otherwise as [`divide`](crate::divide), and [`Error::Singular`] if the divisor is a
+/// multiple of the modulus.
 pub fn divide_mod(modulus: u64, a: Rows<'_>, divisor: i64) -> Result<Arrays, Error> {
-    // SAFETY: each pointer is that of a slice, with the slice's length behind it.
+    // SAFETY: each pointer is that of a slice, with the slice's length after it.
     let parts = into_parts(a.rows, a.values.len(), |o, x, v, places| unsafe {
         calls::nalgebra_sparse_divide_mod(
             modulus, a.rows, a.cols,
@@ -183,11 +183,11 @@ pub fn divide_mod(modulus: u64, a: Rows<'_>, divisor: i64) -> Result<Arrays, Err
 ///
 /// # Errors
 ///
-/// [`Error::UnknownModulus`]; otherwise as [`solve_lower`](crate::solve_lower), and [`Error::Singular`] if there is a column to
-/// solve for, and some entry of the diagonal is not stored or is a multiple of the modulus.
+/// [`Error::UnknownModulus`]; otherwise as [`solve_lower`](crate::solve_lower), and [`Error::Singular`] if there is a
+/// column to solve for, and some entry of the diagonal is not stored or is a multiple of the modulus.
 pub fn solve_lower_mod(modulus: u64, a: Columns<'_>, system: System, cols: usize, b: &[i64]) -> Result<Vec<i64>, Error> {
     check_square(a)?;
-    // SAFETY: each pointer is that of a slice, with the slice's length behind it.
+    // SAFETY: each pointer is that of a slice, with the slice's length after it.
     into_values(a.rows, cols, |v| unsafe {
         calls::nalgebra_sparse_solve_lower_mod(
             modulus, a.rows, cols,
@@ -215,7 +215,7 @@ pub fn solve_lower_mod(modulus: u64, a: Columns<'_>, system: System, cols: usize
 /// ```
 pub fn solve_symmetric_mod(modulus: u64, a: Columns<'_>, cols: usize, b: &[i64]) -> Result<Vec<i64>, Error> {
     check_square(a)?;
-    // SAFETY: each pointer is that of a slice, with the slice's length behind it.
+    // SAFETY: each pointer is that of a slice, with the slice's length after it.
     into_values(a.rows, cols, |v| unsafe {
         calls::nalgebra_sparse_solve_symmetric_mod(
             modulus, a.rows, cols,

@@ -3,13 +3,15 @@
 use crate::room::{into_parts, into_values};
 use crate::{calls, Arrays, ColumnArrays, Error, Rows};
 
-/// Returns the matrix of triplets by rows. Values at the same place are added, and a place is kept where its sum is 0.
+/// Returns the matrix of triplets by rows. Values with the same row and column are added; an entry whose sum is 0 is
+/// kept.
 ///
 /// The lists have the row, the column and the value of each triplet.
 ///
 /// # Errors
 ///
-/// [`Error::OutOfMemory`]; [`Error::InvalidStructure`] if the lists have different lengths; [`Error::IndexOutOfBounds`].
+/// [`Error::OutOfMemory`]; [`Error::InvalidStructure`] if the lists have different lengths;
+/// [`Error::IndexOutOfBounds`].
 ///
 /// # Examples
 ///
@@ -19,7 +21,7 @@ use crate::{calls, Arrays, ColumnArrays, Error, Rows};
 /// # Ok::<(), nalgebra_sparse_exact::Error>(())
 /// ```
 pub fn assemble_csr(rows: usize, cols: usize, i: &[usize], j: &[usize], values: &[i64]) -> Result<Arrays, Error> {
-    // SAFETY: each pointer is that of a slice, with the slice's length behind it.
+    // SAFETY: each pointer is that of a slice, with the slice's length after it.
     let parts = into_parts(rows, values.len(), |o, x, v, places| unsafe {
         calls::nalgebra_sparse_assemble_csr(
             rows, cols, i.as_ptr(), i.len(), j.as_ptr(), j.len(), values.as_ptr(), values.len(),
@@ -29,15 +31,17 @@ pub fn assemble_csr(rows: usize, cols: usize, i: &[usize], j: &[usize], values: 
     Ok(Arrays::new((rows, cols), parts))
 }
 
-/// Returns the matrix of triplets by columns. Values at the same place are added, and a place is kept where its sum is 0.
+/// Returns the matrix of triplets by columns. Values with the same row and column are added; an entry whose sum is 0 is
+/// kept.
 ///
 /// The lists have the row, the column and the value of each triplet.
 ///
 /// # Errors
 ///
-/// [`Error::OutOfMemory`]; [`Error::InvalidStructure`] if the lists have different lengths; [`Error::IndexOutOfBounds`].
+/// [`Error::OutOfMemory`]; [`Error::InvalidStructure`] if the lists have different lengths;
+/// [`Error::IndexOutOfBounds`].
 pub fn assemble_csc(rows: usize, cols: usize, i: &[usize], j: &[usize], values: &[i64]) -> Result<ColumnArrays, Error> {
-    // SAFETY: each pointer is that of a slice, with the slice's length behind it.
+    // SAFETY: each pointer is that of a slice, with the slice's length after it.
     let parts = into_parts(cols, values.len(), |o, x, v, places| unsafe {
         calls::nalgebra_sparse_assemble_csc(
             rows, cols, i.as_ptr(), i.len(), j.as_ptr(), j.len(), values.as_ptr(), values.len(),
@@ -47,14 +51,15 @@ pub fn assemble_csc(rows: usize, cols: usize, i: &[usize], j: &[usize], values: 
     Ok(ColumnArrays::new((rows, cols), parts))
 }
 
-/// Returns the transpose of a matrix by rows, by rows too. [`Rows::transposed`] is the transpose by columns, which takes no time.
+/// Returns the transpose of a matrix by rows, by rows too. [`Rows::transposed`] is the transpose by columns, which
+/// takes no time.
 ///
 /// # Errors
 ///
-/// [`Error::OutOfMemory`]; [`Error::InvalidStructure`], [`Error::IndexOutOfBounds`] or [`Error::DuplicateEntry`] for the
-/// first fault of the arrays.
+/// [`Error::OutOfMemory`]; [`Error::InvalidStructure`], [`Error::IndexOutOfBounds`] or [`Error::DuplicateEntry`] for
+/// the first fault of the arrays.
 pub fn transpose(a: Rows<'_>) -> Result<Arrays, Error> {
-    // SAFETY: each pointer is that of a slice, with the slice's length behind it.
+    // SAFETY: each pointer is that of a slice, with the slice's length after it.
     let parts = into_parts(a.cols, a.values.len(), |o, x, v, places| unsafe {
         calls::nalgebra_sparse_transpose(
             a.rows, a.cols,
@@ -65,17 +70,17 @@ pub fn transpose(a: Rows<'_>) -> Result<Arrays, Error> {
     Ok(Arrays::new((a.cols, a.rows), parts))
 }
 
-/// Returns the sum of two matrices by rows with one shape, on the union of their places.
+/// Returns the sum of two matrices by rows with the same shape. Its pattern is the union of theirs.
 ///
 /// # Errors
 ///
-/// [`Error::OutOfMemory`]; [`Error::InvalidStructure`], [`Error::IndexOutOfBounds`] or [`Error::DuplicateEntry`] for the
-/// first fault of `a`, and otherwise of `b`; [`Error::ShapeMismatch`].
+/// [`Error::OutOfMemory`]; [`Error::InvalidStructure`], [`Error::IndexOutOfBounds`] or [`Error::DuplicateEntry`] for
+/// the first fault of `a`, and otherwise of `b`; [`Error::ShapeMismatch`].
 pub fn add(a: Rows<'_>, b: Rows<'_>) -> Result<Arrays, Error> {
     if (a.rows, a.cols) != (b.rows, b.cols) {
         return Err(Error::ShapeMismatch);
     }
-    // SAFETY: each pointer is that of a slice, with the slice's length behind it.
+    // SAFETY: each pointer is that of a slice, with the slice's length after it.
     let parts = into_parts(a.rows, a.values.len().saturating_add(b.values.len()), |o, x, v, places| unsafe {
         calls::nalgebra_sparse_add(
             a.rows, a.cols,
@@ -87,17 +92,17 @@ pub fn add(a: Rows<'_>, b: Rows<'_>) -> Result<Arrays, Error> {
     Ok(Arrays::new((a.rows, a.cols), parts))
 }
 
-/// Returns the difference `a - b` of two matrices by rows with one shape, on the union of their places.
+/// Returns the difference `a - b` of two matrices by rows with the same shape. Its pattern is the union of theirs.
 ///
 /// # Errors
 ///
-/// [`Error::OutOfMemory`]; [`Error::InvalidStructure`], [`Error::IndexOutOfBounds`] or [`Error::DuplicateEntry`] for the
-/// first fault of `a`, and otherwise of `b`; [`Error::ShapeMismatch`].
+/// [`Error::OutOfMemory`]; [`Error::InvalidStructure`], [`Error::IndexOutOfBounds`] or [`Error::DuplicateEntry`] for
+/// the first fault of `a`, and otherwise of `b`; [`Error::ShapeMismatch`].
 pub fn subtract(a: Rows<'_>, b: Rows<'_>) -> Result<Arrays, Error> {
     if (a.rows, a.cols) != (b.rows, b.cols) {
         return Err(Error::ShapeMismatch);
     }
-    // SAFETY: each pointer is that of a slice, with the slice's length behind it.
+    // SAFETY: each pointer is that of a slice, with the slice's length after it.
     let parts = into_parts(a.rows, a.values.len().saturating_add(b.values.len()), |o, x, v, places| unsafe {
         calls::nalgebra_sparse_subtract(
             a.rows, a.cols,
@@ -109,13 +114,13 @@ pub fn subtract(a: Rows<'_>, b: Rows<'_>) -> Result<Arrays, Error> {
     Ok(Arrays::new((a.rows, a.cols), parts))
 }
 
-/// Returns the sum `alpha * a + beta * b` of multiples of two matrices by rows with one shape, on the union of their places,
-/// also where a factor or a value is 0.
+/// Returns the sum `alpha * a + beta * b` of multiples of two matrices by rows with the same shape. Its pattern is the
+/// union of theirs, also where alpha, beta or a value is 0.
 ///
 /// # Errors
 ///
-/// [`Error::OutOfMemory`]; [`Error::InvalidStructure`], [`Error::IndexOutOfBounds`] or [`Error::DuplicateEntry`] for the
-/// first fault of `a`, and otherwise of `b`; [`Error::ShapeMismatch`].
+/// [`Error::OutOfMemory`]; [`Error::InvalidStructure`], [`Error::IndexOutOfBounds`] or [`Error::DuplicateEntry`] for
+/// the first fault of `a`, and otherwise of `b`; [`Error::ShapeMismatch`].
 ///
 /// # Examples
 ///
@@ -131,7 +136,7 @@ pub fn add_scaled(alpha: i64, a: Rows<'_>, beta: i64, b: Rows<'_>) -> Result<Arr
     if (a.rows, a.cols) != (b.rows, b.cols) {
         return Err(Error::ShapeMismatch);
     }
-    // SAFETY: each pointer is that of a slice, with the slice's length behind it.
+    // SAFETY: each pointer is that of a slice, with the slice's length after it.
     let parts = into_parts(a.rows, a.values.len().saturating_add(b.values.len()), |o, x, v, places| unsafe {
         calls::nalgebra_sparse_add_scaled(
             a.rows, a.cols,
@@ -145,13 +150,13 @@ pub fn add_scaled(alpha: i64, a: Rows<'_>, beta: i64, b: Rows<'_>) -> Result<Arr
     Ok(Arrays::new((a.rows, a.cols), parts))
 }
 
-/// Returns the product of two matrices by rows, the first with as many columns as the second has rows. It has a place
-/// wherever they share a middle index.
+/// Returns the product of two matrices by rows, the first with as many columns as the second has rows. It has an
+/// entry (i, j) wherever there are entries (i, k) of `a` and (k, j) of `b`.
 ///
 /// # Errors
 ///
-/// [`Error::OutOfMemory`]; [`Error::InvalidStructure`], [`Error::IndexOutOfBounds`] or [`Error::DuplicateEntry`] for the
-/// first fault of `a`, and otherwise of `b`; [`Error::ShapeMismatch`].
+/// [`Error::OutOfMemory`]; [`Error::InvalidStructure`], [`Error::IndexOutOfBounds`] or [`Error::DuplicateEntry`] for
+/// the first fault of `a`, and otherwise of `b`; [`Error::ShapeMismatch`].
 ///
 /// # Examples
 ///
@@ -167,7 +172,7 @@ pub fn multiply(a: Rows<'_>, b: Rows<'_>) -> Result<Arrays, Error> {
     if a.cols != b.rows {
         return Err(Error::ShapeMismatch);
     }
-    // SAFETY: each pointer is that of a slice, with the slice's length behind it.
+    // SAFETY: each pointer is that of a slice, with the slice's length after it.
     let parts = into_parts(a.rows, product_room(a, b), |o, x, v, places| unsafe {
         calls::nalgebra_sparse_multiply(
             a.rows, a.cols, b.cols,
@@ -179,18 +184,18 @@ pub fn multiply(a: Rows<'_>, b: Rows<'_>) -> Result<Arrays, Error> {
     Ok(Arrays::new((a.rows, b.cols), parts))
 }
 
-// Up to this many places, a product is computed into room for one place for each multiplication. What is left
-// of the room is never touched, and is given back.
+// A product is computed into room for one entry for each multiplication, up to this many. Unused room is never touched,
+// and is given back.
 const MOST_UNCOUNTED: usize = 1 << 24;
 
-// Returns the number of places for which a product has room at first: that of its multiplications, where that is not large,
-// and none where an index names no row.
+// Returns the number of entries for which a product has room at first: that of its multiplications, up to
+// `MOST_UNCOUNTED`, and 0 if an index names no row.
 pub(crate) fn product_room(a: Rows<'_>, b: Rows<'_>) -> usize {
     multiplications(a, b).unwrap_or(0).min(MOST_UNCOUNTED)
 }
 
-// Returns the number of multiplications of a product: the lengths of the rows of `b` that the indices of `a` name. `None` if
-// one names no row.
+// Returns the number of multiplications of a product: the lengths of the rows of `b` that the indices of `a` name.
+// `None` if one names no row.
 fn multiplications(a: Rows<'_>, b: Rows<'_>) -> Option<usize> {
     a.indices.iter().try_fold(0_usize, |sum, &k| {
         let begin = b.offsets.get(k)?;
@@ -204,10 +209,10 @@ fn multiplications(a: Rows<'_>, b: Rows<'_>) -> Option<usize> {
 ///
 /// # Errors
 ///
-/// [`Error::OutOfMemory`]; [`Error::InvalidStructure`], [`Error::IndexOutOfBounds`] or [`Error::DuplicateEntry`] for the
-/// first fault of the arrays; [`Error::InvalidStructure`] if `b` has another number of values than `a.cols * cols`.
+/// [`Error::OutOfMemory`]; [`Error::InvalidStructure`], [`Error::IndexOutOfBounds`] or [`Error::DuplicateEntry`] for
+/// the first fault of the arrays; [`Error::InvalidStructure`] if `b` has another number of values than `a.cols * cols`.
 pub fn multiply_dense(a: Rows<'_>, cols: usize, b: &[i64]) -> Result<Vec<i64>, Error> {
-    // SAFETY: each pointer is that of a slice, with the slice's length behind it.
+    // SAFETY: each pointer is that of a slice, with the slice's length after it.
     into_values(a.rows, cols, |v| unsafe {
         calls::nalgebra_sparse_multiply_dense(
             a.rows, a.cols, cols,
@@ -221,11 +226,10 @@ pub fn multiply_dense(a: Rows<'_>, cols: usize, b: &[i64]) -> Result<Vec<i64>, E
 ///
 /// # Errors
 ///
-/// [`Error::OutOfMemory`]; [`Error::InvalidStructure`], [`Error::IndexOutOfBounds`] or [`Error::DuplicateEntry`] for the
-/// first fault of the arrays; [`Error::Singular`] if the divisor is even, since it has no
-/// inverse modulo 2^64.
+/// [`Error::OutOfMemory`]; [`Error::InvalidStructure`], [`Error::IndexOutOfBounds`] or [`Error::DuplicateEntry`] for
+/// the first fault of the arrays; [`Error::Singular`] if the divisor is even, since it has no inverse modulo 2^64.
 pub fn divide(a: Rows<'_>, divisor: i64) -> Result<Arrays, Error> {
-    // SAFETY: each pointer is that of a slice, with the slice's length behind it.
+    // SAFETY: each pointer is that of a slice, with the slice's length after it.
     let parts = into_parts(a.rows, a.values.len(), |o, x, v, places| unsafe {
         calls::nalgebra_sparse_divide(
             a.rows, a.cols,

@@ -37,8 +37,8 @@ pub(crate) fn zeros<T: Number>(count: usize) -> Result<Vec<T>, Error> {
     Ok(list.into_vec())
 }
 
-/// Calls with room for this many places, or triplets, or bytes. If that is too little, calls once more with room for as many
-/// as the call tells that it needs. Returns how many it wrote, and the arrays, which may be longer.
+/// Calls with room for this many entries, or triplets, or bytes. If that is too little, calls once more with the room
+/// that the call needs by its own account. Returns how many it wrote, and the arrays, which may be longer.
 pub(crate) fn with_room<A>(
     room: usize,
     arrays: impl Fn(usize) -> Result<A, Error>,
@@ -61,8 +61,8 @@ pub(crate) fn cut<T>(mut list: Vec<T>, count: usize) -> Vec<T> {
     list
 }
 
-/// Calls with arrays for a result with this many lanes and room for this many places, once more if it needs more, and cuts
-/// them to the places that there are.
+/// Calls with arrays for a result with this many lanes and room for this many entries, once more if it needs more, and
+/// cuts them to the number of entries.
 pub(crate) fn into_parts(
     lanes: usize,
     room: usize,
@@ -96,7 +96,7 @@ mod tests {
         let want = multiply(a, a).unwrap().into_parts();
         for room in 0..=want.1.len() {
             let mut told = Vec::new();
-            // SAFETY: each pointer is that of a slice, with the slice's length behind it.
+            // SAFETY: each pointer is that of a slice, with the slice's length after it.
             let parts = into_parts(2, room, |o, x, v, places| unsafe {
                 let status = calls::nalgebra_sparse_multiply(
                     2, 2, 2,

@@ -60,7 +60,7 @@ pub fn factor_symmetric_mod_checked(modulus: u64, a: Columns<'_>) -> Result<Fact
 }
 
 impl Matrix {
-    /// Returns the factors of [`Matrix::factor`], where the matrix is tested to be symmetric. The test makes its
+    /// Returns the factors of [`Matrix::factor`], where the matrix is tested to be symmetric. The test computes its
     /// transpose and a difference.
     ///
     /// # Errors

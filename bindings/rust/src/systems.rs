@@ -13,18 +13,18 @@ pub enum System {
     Transposed,
 }
 
-/// Returns the X for which `L X = B` or `L^T X = B`, where L is the part of a square matrix on and below its diagonal. B and X
-/// have `cols` columns, one after the other.
+/// Returns the X for which `L X = B` or `L^T X = B`, where L is the lower triangle, with the diagonal, of a square
+/// matrix. B and X have `cols` columns and are stored column by column.
 ///
 /// # Errors
 ///
-/// [`Error::OutOfMemory`]; [`Error::InvalidStructure`], [`Error::IndexOutOfBounds`] or [`Error::DuplicateEntry`] for the
-/// first fault of the arrays; [`Error::ShapeMismatch`] if the matrix is not square;
-/// [`Error::InvalidStructure`] if B has another number of values; [`Error::Singular`] if there is a column to solve for, and
-/// some entry of the diagonal is not stored or is even.
+/// [`Error::OutOfMemory`]; [`Error::InvalidStructure`], [`Error::IndexOutOfBounds`] or [`Error::DuplicateEntry`] for
+/// the first fault of the arrays; [`Error::ShapeMismatch`] if the matrix is not square; [`Error::InvalidStructure`] if
+/// B has another number of values; [`Error::Singular`] if there is a column to solve for, and some diagonal entry is
+/// missing or even.
 pub fn solve_lower(a: Columns<'_>, system: System, cols: usize, b: &[i64]) -> Result<Vec<i64>, Error> {
     check_square(a)?;
-    // SAFETY: each pointer is that of a slice, with the slice's length behind it.
+    // SAFETY: each pointer is that of a slice, with the slice's length after it.
     into_values(a.rows, cols, |v| unsafe {
         calls::nalgebra_sparse_solve_lower(
             a.rows, cols,
@@ -34,18 +34,18 @@ pub fn solve_lower(a: Columns<'_>, system: System, cols: usize, b: &[i64]) -> Re
     })
 }
 
-/// Returns the X for which `A X = B`, where A is the symmetric matrix whose entries on and above the diagonal are those of a
-/// square matrix. B and X have `cols` columns, one after the other. What is below the diagonal has no effect:
-/// [`solve_symmetric_checked`](crate::solve_symmetric_checked) tests that the matrix is symmetric.
+/// Returns the X for which `A X = B`, where A is the symmetric matrix whose entries on and above the diagonal are those
+/// of a square matrix. B and X have `cols` columns and are stored column by column. Entries below the diagonal are
+/// ignored: [`solve_symmetric_checked`](crate::solve_symmetric_checked) tests that the matrix is symmetric.
 ///
 /// # Errors
 ///
-/// [`Error::OutOfMemory`]; [`Error::InvalidStructure`], [`Error::IndexOutOfBounds`] or [`Error::DuplicateEntry`] for the
-/// first fault of the arrays; [`Error::ShapeMismatch`] if the matrix is not square;
-/// [`Error::InvalidStructure`] if B has another number of values; [`Error::Singular`] if A has no factorisation L D L^T.
+/// [`Error::OutOfMemory`]; [`Error::InvalidStructure`], [`Error::IndexOutOfBounds`] or [`Error::DuplicateEntry`] for
+/// the first fault of the arrays; [`Error::ShapeMismatch`] if the matrix is not square; [`Error::InvalidStructure`] if
+/// B has another number of values; [`Error::Singular`] if A has no factorisation L D L^T.
 pub fn solve_symmetric(a: Columns<'_>, cols: usize, b: &[i64]) -> Result<Vec<i64>, Error> {
     check_square(a)?;
-    // SAFETY: each pointer is that of a slice, with the slice's length behind it.
+    // SAFETY: each pointer is that of a slice, with the slice's length after it.
     into_values(a.rows, cols, |v| unsafe {
         calls::nalgebra_sparse_solve_symmetric(
             a.rows, cols,
@@ -55,7 +55,7 @@ pub fn solve_symmetric(a: Columns<'_>, cols: usize, b: &[i64]) -> Result<Vec<i64
     })
 }
 
-/// The entries of a square pattern that a symmetric elimination starts from.
+/// The entries of a square pattern that give the pattern of a symmetric matrix.
 #[derive(Clone, Copy, Debug, PartialEq, Eq)]
 pub enum Triangle {
     /// Those on and above the diagonal.
@@ -66,19 +66,19 @@ pub enum Triangle {
     Both = 2,
 }
 
-/// Returns the offsets and the indices by columns of the factor of a symmetric elimination, which starts from a triangle of
-/// the pattern by columns.
+/// Returns the offsets and the indices, by columns, of the factor L of the symmetric matrix that a triangle of a
+/// pattern by columns gives.
 ///
 /// # Errors
 ///
-/// [`Error::OutOfMemory`]; [`Error::InvalidStructure`], [`Error::IndexOutOfBounds`] or [`Error::DuplicateEntry`] for the
-/// first fault of the arrays.
+/// [`Error::OutOfMemory`]; [`Error::InvalidStructure`], [`Error::IndexOutOfBounds`] or [`Error::DuplicateEntry`] for
+/// the first fault of the arrays.
 pub fn fill(size: usize, triangle: Triangle, offsets: &[usize], indices: &[usize]) -> Result<(Vec<usize>, Vec<usize>), Error> {
     let (o, x) = (offsets, indices);
     let mut to_offsets = zeros(size.checked_add(1).ok_or(Error::OutOfMemory)?)?;
-    // Enough where the elimination adds no place but those of the diagonal.
+    // Enough if the factor has no entries but the given ones and the diagonal.
     let (places, to_indices) = with_room(x.len().saturating_add(size), zeros, |to_indices, places| {
-        // SAFETY: each pointer is that of a slice, with the slice's length behind it, or of `places`.
+        // SAFETY: each pointer is that of a slice, with the slice's length after it, or of `places`.
         unsafe {
             calls::nalgebra_sparse_fill(
                 size, triangle as i32, o.as_ptr(), o.len(), x.as_ptr(), x.len(),
@@ -89,10 +89,10 @@ pub fn fill(size: usize, triangle: Triangle, offsets: &[usize], indices: &[usize
     Ok((to_offsets, cut(to_indices, places)))
 }
 
-/// Returns how many places that factor has.
+/// Returns the number of entries of this factor.
 pub(crate) fn fill_places(size: usize, triangle: Triangle, o: &[usize], x: &[usize]) -> Result<usize, Error> {
     let mut places = 0;
-    // SAFETY: each pointer is that of a slice, with the slice's length behind it, or of `places`.
+    // SAFETY: each pointer is that of a slice, with the slice's length after it, or of `places`.
     answer(unsafe {
         calls::nalgebra_sparse_fill_places(size, triangle as i32, o.as_ptr(), o.len(), x.as_ptr(), x.len(), &mut places)
     })?;

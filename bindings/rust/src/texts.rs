@@ -24,8 +24,8 @@ pub struct Triplets {
 /// # Errors
 ///
 /// [`Error::OutOfMemory`]; [`Error::Unreadable`]; the first error of the text: [`Error::InvalidText`],
-/// [`Error::InvalidHeader`], [`Error::NonSquare`], [`Error::EntryMismatch`], [`Error::ZeroIndex`], [`Error::TypeMismatch`],
-/// [`Error::NotLowerTriangle`], [`Error::DiagonalEntry`] or [`Error::IndexOutOfBounds`].
+/// [`Error::InvalidHeader`], [`Error::NonSquare`], [`Error::EntryMismatch`], [`Error::ZeroIndex`],
+/// [`Error::TypeMismatch`], [`Error::NotLowerTriangle`], [`Error::DiagonalEntry`] or [`Error::IndexOutOfBounds`].
 ///
 /// # Examples
 ///
@@ -39,10 +39,10 @@ pub struct Triplets {
 /// ```
 pub fn read(text: &[u8]) -> Result<Triplets, Error> {
     let (mut rows, mut cols, mut count) = (0, 0, 0);
-    // SAFETY: the pointers are those of a slice, with its length behind it, and of three numbers.
+    // SAFETY: the pointers are those of a slice, with its length after it, and of three numbers.
     answer(unsafe { calls::nalgebra_sparse_read_sizes(text.as_ptr(), text.len(), &mut rows, &mut cols, &mut count) })?;
     let (mut i, mut j, mut values) = (zeros(count)?, zeros(count)?, zeros(count)?);
-    // SAFETY: each pointer is that of a slice, with the slice's length behind it, or of a number.
+    // SAFETY: each pointer is that of a slice, with the slice's length after it, or of a number.
     answer(unsafe {
         calls::nalgebra_sparse_read(
             text.as_ptr(), text.len(),
@@ -56,13 +56,14 @@ pub fn read(text: &[u8]) -> Result<Triplets, Error> {
 ///
 /// # Errors
 ///
-/// [`Error::OutOfMemory`]; [`Error::InvalidStructure`] if the lists have different lengths; [`Error::IndexOutOfBounds`].
+/// [`Error::OutOfMemory`]; [`Error::InvalidStructure`] if the lists have different lengths;
+/// [`Error::IndexOutOfBounds`].
 pub fn write(list: &Triplets) -> Result<Vec<u8>, Error> {
     let (i, j, values) = (&list.row_indices, &list.col_indices, &list.values);
     // Enough for a head and for triplets of 8 bytes a number: longer texts are written once more.
     let room = values.len().saturating_mul(27).saturating_add(256);
     let (length, text) = with_room(room, zeros, |text, length| {
-        // SAFETY: each pointer is that of a slice, with the slice's length behind it, or of a number.
+        // SAFETY: each pointer is that of a slice, with the slice's length after it, or of a number.
         unsafe {
             calls::nalgebra_sparse_write(
                 list.rows, list.cols,

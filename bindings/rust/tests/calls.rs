@@ -34,7 +34,7 @@ impl Random {
     }
 }
 
-/// A plain matrix: each place with its value, or none.
+/// A plain matrix: the value at each place, or none.
 #[derive(Clone, Debug, PartialEq)]
 struct Plain {
     rows: usize,

@@ -1,5 +1,5 @@
-//! Compares the calls with a modulus, and the factors of symmetric matrices, with plain equations in random cases, and tries
-//! each error.
+//! Compares the calls with a modulus, and the factors of symmetric matrices, with plain equations in random cases, and
+//! tries each error.
 
 // The names of matrices and indices, and small numbers that fit in any type.
 #![allow(clippy::many_single_char_names, clippy::needless_range_loop)]
@@ -146,7 +146,7 @@ fn quotients_and_solves_satisfy_their_equations() {
     }
 }
 
-/// The checked calls answer as the plain ones where the matrix is symmetric in the ring, and are refused elsewhere.
+/// The checked calls return what the plain ones do if the matrix is symmetric in the ring, and an error otherwise.
 #[test]
 fn checked_calls_take_symmetric_matrices_alone() {
     let mut random = Random(0x1234_5678_9abc_def1);

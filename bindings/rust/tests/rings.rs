@@ -1,5 +1,5 @@
-//! Compares assembly, sums and products in each ring with plain matrices in random cases, and tries each error of the calls
-//! with a modulus.
+//! Compares assembly, sums and products in each ring with plain matrices in random cases, and tries each error of the
+//! calls with a modulus.
 
 // The names of matrices and indices, and small numbers that fit in any type.
 #![allow(clippy::many_single_char_names, clippy::needless_range_loop)]
@@ -49,7 +49,7 @@ fn times(m: u64, x: i64, y: i64) -> i128 {
     i128::from(shown(m, i128::from(shown(m, i128::from(x))) * i128::from(shown(m, i128::from(y)))))
 }
 
-/// A value where there is a place.
+/// A value where there is an entry.
 type Plain = Vec<Vec<Option<i64>>>;
 
 fn plain(a: &Arrays) -> Plain {

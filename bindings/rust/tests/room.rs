@@ -2,7 +2,7 @@
 
 use nalgebra_sparse_exact::{assemble_csr, fill, multiply, read, write, Triangle, Triplets};
 
-/// A product with many multiplications and one place keeps no room for the others.
+/// A product with many multiplications and one entry keeps no room for others.
 #[test]
 fn room_that_is_left_is_given_back() {
     let (zeros, count): (Vec<usize>, Vec<usize>) = (vec![0; 5000], (0..5000).collect());
@@ -14,7 +14,8 @@ fn room_that_is_left_is_given_back() {
     assert!(product.indices.capacity() < 100 && product.values.capacity() < 100);
 }
 
-/// A fill with places beyond those of the pattern and the diagonal, and a text of long numbers, need more room than is guessed.
+/// A fill with entries that are neither in the pattern nor on the diagonal, and a text of long numbers, need more room
+/// than the first guess.
 #[test]
 fn results_that_outgrow_their_room_are_whole() {
     // The first row and column and the diagonal: the elimination fills all.

@@ -1,6 +1,6 @@
 //! The answers of tasks, and the checksum that all measured programs print, so that one can see that they agree.
 //!
-//! It is the wrapping sum of a number for each place, which depends on its row, its column and its value.
+//! It is the wrapping sum of a number for each entry, which depends on its row, its column and its value.
 
 use nalgebra_sparse::dense::DMatrix;
 use nalgebra_sparse::factorization::CscSymbolicCholesky;
@@ -10,10 +10,10 @@ use nalgebra_sparse::{CooMatrix, CsrMatrix};
 
 /// The answer of a task.
 pub trait Answer: Drop {
-    /// Returns the checksum of its places and values.
+    /// Returns the checksum of its entries and values.
     fn checksum(&self) -> u64;
 
-    /// Returns the number of places.
+    /// Returns the number of entries.
     fn places(&self) -> usize;
 }
 
@@ -46,7 +46,7 @@ impl Answer for DMatrix<W64> {
     }
 }
 
-/// The value is one at each place of the pattern.
+/// The value is one at each entry of the pattern.
 impl Answer for CscSymbolicCholesky {
     fn checksum(&self) -> u64 {
         let mut sum: u64 = 0;
@@ -61,7 +61,7 @@ impl Answer for CscSymbolicCholesky {
     }
 }
 
-/// The entries of D are a column behind those of L.
+/// The entries of D are a column after those of L.
 impl Answer for Ldl<W64> {
     fn checksum(&self) -> u64 {
         let mut sum: u64 = checksum_of_column(self.d().len(), self.d());
@@ -90,7 +90,7 @@ impl Answer for CooMatrix<W64> {
     }
 }
 
-/// The value is one at each place.
+/// The value is one at each entry.
 impl Answer for CooMatrix<()> {
     fn checksum(&self) -> u64 {
         let mut sum: u64 = 0;
@@ -113,7 +113,7 @@ fn checksum_of_column(col: usize, values: &[W64]) -> u64 {
     sum
 }
 
-// The number of one place.
+// The number of one entry.
 fn mixed(row: usize, col: usize, value: W64) -> u64 {
     let row_part = (row as u64)
         .wrapping_add(1)

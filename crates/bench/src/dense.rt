@@ -8,7 +8,7 @@ use std::alloc::{AllocError, Global};
 pub fn dense_matrix(alloc: Global, nrows: usize, ncols: usize) -> Result<DMatrix<W64>, AllocError> {
     let mut dense: DMatrix<W64> = DMatrix::zeros(alloc, nrows, ncols)?;
     for j in 0..ncols {
-        // Always so; the test spares the proof a loop invariant.
+        // Always true: the test replaces a loop invariant of the proof.
         if j < dense.ncols() {
             fill_column(dense.column_mut(j), j);
         }

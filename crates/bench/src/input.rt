@@ -29,7 +29,7 @@ pub fn is_pattern(text: &str) -> bool {
     }
 }
 
-// The places of a list, each with the value one.
+// The entries of a list, each with the value one.
 fn ones_at(alloc: Global, places: &CooMatrix<()>) -> Result<CooMatrix<W64>, Fail> {
     let rows = Vec::from_slice(alloc, places.row_indices())?;
     let cols = Vec::from_slice(alloc, places.col_indices())?;

@@ -20,18 +20,18 @@ fn main(rt: HostRuntime) -> Result<(), Fail> {
     for word in env::args(&rt)?.skip(1) {
         words.push(word)?;
     }
-    obey(&rt, &words)
+    run_args(&rt, &words)
 }
 
 // Does what the words after the program's name say.
-fn obey(rt: &HostRuntime, words: &[String]) -> Result<(), Fail> {
+fn run_args(rt: &HostRuntime, words: &[String]) -> Result<(), Fail> {
     match words {
         [task, path, reps] => print_best(rt, task.as_str(), path.as_str(), reps.as_str()),
         _ => Ok(println!(rt; "{USAGE}")?),
     }
 }
 
-// Prints the least time of the runs of a task, and the checksum and the number of places of its answer.
+// Prints the least time of the runs of a task, and the checksum and the number of entries of its answer.
 fn print_best(rt: &HostRuntime, task: &str, path: &str, reps: &str) -> Result<(), Fail> {
     let best = best_run(rt, task, path, reps.parse::<usize>()?)?;
     let name = path.rsplit('/').next().unwrap_or(path);

@@ -16,7 +16,7 @@ use std::time::Instant;
 // allocations. This is the largest block that counts.
 const LARGEST_BLOCK: usize = (32 << 20) - (1 << 16);
 
-/// The best run of a task: its time, and the checksum and the number of places of the answer.
+/// The best run of a task: its time, and the checksum and the number of entries of the answer.
 #[derive(Clone, Copy)]
 pub struct Best {
     pub nanoseconds: u128,
@@ -58,7 +58,7 @@ fn best_on<T: FromList>(rt: &HostRuntime, path: &str, reps: usize) -> Result<Bes
     best_of(rt, &task, reps)
 }
 
-// The best reading of the text in a file: of integers, or of the places of a pattern.
+// The best reading of the text in a file: of integers, or of a pattern.
 fn best_reading(rt: &HostRuntime, path: &str, reps: usize) -> Result<Best, Fail> {
     let text = fs::read_to_string(rt, path)?;
     if is_pattern(text.as_str()) {
@@ -77,7 +77,7 @@ fn best_of<T: Task>(rt: &HostRuntime, task: &T, reps: usize) -> Result<Best, Fai
     Ok(best)
 }
 
-// One run, with the checksum and the places of its answer.
+// One run, with the checksum and the entries of its answer.
 fn first_run<T: Task>(rt: &HostRuntime, task: &T) -> Result<Best, Fail> {
     let (nanoseconds, answer) = timed(rt, task)?;
     Ok(Best {

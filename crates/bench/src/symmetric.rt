@@ -3,7 +3,7 @@
 use nalgebra_sparse::CscMatrix;
 use nalgebra_sparse::scalar::W64;
 
-/// Gives each place of a matrix the value that all measured programs take: 1001 on the diagonal and an even number off
+/// Gives each entry of a matrix the value that all measured programs take: 1001 on the diagonal and an even number off
 /// it, so that every pivot is odd and has an inverse.
 pub fn with_odd_pivots(mut matrix: CscMatrix<W64>) -> CscMatrix<W64> {
     for (row, col, value) in matrix.triplet_iter_mut() {
@@ -12,7 +12,7 @@ pub fn with_odd_pivots(mut matrix: CscMatrix<W64>) -> CscMatrix<W64> {
     matrix
 }
 
-// The value at a place: 1001, or 2 ((7 l + 3 h) mod 19 + 1) for the lesser index l and the greater index h.
+// The value at a row and a column: 1001, or 2 ((7 l + 3 h) mod 19 + 1) for the lesser index l and the greater index h.
 fn value_at(row: usize, col: usize) -> W64 {
     if row == col {
         return W64::new(1001);

@@ -194,7 +194,7 @@ impl FromList for Solve {
     }
 }
 
-// The places of a square matrix below the diagonal, and ones on it.
+// The entries of a square matrix below the diagonal, and ones on it.
 fn unit_lower(alloc: Global, matrix: CscMatrix<W64>) -> Result<CscMatrix<W64>, Fail> {
     let below = matrix.filter(alloc, |i, j, _value| i > j)?;
     let ones: CscMatrix<W64> = CscMatrix::identity(alloc, below.nrows())?;
@@ -282,7 +282,7 @@ impl Task for Factor {
     }
 }
 
-/// The reader of the places of a pattern, with its text.
+/// The reader of patterns, with its text.
 #[derive(Drop)]
 pub struct Places<'a>(pub &'a str);
 

@@ -33,7 +33,7 @@ pub enum Way {
 
 const WAYS: &[Way] = &[Way::Get, Way::Index, Way::Lane, Way::GetLane, Way::Slices];
 
-/// The entries of a form.
+/// The entries of a format.
 pub trait Entries<T: Scalar> {
     /// Returns an entry.
     fn entry(&self, way: Way, place: (usize, usize)) -> Entry<T>;
@@ -174,9 +174,9 @@ fn replaced_in_col<T: Scalar>(
 // The entry of a lane at an index in bounds, replaced in the slice of its values.
 fn replaced_at<T: Scalar>(indices: &[usize], values: &mut [T], index: usize, value: T) -> Entry<T> {
     match indices.binary_search(&index) {
-        Ok(position) if position < values.len() => {
-            let old = values[position];
-            values[position] = value;
+        Ok(offset) if offset < values.len() => {
+            let old = values[offset];
+            values[offset] = value;
             Some((old, true))
         }
         _ => Some((T::zero(), false)),
@@ -208,7 +208,7 @@ pub fn entry_call<T: Scalar, F: Compressed<T> + Entries<T>>(
     }
 }
 
-// The entry at a place. All ways must find the same.
+// The entry at a row and a column. All ways must find the same.
 fn entry_text<T: Scalar, F: Compressed<T> + Entries<T>>(
     alloc: Global,
     place: (usize, usize),
@@ -237,7 +237,8 @@ fn text_of<T: Scalar>(alloc: Global, entry: Entry<T>) -> Result<String, AllocErr
     Ok(out)
 }
 
-// The matrix after another value was written at a place. All ways must find the old entry, and leave the same matrix.
+// The matrix after another value was written at a row and a column. All ways must find the old entry, and leave the
+// same matrix.
 fn set<T: Scalar, F: Compressed<T> + Entries<T>>(
     alloc: Global,
     place: (usize, usize),

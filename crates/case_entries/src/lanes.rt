@@ -52,9 +52,9 @@ pub enum LaneWay {
 
 const WAYS: &[LaneWay] = &[LaneWay::Index, LaneWay::GetMut, LaneWay::IndexMut];
 
-/// The lanes of a form: rows, or columns.
+/// The lanes of a format: rows, or columns.
 pub trait Lanes<T: Scalar> {
-    /// Returns whether these are the lanes of the form.
+    /// Returns whether these are the lanes of the format.
     fn has(kind: LaneKind) -> bool;
 
     /// Appends the picture of a lane, or `none` out of bounds.
@@ -235,7 +235,7 @@ fn draw_cell<T: Scalar>(
     out: &mut String,
 ) -> Result<(), AllocError> {
     match indices.binary_search(&index) {
-        Ok(position) if position < values.len() => draw_number(values[position], out),
+        Ok(offset) if offset < values.len() => draw_number(values[offset], out),
         _ => out.push_str("."),
     }
 }

@@ -108,7 +108,7 @@ fn triplet_of<T: Scalar>(word: &str) -> Result<(usize, usize, T), Failure> {
     Ok((row, col, scalar_of(value)?))
 }
 
-// The list with the triplets of a dense block behind its own.
+// The list with the triplets of a dense block after its own.
 fn push_block<T: Scalar>(
     turn: &mut Turn,
     list: &mut CooMatrix<T>,

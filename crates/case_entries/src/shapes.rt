@@ -1,4 +1,5 @@
-//! Matrices that are made of one: its transpose, triangles and diagonal, its copy, its negative, multiples and quotients.
+//! Matrices that are made of one: its transpose, triangles and diagonal, its copy, its negative, multiples and
+//! quotients.
 
 use case_matrices::compressed::{Compressed, inner_of, made, matrix_of};
 use case_words::failure::Failure;
@@ -35,7 +36,7 @@ pub const SHAPES: &[(&str, Shape)] = &[
     ("A / k", Shape::Quotient),
 ];
 
-/// These calls of a form.
+/// These calls of a format.
 pub trait Shapes<T: Scalar> {
     fn shaped(&self, alloc: Global, call: Shape, k: T) -> Result<Self, Failure>;
 }

@@ -31,7 +31,7 @@ const WAYS: &[ValuesWay] = &[
     ValuesWay::Lanes,
 ];
 
-/// The triplets of a form.
+/// The triplets of a format.
 pub trait Triplets<T: Scalar> {
     /// Appends the triplets.
     fn draw_triplets(&self, out: &mut String) -> Result<(), AllocError>;

@@ -36,7 +36,7 @@ pub fn list_arrays<T: Scalar>(alloc: Global, text: &str) -> Result<(Size, Arrays
     Ok((size_of(size.trim())?, arrays_of(alloc, rows, cols, values)?))
 }
 
-// What stands before and behind the name of an array.
+// The texts before and after the name of an array.
 fn parted<'a>(text: &'a str, name: &str) -> Result<(&'a str, &'a str), Failure> {
     text.split_once(name)
         .ok_or(Failure::Unreadable("an array is missing"))

@@ -1,4 +1,4 @@
-//! Conversions between forms, lists and dense matrices, the arrays of a matrix, and whether two are equal.
+//! Conversions between formats, lists and dense matrices, the arrays of a matrix, and whether two are equal.
 
 use crate::compressed::{
     Compressed, made, made_list, made_picture, matrix_of, plain_dense_of, plain_list_of,
@@ -43,21 +43,21 @@ pub const CONVERSIONS: &[(&str, Conversion)] = &[
     ("triplets A == B", Conversion::EqualLists),
 ];
 
-/// The conversions of a form.
+/// The conversions of a format.
 pub trait Conversions<T: Scalar> {
-    /// Returns the compressed form of a dense matrix.
+    /// Returns a dense matrix, compressed.
     fn from_dense(alloc: Global, matrix: &DMatrix<T>) -> Result<Self, Failure>;
 
-    /// Returns the dense form.
+    /// Returns the matrix, dense.
     fn to_dense(&self, alloc: Global) -> Result<DMatrix<T>, AllocError>;
 
-    /// Returns the picture of the matrix in the other form.
+    /// Returns the picture of the matrix in the other format.
     fn turned(&self, turn: &mut Turn) -> Result<String, Failure>;
 
     /// Returns the offsets, the indices and the values.
     fn arrays(&self) -> (&[usize], &[usize], &[T]);
 
-    /// Returns whether two matrices have the same size, places and values.
+    /// Returns whether two matrices have the same size, entries and values.
     fn equals(&self, other: &Self) -> bool;
 }
 

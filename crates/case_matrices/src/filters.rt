@@ -20,7 +20,7 @@ pub enum Kept {
 }
 
 impl Kept {
-    // What a word names: `all`, `none`, `off-diagonal`, `nonzero`, or a place.
+    // What a word names: `all`, `none`, `off-diagonal`, `nonzero`, or a row and a column.
     fn of(word: &str) -> Result<Kept, Failure> {
         match word {
             "all" => Ok(Kept::All),
@@ -46,7 +46,7 @@ impl Kept {
     }
 }
 
-/// The filter of a form.
+/// The filter of a format.
 pub trait Filters<T: Scalar> {
     fn filtered(&self, alloc: Global, kept: Kept) -> Result<Self, Failure>;
 }

@@ -1,4 +1,4 @@
-//! Matrices of rows in both forms: how they are made, shown, converted, filtered and compared.
+//! Matrices of rows in both formats: how they are made, shown, converted, filtered and compared.
 #![tactic(auto)]
 
 pub mod arrays;

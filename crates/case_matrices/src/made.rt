@@ -14,7 +14,7 @@ use nalgebra_sparse::pattern::SparsityPattern;
 use nalgebra_sparse::{CscMatrix, CsrMatrix};
 use std::alloc::{AllocError, Global};
 
-/// How matrices of a form are made, and what they are taken apart into.
+/// How matrices of a format are made, and what they are taken apart into.
 pub trait Made<T: Scalar> {
     /// Returns the matrix of arrays whose lanes need not be sorted, given the number of lanes and their length.
     fn of_unsorted(alloc: Global, size: Size, arrays: Arrays<T>) -> Result<Self, Failure>;
@@ -22,7 +22,7 @@ pub trait Made<T: Scalar> {
     /// Returns the matrix of a pattern and values.
     fn of_parts(pattern: SparsityPattern, values: Vec<T>) -> Result<Self, Failure>;
 
-    /// Returns the matrix of this size without places.
+    /// Returns the matrix of this size without entries.
     fn of_size(alloc: Global, size: Size) -> Result<Self, Failure>;
 
     /// Returns the identity of an order.
@@ -37,7 +37,7 @@ pub trait Made<T: Scalar> {
     /// Returns the matrix of its pattern and values, which are not tested.
     fn rejoined(self) -> Self;
 
-    /// Returns how the transpose in the other form, which takes over the arrays, is shown.
+    /// Returns how the transpose in the other format, which takes over the arrays, is shown.
     fn shown_as_transpose(self, alloc: Global) -> Result<String, Failure>;
 
     /// Returns the picture of a pattern.

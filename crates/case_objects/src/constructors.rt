@@ -14,7 +14,7 @@ use case_words::turn::Turn;
 use case_words::words::Word;
 use nalgebra_sparse::{CscMatrix, CsrMatrix};
 
-/// A form with these calls.
+/// A format with these calls.
 pub trait Constructors<T: Scalar>: Filters<T> + Made<T> + Views<T> {}
 
 impl<T: Scalar> Constructors<T> for CsrMatrix<T> {}
@@ -29,7 +29,7 @@ pub fn is_constructor(keyword: &str) -> bool {
     }
 }
 
-/// Returns the answer of a call of a text, given its first word and the text behind it.
+/// Returns the answer of a call of a text, given its first word and the text after it.
 pub fn constructed<T: Scalar, F: Compressed<T> + Conversions<T> + Constructors<T>>(
     turn: &mut Turn,
     keyword: &str,

@@ -192,7 +192,7 @@ fn set_in<T: Scalar>(
     picture(alloc, &copy)
 }
 
-// Writes a value at a place, if it is in bounds.
+// Writes a value at a row and a column, if it is in bounds.
 fn write<T: Scalar>(matrix: &mut DMatrix<T>, way: Way, (row, col): (usize, usize), value: T) {
     let (nrows, ncols) = (matrix.nrows(), matrix.ncols());
     if nrows <= row || ncols <= col {
@@ -202,20 +202,20 @@ fn write<T: Scalar>(matrix: &mut DMatrix<T>, way: Way, (row, col): (usize, usize
         Way::Set => matrix.set(row, col, value),
         Way::Column => put(matrix.column_mut(col), row, value),
         Way::Columns => put(matrix.columns_mut(col, ncols - col), row, value),
-        Way::Slice => match position(nrows, row, col) {
-            Some(position) => put(matrix.as_mut_slice(), position, value),
+        Way::Slice => match offset(nrows, row, col) {
+            Some(offset) => put(matrix.as_mut_slice(), offset, value),
             None => {}
         },
     }
 }
 
-// The position of a place among all values.
-fn position(nrows: usize, row: usize, col: usize) -> Option<usize> {
+// The offset of an entry among all values.
+fn offset(nrows: usize, row: usize, col: usize) -> Option<usize> {
     col.checked_mul(nrows)?.checked_add(row)
 }
 
-fn put<T: Scalar>(values: &mut [T], position: usize, value: T) {
-    if position < values.len() {
-        values[position] = value;
+fn put<T: Scalar>(values: &mut [T], offset: usize, value: T) {
+    if offset < values.len() {
+        values[offset] = value;
     }
 }

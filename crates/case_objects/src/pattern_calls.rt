@@ -80,7 +80,7 @@ fn pattern_of(alloc: Global, picture: Op<&str>) -> Result<SparsityPattern, Failu
     Ok(pattern)
 }
 
-// The picture of a pattern, or the size and the places of a large one, each as a one.
+// The picture of a pattern, or the size and the entries of a large one, each as a one.
 fn text_of(alloc: Global, pattern: SparsityPattern) -> Result<String, AllocError> {
     let size = (pattern.major_dim(), pattern.minor_dim());
     if !is_large(size) {
@@ -94,7 +94,7 @@ fn text_of(alloc: Global, pattern: SparsityPattern) -> Result<String, AllocError
     Ok(out)
 }
 
-// Appends the places, each behind a space.
+// Appends the entries, each after a space.
 fn draw_places(pattern: &SparsityPattern, out: &mut String) -> Result<(), AllocError> {
     for (lane, index) in pattern.entries() {
         write!(out, " ({lane},{index})")?;
@@ -221,14 +221,14 @@ fn arrays_text(alloc: Global, offsets: &[usize], indices: &[usize]) -> Result<St
     Ok(out)
 }
 
-// The places in order.
+// The entries in order.
 fn entries(alloc: Global, pattern: &SparsityPattern) -> Result<String, Failure> {
     let mut out = String::new(alloc);
     draw_places(pattern, &mut out)?;
     Ok(or_none(alloc, out.as_str())?)
 }
 
-// The transpose, and its values behind it.
+// The transpose, and its values after it.
 fn transpose_with<T: Scalar>(
     turn: &mut Turn,
     pattern: &SparsityPattern,

@@ -13,7 +13,7 @@ use nalgebra_sparse::views::{CooView, CscView, CsrView};
 use nalgebra_sparse::{CscMatrix, CsrMatrix};
 use std::alloc::{AllocError, Global};
 
-/// The view of a form.
+/// The view of a format.
 pub trait Views<T: Scalar> {
     /// Returns the answer of `view A`.
     fn viewed(&self, turn: &mut Turn) -> Result<String, Failure>;

@@ -18,7 +18,7 @@ use nalgebra_sparse::ops::serial::{mul_csc_dense, mul_csr_dense, spmm_csc_dense,
 use nalgebra_sparse::{CscMatrix, CsrMatrix};
 use std::alloc::Global;
 
-/// The products of a form with dense matrices.
+/// The products of a format with dense matrices.
 pub trait DenseProducts<T: Scalar> {
     fn dense_product(&self, alloc: Global, b: &DMatrix<T>) -> Result<DMatrix<T>, Failure>;
 

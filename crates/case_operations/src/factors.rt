@@ -117,7 +117,7 @@ fn ldl_of<T: Scalar>(turn: &mut Turn, a: Op<&str>) -> Result<Ldl<T>, Failure> {
     Ok(turn.end(Ldl::factor(alloc, &matrix))?)
 }
 
-// The factor L, and behind it the diagonal of D.
+// The factor L, and after it the diagonal of D.
 fn ldl_text<T: Scalar>(alloc: Global, ldl: &Ldl<T>) -> Result<String, Failure> {
     let mut out = picture(alloc, ldl.l())?;
     draw_values(ldl.d(), &mut out)?;

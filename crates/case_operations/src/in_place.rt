@@ -15,7 +15,7 @@ use std::alloc::Global;
 pub enum Change {
     Negate,
     Multiply,
-    /// The multiple by a scalar that is behind a reference.
+    /// The multiple by a scalar that is passed by reference.
     MultiplyBy,
     Divide,
 }
@@ -26,7 +26,7 @@ pub const CHANGES: &[(&str, Change)] = &[
     ("A /= k", Change::Divide),
 ];
 
-/// The calls that change the values of a form in place.
+/// The calls that change the values of a format in place.
 pub trait InPlace<T: Scalar> {
     /// Negates or multiplies each value.
     fn changed(self, call: Change, k: T) -> Self;

@@ -15,7 +15,7 @@ const GREATEST: u64 = 18446744073709551615;
 
 const HALF: u64 = 9223372036854775808;
 
-/// Returns the answer of a call on scalars, behind which `mod M` may stand for the residues modulo M.
+/// Returns the answer of a call on scalars, after which `mod M` may stand for the residues modulo M.
 pub fn number<T: Scalar>(turn: &mut Turn, words: &[Word<'_>]) -> Result<String, Failure> {
     let alloc = turn.alloc();
     match *words {

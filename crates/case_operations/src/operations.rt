@@ -18,7 +18,7 @@ use case_words::turn::Turn;
 use case_words::words::Word;
 use nalgebra_sparse::{CscMatrix, CsrMatrix};
 
-/// The arithmetic of a form.
+/// The arithmetic of a format.
 pub trait Operations<T: Scalar>: Sums<T>
     + InPlace<T>
     + Products<T>

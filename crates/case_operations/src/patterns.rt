@@ -21,7 +21,7 @@ pub const PATTERNS: &[(&str, Joined)] = &[
     ("pattern A B", Joined::Product),
 ];
 
-/// The patterns of the sums and products of a form.
+/// The patterns of the sums and products of a format.
 pub trait Patterns<T: Scalar> {
     fn sum_pattern(&self, turn: &mut Turn, other: &Self) -> Result<String, Failure>;
 

@@ -11,7 +11,7 @@ use nalgebra_sparse::ops::serial::{spmm_csc_prealloc, spmm_csr_prealloc};
 use nalgebra_sparse::{CscMatrix, CsrMatrix};
 use std::alloc::Global;
 
-/// The products of a form into a given matrix.
+/// The products of a format into a given matrix.
 pub trait Products<T: Scalar> {
     /// Updates this to `beta C + alpha A B`.
     fn add_product(
@@ -57,7 +57,7 @@ impl<T: Scalar> Products<T> for CscMatrix<T> {
     }
 }
 
-/// Returns the target after `beta C += alpha A B`, which is `beta C + alpha A B` on the places of C.
+/// Returns the target after `beta C += alpha A B`, which is `beta C + alpha A B` on the entries of C.
 pub fn product_into<T: Scalar, F: Compressed<T> + Products<T>>(
     turn: &mut Turn,
     scalars: (T, T),

@@ -33,7 +33,7 @@ pub const JOINS: &[(&str, Join)] = &[
     ("A B", Join::Product),
 ];
 
-/// The sums and products of a form.
+/// The sums and products of a format.
 pub trait Sums<T: Scalar> {
     /// Returns the sum, the difference, or the sum of multiples of two matrices.
     fn sum(
@@ -163,7 +163,7 @@ pub fn joined<T: Scalar, F: Compressed<T> + Sums<T>>(
     made(turn.alloc(), joined)
 }
 
-/// Returns the target after `beta C += alpha A`, which is `beta C + alpha A` on the places of C.
+/// Returns the target after `beta C += alpha A`, which is `beta C + alpha A` on the entries of C.
 pub fn sum_into<T: Scalar, F: Compressed<T> + Sums<T>>(
     turn: &mut Turn,
     scalars: (T, T),

@@ -1,4 +1,4 @@
-//! Products into a matrix that has each of their places, which the call does not test.
+//! Products into a matrix that has each of their entries, which the call does not test.
 
 ghost use Rattle.std.specs.Prelude.{◌≡◌, IsTrue};
 ghost use Rattle.nalgebra_sparse.specs.Operands.{plain_op};
@@ -20,14 +20,14 @@ use nalgebra_sparse::ops::{Op, Steps};
 use nalgebra_sparse::{CscMatrix, CsrMatrix};
 use std::alloc::Global;
 
-/// A call that does not test the places.
+/// A call that does not test the entries.
 #[derive(Clone, Copy)]
 pub enum Way {
     Plain,
     Counted,
 }
 
-/// The products of a form into a matrix that has each of their places.
+/// The products of a format into a matrix that has each of their entries.
 pub trait Unchecked<T: Scalar> {
     /// Updates this to `beta C + alpha A B`, by the call that this way names.
     fn add_covered_product(
@@ -93,7 +93,7 @@ impl<T: Scalar> Unchecked<T> for CscMatrix<T> {
     }
 }
 
-// Whether the target has the places of the product: only then the checked product is made.
+// Whether the target has the entries of the product: only then the checked product is made.
 fn covers_rows<T: Scalar>(
     alloc: Global,
     c: &CsrMatrix<T>,
@@ -120,7 +120,7 @@ fn covers_rows<T: Scalar>(
     }
 }
 
-// Whether the target has the places of the product: only then the checked product is made.
+// Whether the target has the entries of the product: only then the checked product is made.
 fn covers_columns<T: Scalar>(
     alloc: Global,
     c: &CscMatrix<T>,

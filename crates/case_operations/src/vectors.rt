@@ -36,7 +36,7 @@ pub const VECTORS: &[(&str, VectorCall)] = &[
     ("usaxpy l A B", VectorCall::SparseAxpy),
 ];
 
-/// The lanes of a form with dense vectors: its rows, or its columns.
+/// The lanes of a format with dense vectors: its rows, or its columns.
 pub trait Vectors<T: Scalar> {
     /// Returns the dot product of a lane and a vector.
     fn dot(&self, lane: usize, x: &[T]) -> Result<T, Failure>;
@@ -81,8 +81,8 @@ impl<T: Scalar> Vectors<T> for CscMatrix<T> {
     }
 }
 
-/// Returns the answer of one of these calls. The first vector of a sparse call has the columns of a list as its indices,
-/// in the order of the list.
+/// Returns the answer of one of these calls. The first vector of a sparse call has the columns of a list as its
+/// indices, in the order of the list.
 pub fn with_vector<T: Scalar, F: Compressed<T> + Vectors<T>>(
     turn: &mut Turn,
     call: VectorCall,

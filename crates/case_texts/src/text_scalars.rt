@@ -1,4 +1,4 @@
-//! The scalar types of Matrix Market texts, written as integers, or as `x` where a text holds places alone.
+//! The scalar types of Matrix Market texts, written as integers, or as `x` where a text holds a pattern.
 
 use case_words::failure::Failure;
 use case_words::scalar::Scalar;
@@ -11,7 +11,7 @@ pub trait TextScalar: MatrixMarketScalar + Drop {
     /// Returns the value of a number, if the type has one.
     fn of(number: i128) -> Option<Self>;
 
-    /// Returns the number of the value, or `None` if it is that of a place.
+    /// Returns the number of the value, or `None` if it is that of a pattern's entry.
     fn shown(self) -> Option<i128>;
 }
 
@@ -95,7 +95,7 @@ impl TextScalar for W128 {
     }
 }
 
-/// The value of a place is written as `x`, which is read as one.
+/// The value of a pattern's entry is written as `x`, which is read as one.
 impl TextScalar for () {
     fn of(number: i128) -> Option<()> {
         if number == 1 { Some(()) } else { None }

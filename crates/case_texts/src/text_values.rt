@@ -14,8 +14,8 @@ use std::alloc::{AllocError, Global};
 use std::io;
 use std::io::ErrorKind::{BrokenPipe, NotFound, WriteZero};
 
-/// Returns the answer of `from-integer N`, `from-pattern`, `negative-of V`, `conjugate-of V` or `text-of V`, where V is an
-/// integer, or `x` for the value of a place.
+/// Returns the answer of `from-integer N`, `from-pattern`, `negative-of V`, `conjugate-of V` or `text-of V`, where V is
+/// an integer, or `x` for the value of a pattern's entry.
 pub fn valued<T: TextScalar>(turn: &mut Turn, name: &str, word: &str) -> Result<String, Failure> {
     match name {
         "from-pattern" => value_text::<T>(turn.alloc(), T::from_pattern(())),

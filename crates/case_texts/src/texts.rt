@@ -29,7 +29,7 @@ pub fn is_on_texts(name: &str) -> bool {
     }
 }
 
-/// Returns the answer of a call on texts, over the scalar type and in the form of these names.
+/// Returns the answer of a call on texts, over the scalar type and in the format of these names.
 pub fn answer_on_texts(
     turn: &mut Turn,
     (scalar, form): (&str, &str),
@@ -73,7 +73,7 @@ fn read<T: TextScalar>(turn: &mut Turn, first: &str, lines: &str) -> Result<Stri
     Ok(listed(alloc, &list)?)
 }
 
-/// Returns the triplets of a matrix in its order, in brackets behind its size.
+/// Returns the triplets of a matrix in its order, in brackets after its size.
 pub fn listed<T: TextScalar, S: MatrixMarketExport<T>>(
     alloc: Global,
     matrix: &S,

@@ -122,7 +122,7 @@ pub fn below(alloc: Global, text: &str) -> Result<String, Failure> {
     }
 }
 
-// The format, the field and the symmetry of a written text, and its lines behind the comment.
+// The format, the field and the symmetry of a written text, and its lines after the comment.
 fn heading_and_lines(text: &str) -> Option<(&str, &str)> {
     let (first, rest) = text.strip_prefix(FIRST)?.split_once('\n')?;
     Some((first, rest.strip_prefix(COMMENT)?))

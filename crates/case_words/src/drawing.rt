@@ -165,7 +165,7 @@ fn draw_place(
     }
 }
 
-/// Returns the triplets of a list in its order, in brackets behind its size.
+/// Returns the triplets of a list in its order, in brackets after its size.
 pub fn triplets<T: Scalar>(alloc: Global, list: &CooMatrix<T>) -> Result<String, AllocError> {
     let mut out = format!(in alloc; "[{}x{}", list.nrows(), list.ncols())?;
     for (row, col, value) in list.triplet_iter() {
@@ -175,7 +175,7 @@ pub fn triplets<T: Scalar>(alloc: Global, list: &CooMatrix<T>) -> Result<String,
     Ok(out)
 }
 
-/// Appends a triplet, behind a space.
+/// Appends a triplet, after a space.
 pub fn draw_triplet<T: Scalar>(
     row: usize,
     col: usize,
@@ -192,7 +192,7 @@ pub fn draw_number<T: Scalar>(value: T, out: &mut String) -> Result<(), AllocErr
     write!(out, "{number}")
 }
 
-/// Appends the numbers of scalars, each behind a space.
+/// Appends the numbers of scalars, each after a space.
 pub fn draw_values<T: Scalar>(values: &[T], out: &mut String) -> Result<(), AllocError> {
     for value in values {
         out.push_str(" ")?;
@@ -201,7 +201,7 @@ pub fn draw_values<T: Scalar>(values: &[T], out: &mut String) -> Result<(), Allo
     Ok(())
 }
 
-/// Appends indices, each behind a space.
+/// Appends indices, each after a space.
 pub fn draw_indices(indices: &[usize], out: &mut String) -> Result<(), AllocError> {
     for index in indices {
         write!(out, " {index}")?;

@@ -31,7 +31,7 @@ pub enum Failure {
 }
 
 impl Failure {
-    /// Returns the kind of the error, and behind a colon its message.
+    /// Returns the kind of the error, and after a colon its message.
     pub fn text(&self, alloc: Global) -> Result<String, AllocError> {
         match self {
             Failure::Unreadable(why) => format!(in alloc; "unreadable: {why}"),

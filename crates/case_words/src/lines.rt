@@ -1,12 +1,12 @@
 //! Texts of several lines, written in one row.
 //!
-//! A `|` ends a line, and the blanks around it are not part of the line. The escapes `\s`, `\t`, `\f`, `\r` and `\n` stand
-//! for a blank, a tab, a form feed, a carriage return and a line feed.
+//! A `|` ends a line, and the blanks around it are not part of the line. The escapes `\s`, `\t`, `\f`, `\r` and `\n`
+//! stand for a blank, a tab, a form feed, a carriage return and a line feed.
 
 use crate::failure::Failure;
 use std::alloc::{AllocError, Global};
 
-// The letters behind a backslash, and what they stand for.
+// The letters after a backslash, and what they stand for.
 const ESCAPES: [(&str, &str); 5] = [
     ("s", " "),
     ("t", "\t"),

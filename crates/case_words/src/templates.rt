@@ -63,7 +63,7 @@ fn without_operands<'a>(words: &'a [Word<'a>]) -> Operands<'a> {
     }
 }
 
-// The operands with the words behind so many of them as the rest.
+// The operands with the words after the first ones as the rest.
 fn with_rest<'a>(given: Operands<'a>, count: usize) -> Option<Operands<'a>> {
     if given.rest.len() < count {
         return None;

@@ -4,7 +4,7 @@ use crate::failure::Failure;
 use nalgebra_sparse::ops::Op;
 use std::alloc::Global;
 
-/// A word of a call: a picture in brackets, behind which `'` stands for the transpose, a number, or a name.
+/// A word of a call: a picture in brackets, after which `'` stands for the transpose, a number, or a name.
 #[derive(Clone, Copy)]
 pub enum Word<'a> {
     Matrix(Op<&'a str>),
@@ -80,7 +80,7 @@ pub fn place_of(word: &str) -> Result<(usize, usize), Failure> {
     }
 }
 
-/// Returns what stands in the parentheses of a word.
+/// Returns the text in the parentheses of a word.
 pub fn inside(word: &str) -> Option<&str> {
     word.strip_prefix("(")?.strip_suffix(")")
 }

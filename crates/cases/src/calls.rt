@@ -19,7 +19,7 @@ use case_words::words::{Word, words_of};
 use nalgebra_sparse::{CscMatrix, CsrMatrix};
 use std::alloc::Global;
 
-/// A form of a matrix, with all calls on it.
+/// A format of a matrix, with all calls on it.
 pub trait Form<T: Scalar>: Compressed<T>
     + Constructors<T>
     + Conversions<T>
@@ -33,7 +33,7 @@ impl<T: Scalar> Form<T> for CsrMatrix<T> {}
 
 impl<T: Scalar> Form<T> for CscMatrix<T> {}
 
-/// Returns what a call answers over the scalars `T` in the form `F`. Behind `display` an error of an operation is
+/// Returns what a call answers over the scalars `T` in the format `F`. After `display` an error of an operation is
 /// displayed.
 pub fn answer<T: Scalar, F: Form<T>>(turn: &mut Turn, call: &str) -> Result<String, Failure> {
     match call.strip_prefix("display ") {
@@ -59,7 +59,7 @@ fn answer_plain<T: Scalar, F: Form<T>>(turn: &mut Turn, call: &str) -> Result<St
     }
 }
 
-// The answer of a call with these words: of one that makes, reads or compares matrices of the form, or of another.
+// The answer of a call with these words: of one that makes, reads or compares matrices of the format, or of another.
 fn of_words<T: Scalar, F: Form<T>>(turn: &mut Turn, words: &[Word<'_>]) -> Result<String, Failure> {
     if let [Word::Matrix(a)] = *words {
         return read::<T, F>(turn, a);

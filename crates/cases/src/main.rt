@@ -1,8 +1,8 @@
 //! The program `cases`: rows of tables, each a call of the library and its answer.
 //!
-//! `cases FILE..` runs the rows of the files, prints those that fail, and last `N passed, M failed`. `cases refuse BEFORE
-//! AFTER FILE` runs the rows with idle requests for memory before and after each call, and prints which of them was
-//! refused: where a fixed request of the program is refused, these numbers decide which request of a call that is.
+//! `cases FILE..` runs the rows of the files, prints those that fail, and last `N passed, M failed`. `cases refuse
+//! BEFORE AFTER FILE` runs the rows with idle requests for memory before and after each call, and prints which of them
+//! was refused: where a fixed request of the program is refused, these numbers decide which request of a call that is.
 #![tactic(auto)]
 
 mod calls;

@@ -1,4 +1,4 @@
-//! The scalars and the forms that rows are run over.
+//! The scalars and the formats that rows are run over.
 
 use crate::calls::answer;
 use case_matrices::compressed::{Compressed, matrix_of, shown};
@@ -12,7 +12,7 @@ use nalgebra_sparse::scalar::{Mod, W32, W64, W128};
 use nalgebra_sparse::{CscMatrix, CsrMatrix};
 use std::alloc::{AllocError, Global};
 
-/// Returns whether these are names of scalars and forms, with one of each.
+/// Returns whether these are names of scalars and formats, with one of each.
 pub fn is_over(words: &str) -> bool {
     let mut forms = false;
     let mut scalars = false;
@@ -37,7 +37,7 @@ const SCALARS: &[&str] = &[
     "Places",
 ];
 
-// Whether this is the name of a scalar. Plain integers and places are scalars of texts alone.
+// Whether this is the name of a scalar. Plain integers and the value of a pattern's entry are scalars of texts alone.
 fn is_scalar(name: &str) -> bool {
     SCALARS.iter().any(|scalar| *scalar == name)
 }
@@ -49,8 +49,8 @@ pub struct Answer {
     pub fits: bool,
 }
 
-/// Returns the answer of a call over the scalar and in the form of these names, or `None` where one of them is no such
-/// name.
+/// Returns the answer of a call over the scalar and in the format of these names, or `None` where one of them is no
+/// such name.
 pub fn answer_over(
     turn: &mut Turn,
     (scalar, form): (&str, &str),
@@ -67,7 +67,7 @@ pub fn answer_over(
     Ok(Some(Answer { text, fits }))
 }
 
-// The answer of a call over the scalar and in the form of these names.
+// The answer of a call over the scalar and in the format of these names.
 fn answer_in(turn: &mut Turn, (scalar, form): (&str, &str), call: &str) -> Result<String, Failure> {
     let (name, _) = name_of(call);
     if is_on_texts(name) {

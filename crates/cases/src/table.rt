@@ -1,8 +1,9 @@
 //! Tables: their lines, and whether each row holds.
 //!
-//! A line is empty, a comment behind `#`, names behind `over`, or a row `CALL -> ANSWER`, behind which ` #` begins a
-//! comment. A row holds if the call gives that answer over each scalar and in each form that the last line `over` names.
-//! A line `calls` names the public calls that the rows below it make, for the script that refuses their requests.
+//! A line is empty, a comment after `#`, names after `over`, or a row `CALL -> ANSWER`, after which ` #` begins a
+//! comment. A row holds if the call gives that answer over each scalar and in each format that the last line `over`
+//! names. A line `calls` names the public calls that the rows below it make, for the script that refuses their
+//! requests.
 
 use crate::over::{Answer, answer_over, is_over};
 use case_words::turn::Turn;
@@ -33,7 +34,7 @@ impl Count {
     }
 }
 
-// The scalars and the forms of the rows before the first line `over`.
+// The scalars and the formats of the rows before the first line `over`.
 const OVER: &str = "rows columns W32 W64 W128";
 
 /// Runs the rows of a table, and prints those that fail.
@@ -97,7 +98,7 @@ fn fault(alloc: Global, over: &str, row: &str) -> Result<Option<String>, AllocEr
     Ok(None)
 }
 
-// The first fault in a form, over all scalars.
+// The first fault in a format, over all scalars.
 fn fault_in(
     alloc: Global,
     (form, over): (&str, &str),
@@ -142,7 +143,7 @@ pub fn refuse_table(rt: &HostRuntime, text: &str, before: usize, after: usize) -
     Ok(())
 }
 
-// The answer over the first scalar and in the first form: `over rows W64` or `over columns W64`.
+// The answer over the first scalar and in the first format: `over rows W64` or `over columns W64`.
 fn first_answer(
     turn: &mut Turn,
     over: &str,

@@ -23,7 +23,7 @@ use Rattle.examples_theorems.proofs.FoldedBlocks.{fold_by, fold_block-within, fo
 is_at_own : {T : Type 0} (i j : ℕ) (v : T) → is_at i j (i, j, v) ≡ true
 is_at_own i j v = grind (arith, nat_tests)
 
--- whether (i, j) is a place of a block that begins at (r, c)
+-- whether (i, j) lies in a block that begins at (r, c)
 abbrev covers : {T : Type 0} → ℕ → ℕ → Dense T → ℕ → ℕ → Bool
 covers r c d i j = (nat_le r i && nat_le c j) && is_inside d (i - r) (j - c)
 
@@ -46,7 +46,7 @@ not_covered : {T : Type 0} (r c : ℕ) (d : Dense T) (i j : ℕ) → covers r c 
     → (k l : ℕ) → l < d.nrows → k < d.ncols → r + l ≡ i → c + k ≡ j → ⊥
 not_covered r c d i j miss k l row col at_row at_col = grind (arith, nat_tests)
 
--- ---- the places
+-- ---- the pairs (i, j) of a block
 
 any_is_fold : {X : Type 0} (t : X → Bool) (xs : List X)
     → list_any t xs ≡ fold_by false (λ a b. a || b) t xs
@@ -55,7 +55,7 @@ any_is_fold t (x ∷ xs) = ap (λ b. t x || b) (any_is_fold t xs)
 
 module _ {T : Type 0} (r c : ℕ) (d : Dense T) (z : T)
     (full : length d.values ≡ d.nrows * d.ncols) where
-  -- the places of a block's triplets are those that it covers
+  -- the pairs (i, j) of a block's triplets are those that the block covers
   block-has : (i j : ℕ) → list_any (is_at i j) (block_triplets r c d) ≡ covers r c d i j
   block-has i j = any_is_fold (is_at i j) (block_triplets r c d)
       ∙ elim (cases_Bool (covers r c d i j)) [

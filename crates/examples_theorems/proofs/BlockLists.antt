@@ -9,7 +9,7 @@ append-none [] = refl
 append-none (x ∷ xs) = ap (λ ys. x ∷ ys) (append-none xs)
 
 module _ {T : Type 0} (start nrows ncols : ℕ) where
-  -- at first all triplets are to be appended to an empty list
+  -- at first all triplets are still to be appended to an empty list
   pub started : (all first : List (ℕ × ℕ × T)) (m : Coo T) → first ≡ all
       → m ≡ coo_of nrows ncols [] → IsBlockWithout start nrows ncols all first m
   started all first m same new = record {
@@ -20,7 +20,7 @@ module _ {T : Type 0} (start nrows ncols : ℕ) where
         ap (λ l. l.triplets ++ flat_map one first) new ∙ ap (flat_map one) same;
   }
 
-  -- one triplet less is to be appended
+  -- a triplet was appended
   pub one_less : (all rest more : List (ℕ × ℕ × T)) (t : ℕ × ℕ × T) (m next : Coo T)
       → rest ≡ t ∷ more → next ≡ appended m (one_in_block start m.nrows m.ncols t)
       → IsBlockWithout start nrows ncols all rest m → IsBlockWithout start nrows ncols all more next
@@ -38,7 +38,7 @@ module _ {T : Type 0} (start nrows ncols : ℕ) where
         ∙ ap (λ ts. m.triplets ++ flat_map one ts) (sym first) ∙ kept.triplets;
   }
 
-  -- the list is the block's once no triplet is left
+  -- all triplets were appended
   pub none_left : (all rest : List (ℕ × ℕ × T)) (m : Coo T) → rest ≡ []
       → IsBlockWithout start nrows ncols all rest m
       → m ≡ coo_of nrows ncols (flat_map (one_in_block start nrows ncols) all)

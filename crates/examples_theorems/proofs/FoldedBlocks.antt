@@ -1,4 +1,4 @@
--- Folds over the triplets of a block: at a pair within the block one triplet alone counts.
+-- Folds over the triplets of a block: at a pair within the block a single triplet counts.
 use Rattle.std.proofs.Common.{◌≡◌, ℕ, zero, suc, ◌+◌, ◌*◌, ◌<◌, ◌≢◌, inl, inr, false}
 use Rattle.std.proofs.Common.{List, [], ◌∷◌, ◌++◌, Option, Some, None, length, get_or, map, ap, sym}
 use Rattle.std.proofs.Common.{◌∙◌, refl, arith}
@@ -14,7 +14,7 @@ use Rattle.nalgebra_sparse.specs.Plain.{is_at, below}
 use Rattle.nalgebra_sparse.specs.Dense.{Dense}
 use Rattle.nalgebra_sparse.specs.Blocks.{triplet_at, block_triplets}
 
--- f of the first element, and so on, joined by op
+-- the values f x of a list's elements, combined by op, with e at the end
 abbrev pub fold_by : {M X : Type 0} → M → (M → M → M) → (X → M) → List X → M
 fold_by e op f [] = e
 fold_by e op f (x ∷ xs) = op (f x) (fold_by e op f xs)

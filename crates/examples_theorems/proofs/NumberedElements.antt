@@ -22,7 +22,7 @@ use Rattle.examples_theorems.specs.declared.elements.Element.{Element}
 use Rattle.examples_theorems.specs.Elements.{IsNumbered, is_numbered_at, numbered_element}
 use Rattle.examples_theorems.specs.InnerElements.{element_triplet, row_triplets, element_triplets}
 
--- one number more
+-- the lists of the numbers below n + 1 are those of the numbers below n and that of n
 flat_map-next : {X : Type 0} (h : ℕ → List X) (n : ℕ)
     → flat_map h (below (n + 1)) ≡ flat_map h (below n) ++ h n
 flat_map-next h n = ap (λ k. flat_map h (below k)) (add-one n)
@@ -33,7 +33,7 @@ flat_map-suc : {X : Type 0} (h : ℕ → List X) (n : ℕ)
 flat_map-suc h n = flat_map-append h (below n) (n ∷ [])
     ∙ ap (λ l. flat_map h (below n) ++ l) (append-nil (h n))
 
--- a list with the triplets of one number more
+-- a list to which the triplets of the next number are appended
 pub appended_more : {T : Type 0} (first list next : Coo T) (h : ℕ → List (ℕ × ℕ × T)) (n : ℕ)
     (ts : List (ℕ × ℕ × T)) → list ≡ appended first (flat_map h (below n))
     → next ≡ appended list ts → ts ≡ h n → next ≡ appended first (flat_map h (below (n + 1)))
@@ -43,7 +43,7 @@ appended_more first list next h n ts so_far added is = added
     ∙ ap (λ l. first.triplets ++ (flat_map h (below n) ++ l)) is
     ∙ ap (λ l. first.triplets ++ l) (sym (flat_map-next h n)))
 
--- the triplet of what is read at row k and column l
+-- the triplet of the value that is read at row k and column l
 pub triplet_is : {T : Type 0} (z : T) (e : Element T) (nrows ncols k l r c : ℕ) (v : T)
     → IsNumbered nrows ncols e → length e.matrix.values ≡ e.matrix.nrows * e.matrix.ncols
     → k < e.matrix.nrows → l < e.matrix.ncols
@@ -60,7 +60,7 @@ triplet_is z e nrows ncols k l r c v numbered full row col at_row at_col value =
     value ∙ get_or_default e.matrix.values (l * e.matrix.nrows + k) v z within in
     λ k. (first k, second k, third k) ∷ []
 
--- a test of some triplet among those of the numbers below n
+-- whether a test holds of some triplet of a number below n
 any-flat : {X : Type 0} (t : X → Bool) (h : ℕ → List X) (u : ℕ → Bool)
     → ((k : ℕ) → list_any t (h k) ≡ u k) → (n : ℕ)
     → list_any t (flat_map h (below n)) ≡ any_below n u
@@ -80,7 +80,7 @@ sum-flat R g h s (suc n) same = ap (sum_by R g) (flat_map-suc h n)
     ∙ ap (R.add (sum_below R n s)) (same n (omega arith))
 
 module _ (R : CommRing) {T : Type 0} (f : T → R.Carrier) (z : T) (zero_law : f z ≡ R.zero) where
-  -- what a value of a dense matrix means
+  -- the ring element of a value of a dense matrix
   value-meant : (d : Dense T) (k l : ℕ) → k < d.nrows → l < d.ncols
       → f (value_at d k l z) ≡ (plain_of_dense R f d).value k l
   value-meant d k l row col =

@@ -18,7 +18,7 @@ use Rattle.nalgebra_sparse.specs.Sums.{sum_below, where_true}
 use Rattle.examples_theorems.specs.OnlySolutions.{Solves, IsOnlySolution}
 
 module _ (R : CommRing) where
-  -- where two sums are equal, and all terms but one, that one is equal too
+  -- if two sums are equal and all their terms but one are, so is that one
   one_term : (n i : ℕ) (f g : ℕ → R.Carrier) → i < n → sum_below R n f ≡ sum_below R n g
       → ((k : ℕ) → k < n → k ≢ i → f k ≡ g k) → f i ≡ g i
   one_term zero i f g lt sums same = absurd (omega arith)
@@ -54,14 +54,14 @@ module _ (R : CommRing) where
   both_zero : (t x y : R.Carrier) → t ≡ R.zero → R.mul t x ≡ R.mul t y
   both_zero t x y is = ap (λ c. R.mul c x) is ∙ zero_mul R x ∙ sym (ap (λ c. R.mul c y) is ∙ zero_mul R y)
 
-  -- the rows of t give x and y the same values
+  -- t x and t y have equal values
   abbrev pub AreSolutions : ℕ → (ℕ → ℕ → R.Carrier) → (ℕ → R.Carrier) → (ℕ → R.Carrier) → Type 0
   AreSolutions n t x y = (i : ℕ) → i < n
       → sum_below R n (λ k. R.mul (t i k) (x k)) ≡ sum_below R n (λ k. R.mul (t i k) (y k))
 
   module _ (n : ℕ) (t : ℕ → ℕ → R.Carrier) (x y : ℕ → R.Carrier) (both : AreSolutions n t x y)
       (units : (k : ℕ) → k < n → IsUnit (t k k)) where
-    -- the values at i, where those at all other columns of row i are equal
+    -- x and y are equal at i if they are equal at all other columns of row i
     at_row : (i : ℕ) → i < n → ((k : ℕ) → k < n → k ≢ i → R.mul (t i k) (x k) ≡ R.mul (t i k) (y k))
         → x i ≡ y i
     at_row i lt others = divided (t i i) (x i) (y i) (units i lt)
@@ -115,7 +115,7 @@ module _ (R : CommRing) where
         subst IsUnit (sym (on_diagonal k lt)) (units k (omega (arith, lower.square)))
 
     module _ (x y : Plain R) (c : ℕ) where
-      -- Lᵀ x and Lᵀ y have the same values only if x and y have
+      -- x and y are equal if Lᵀ x and Lᵀ y are
       peel_transposed : ((k : ℕ) → k < l.rows
           → (plain_product R (plain_transpose R l) x).value k c
           ≡ (plain_product R (plain_transpose R l) y).value k c)
@@ -176,7 +176,7 @@ module _ (R : CommRing) where
             (λ i inside. parts-same x i inside ∙ same i inside ∙ sym (parts-same y i inside)))
             k (omega (arith, lower.square)))
 
--- what a factorisation solves is the only solution
+-- the solution that a factorisation finds is the only one
 module _ (R : CommRing) {T : Type 0} (f : T → R.Carrier) (z : T) (a : Compressed T) (s : Factors T)
     (square : a.pattern.minor_dim ≡ a.pattern.major_dim)
     (rows : s.l.pattern.minor_dim ≡ a.pattern.minor_dim)

@@ -1,4 +1,4 @@
--- Products of pivots, and that the factors of a factorisation are factors.
+-- Products of pivots, and the factors that a factorisation stores.
 use Rattle.std.proofs.Common.{◌≡◌, ℕ, zero, suc, ◌<◌, length, ap, ◌∙◌, sym, subst, refl, arith}
 use Rattle.nalgebra_sparse.specs.Algebra.{CommRing}
 use Rattle.nalgebra_sparse.specs.Compressed.{Compressed}

@@ -32,7 +32,7 @@ any_below-same zero s t h = refl
 any_below-same (suc n) s t h = ap (λ b. b || s n) (any_below-same n s t h)
     ∙ ap (λ b. any_below n t || b) (h n)
 
--- a test of one factor is one of the product
+-- a condition that does not depend on k is moved out of a test of all k
 any_below-first : (b : Bool) (n : ℕ) (s t : ℕ → Bool)
     → any_below n (λ k. (b && s k) && t k) ≡ (b && any_below n (λ k. s k && t k))
 any_below-first true n s t = refl
@@ -106,7 +106,7 @@ module _ (R : CommRing) where
 
   -- ---- blocks stacked again
 
-  -- what is at row i of two blocks that follow each other
+  -- the row i of two consecutive blocks of rows
   chosen : {X : Type 0} (start m n i : ℕ) (pick : Bool → ℕ → X)
       → (if nat_lt i m then pick (nat_lt i m) (start + i) else pick (nat_lt (i - m) n) (start + m + (i - m)))
       ≡ pick (nat_lt i (m + n)) (start + i)

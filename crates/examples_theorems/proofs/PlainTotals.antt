@@ -1,4 +1,4 @@
--- Sums of plain matrices, one matrix after another.
+-- Sums of plain matrices, which are added one after the other.
 use Rattle.std.proofs.Common.{◌≡◌, ℕ, ◌+◌, ◌<◌, Bool}
 use Rattle.std.proofs.Common.{List, [], ◌∷◌, ◌++◌, length, take}
 use Rattle.std.proofs.Common.{get_or, ap, sym, ◌∙◌}
@@ -58,14 +58,14 @@ module _ (R : CommRing) where
             ∙ ap (R.add (sum_by R value xs)) (ap (λ a. a.value i j) one)
             ∙ sym (sum_by-push value xs x)
 
-  -- a list of triplets with this shape is the sum of these matrices
+  -- the plain matrix of a list of triplets of this shape is the sum of these matrices
   pub record IsTotal {T X : Type 0} (f : T → R.Carrier) (nrows ncols : ℕ) (g : X → Plain R)
       (m : Coo T) (xs : List X) : Type 0 where
     pub rows : m.nrows ≡ nrows
     pub cols : m.ncols ≡ ncols
     pub plain : plain_of_coo R f m ≡ plain_total R nrows ncols g xs
 
-  -- it is the sum with one matrix more once the triplets of that matrix are appended
+  -- appending the triplets of a matrix adds that matrix to the sum
   pub total_appended : {T X : Type 0} (f : T → R.Carrier) (nrows ncols : ℕ) (g : X → Plain R)
       (m next : Coo T) (xs : List X) (n : ℕ) (x : X) (ts : List (ℕ × ℕ × T))
       → next ≡ appended m ts → n < length xs → x ≡ get_or xs n x

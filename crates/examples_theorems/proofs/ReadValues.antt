@@ -29,7 +29,7 @@ module _ {T V : Type 0} (h : T → V) where
     sum-read i j [] = refl
     sum-read i j (t ∷ ts) = ap (R.add (where_true R (is_at i j t) (f (h t.2)))) (sum-read i j ts)
 
-    -- both lists have one plain matrix
+    -- both lists have the same plain matrix
     pub plain-read : (m : Coo T) → plain_of_coo R f (values_of h m) ≡ plain_of_coo R (λ x. f (h x)) m
     plain-read m = λ k. record {
       rows = m.nrows;
@@ -45,7 +45,7 @@ module _ {T V : Type 0} (h : T → V) where
     lines-read [] = refl
     lines-read (t ∷ ts) = ap (λ l. triplet_line (λ x. text (h x)) t ++ l) (lines-read ts)
 
-    -- both lists have one text
+    -- both lists have the same text
     pub text-read : (name : List ℕ) (m : Coo T)
         → text_of name (λ x. text (h x)) m ≡ text_of name text (values_of h m)
     unfolding written_text

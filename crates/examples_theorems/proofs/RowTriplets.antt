@@ -89,7 +89,7 @@ module _ (R : CommRing) where
         ∙ where_true-add R (covers nrows ncols i j) (at_pair (start + i) j t)
         (sum_by R (at_pair (start + i) j) ts)
 
-  -- a test that a place passes can be left out
+  -- a test that follows from another one can be left out beside it
   passes-has : (a b h : Bool) → (h ≡ true → b ≡ true) → ((a && b) && h) ≡ (a && h)
   passes-has a true h e = ap (λ x. x && h) (and-true a)
     where

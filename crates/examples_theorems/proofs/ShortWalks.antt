@@ -6,7 +6,7 @@ use Rattle.std.specs.List.{list_any, IsDistinct, AllByRecursion}
 use Rattle.std.proofs.lemmas.Bool.{cases_Bool, or_cases, or_parts, eqb-true}
 use Rattle.std.proofs.lemmas.Map.Keys.{IsDistinct-cons, IsDistinct-tail}
 use Rattle.std.proofs.lemmas.Map.Steps.{length-le_from_distinct_below}
-use Rattle.nalgebra_sparse.specs.Raw.{Raw, IsPlace}
+use Rattle.nalgebra_sparse.specs.Raw.{Raw, IsEntry}
 use Rattle.examples_theorems.specs.Walking.{WalkWithin, HoldsWalks, HoldsReachable}
 use Rattle.examples_theorems.specs.Walking.WalkWithin.{here, step}
 
@@ -32,7 +32,7 @@ module _ (p : Raw) where
     -- a walk from i through these indices, of which the last is j
     abbrev IsTrail : ℕ → List ℕ → Type 0
     IsTrail i [] = (i ≡ j) × (i < p.major_dim)
-    IsTrail i (m ∷ vs) = IsPlace p i m × IsTrail m vs
+    IsTrail i (m ∷ vs) = IsEntry p i m × IsTrail m vs
 
     walk_of : (i : ℕ) (vs : List ℕ) → IsTrail i vs → WalkWithin p (length vs) i j
     walk_of i [] trail =
@@ -76,7 +76,7 @@ module _ (p : Raw) where
               rest_from m vs trail.1 (IsDistinct-tail eqb i (m ∷ vs) distinct) q later
         ]
 
-    one_more : (i m : ℕ) → IsPlace p i m → HasPath m → HasPath i
+    one_more : (i m : ℕ) → IsEntry p i m → HasPath m → HasPath i
     one_more i m a (vs, trail, distinct) = elim (cases_Bool (list_any (eqb i) (m ∷ vs))) [
       | inl hit ↦ rest_from m vs trail distinct i hit
       | inr miss ↦ (
@@ -97,7 +97,7 @@ module _ (p : Raw) where
       length-le_from_distinct_below (i ∷ path.0) p.major_dim path.2 (each_below j i path.0 path.1) in
       longer_to (length path.0) p.major_dim i j (omega arith) (walk_of j i path.0 path.1)
 
-  -- as many steps as there are lanes reach all that walks of any length reach
+  -- walks of at most as many steps as there are lanes join all pairs that any walks join
   pub walks_of_any_length : (r : Raw) → HoldsWalks p p.major_dim r → HoldsReachable p r
   walks_of_any_length r holds i j = (
     λ place. (p.major_dim, (holds i j).0 place),

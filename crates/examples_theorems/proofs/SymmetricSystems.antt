@@ -26,7 +26,7 @@ module _ (R : CommRing) where
         ∙ ap (a.value j) (max-eq_left le) ∙ ap (λ (b : Plain R). b.value i j) h
   ]
 
-  -- what solves the system of the factors solves that of the matrix
+  -- the product of the matrix and a solution for its factors is the right side
   pub product_is : (a f x b c : Plain R) (n m : ℕ) → a.cols ≡ n → f.cols ≡ n
       → plain_transpose R a ≡ a → HasSameValues R n n f (plain_symmetric R a)
       → plain_full R (plain_product R f x) ≡ b → c ≡ plain_full R (plain_product R a x)
@@ -41,7 +41,7 @@ module _ (R : CommRing) where
       ∙ ap (λ s. sum_below R s (λ k. R.mul (f.value i k) (x.value k j))) (sym same)
       ∙ ap (λ (p : Plain R). p.value i j) solved
 
--- the factors that the library keeps are a factorisation
+-- the factors that a factorisation stores are factors of the symmetric matrix
 pub factors_exist : (R : CommRing) {T : Type 0} (f : T → R.Carrier) (z : T) (a : Compressed T)
     (s : Factors T) → s.l.pattern.minor_dim ≡ a.pattern.minor_dim
     → length s.d ≡ a.pattern.minor_dim → IsUnitLower R (plain_of_cols R f s.l)

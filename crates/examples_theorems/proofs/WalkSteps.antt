@@ -1,4 +1,4 @@
--- One step more of the walks along a pattern.
+-- Walks along a pattern that are one step longer.
 use Rattle.std.proofs.Common.{◌≡◌, ℕ, zero, suc, ◌<◌, ◌⊎◌, inl, inr, refl, subst, sym}
 use Rattle.std.proofs.Common.{ap, ◌∙◌}
 use Rattle.std.specs.Prelude.{nat_eq, nat_lt, ◌&&◌}
@@ -8,8 +8,8 @@ use Rattle.nalgebra_sparse.specs.Algebra.{CommRing}
 use Rattle.nalgebra_sparse.specs.Plain.{plain_identity}
 use Rattle.nalgebra_sparse.specs.Compressed.{Compressed}
 use Rattle.nalgebra_sparse.specs.PlainOfLanes.{plain_of_rows}
-use Rattle.nalgebra_sparse.specs.Standing.{HasLanesAsRows}
-use Rattle.nalgebra_sparse.specs.Raw.{Raw, IsPlace}
+use Rattle.nalgebra_sparse.specs.ArraysDeterminePlain.{HasLanesAsRows}
+use Rattle.nalgebra_sparse.specs.Raw.{Raw, IsEntry}
 use Rattle.nalgebra_sparse.specs.Products.{IsProductOf}
 use Rattle.nalgebra_sparse.specs.PatternSums.{IsUnionOf}
 use Rattle.examples_theorems.specs.Walking.{IsDiagonal, WalkWithin, HoldsWalks, TakesSteps}
@@ -34,14 +34,14 @@ diagonal-walks p d is i j = (
 
 module _ (p d b r next : Raw) (k : ℕ) (is : IsDiagonal d p.major_dim) (union : IsUnionOf b d p)
     (walks : HoldsWalks p k r) (product : IsProductOf next b r) where
-  to_walk : (i m j : ℕ) → (IsPlace d i m ⊎ IsPlace p i m) → WalkWithin p k m j
+  to_walk : (i m j : ℕ) → (IsEntry d i m ⊎ IsEntry p i m) → WalkWithin p k m j
       → WalkWithin p (suc k) i j
   to_walk i m j (inl onto) walk =
       let P : ℕ → Type 0 = λ t. WalkWithin p k t j in
       longer p k i j (subst P (sym ((is i m).0 onto).0) walk)
   to_walk i m j (inr along) walk = step along walk
 
-  to_place : (i j : ℕ) → WalkWithin p (suc k) i j → IsPlace next i j
+  to_place : (i j : ℕ) → WalkWithin p (suc k) i j → IsEntry next i j
   to_place i j (here lt) =
       (product i i).1 (i, (union i i).1 (inl ((is i i).1 (refl, lt))), (walks i i).1 (here lt))
   to_place i j (step {m = m} a walk) =
@@ -66,7 +66,7 @@ pub identity-diagonal : (R : CommRing) {T : Type 0} (f : T → R.Carrier) (m : C
 identity-diagonal R f m p n is plain lanes i j =
     let same : (plain_of_rows R f m).has i j ≡ (nat_eq i j && nat_lt i n) =
     ap (λ a. a.has i j) plain in
-    let P : Raw → Type 0 = λ d. IsPlace d i j in (
+    let P : Raw → Type 0 = λ d. IsEntry d i j in (
       λ place.
           let parts = and_parts (nat_eq i j) (nat_lt i n)
           (sym same ∙ (lanes.places i j).0 (subst P is place)) in

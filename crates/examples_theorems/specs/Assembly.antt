@@ -22,7 +22,8 @@ module _ (R : CommRing) where
     value = λ i j. sum_by R (λ x. (g x).value i j) xs;
   }
 
-  -- a matrix of zeros of this shape with `a` in it, whose value at (0, 0) is at (r, c) there
+  -- a matrix of zeros of this shape with `a` in it, whose row 0 and column 0 are row r and column c
+  -- there
   abbrev pub placed : ℕ → ℕ → ℕ → ℕ → Plain R → Plain R
   placed nrows ncols r c a = record {
     rows = nrows;

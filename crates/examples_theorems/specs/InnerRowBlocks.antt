@@ -5,11 +5,11 @@ use Rattle.std.specs.List.{flat_map}
 use Rattle.nalgebra_sparse.specs.Coo.{Coo}
 
 module _ {T : Type 0} (start nrows ncols : ℕ) where
-  -- whether a triplet lies in these rows, and within this many columns
+  -- whether a triplet lies in the block: these rows, and this many columns
   abbrev pub is_in_block : ℕ × ℕ × T → Bool
   is_in_block t = nat_le start t.0 && (nat_lt (t.0 - start) nrows && nat_lt t.1 ncols)
 
-  -- the triplet of the block, if it lies there
+  -- the triplet in the block, if it lies there; its row counts from the start of the block
   abbrev pub one_in_block : ℕ × ℕ × T → List (ℕ × ℕ × T)
   one_in_block t = if is_in_block t then (t.0 - start, t.1, t.2) ∷ [] else []
 

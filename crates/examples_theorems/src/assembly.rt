@@ -94,7 +94,7 @@ fn two_elements(alloc: Global) -> Result<bool, Fail> {
     )
 }
 
-// Whether a block that ends past the last column is refused.
+// Whether a block that ends past the last column does not lie within the matrix.
 #[cfg(test)]
 fn a_block_is_outside(alloc: Global) -> Result<bool, Fail> {
     let matrix = DMatrix::repeat(alloc, 1, 2, W64::new(1))?;

@@ -23,8 +23,8 @@ use std::alloc::{AllocError, Global};
 #[cfg(test)]
 use std::test::Fail;
 
-// A block of rows of a product is the product of these rows of the first factor, and a block of columns that of these
-// columns of the second.
+// A block of rows of a product is the product of these rows of the left operand with the right one. A block of columns
+// is the product of the left operand with these columns of the right one.
 fn product_blocks_law<T: Ring>()
     ensures rows { (a b : Plain T.ring) (start count : ℕ)
         → plain_product T.ring (row_block T.ring start count a) b
@@ -34,7 +34,7 @@ fn product_blocks_law<T: Ring>()
         ≡ col_block T.ring start count (plain_product T.ring a b) }
 {}
 
-// A block of rows of a sum is the sum of the blocks.
+// A block of rows of a sum is the sum of the operands' blocks.
 fn sum_blocks_law<T: Ring>()
     ensures { (a b : Plain T.ring) (start count : ℕ)
         → plain_sum T.ring (row_block T.ring start count a) (row_block T.ring start count b)
@@ -48,14 +48,14 @@ fn solution_blocks_law<T: Ring>()
         → Solves T.ring s (col_block T.ring start count x) (col_block T.ring start count b) }
 {}
 
-// Blocks of rows that follow each other are the matrix again once they are stacked, whatever their sizes are.
+// Consecutive blocks of rows, which may have any sizes, are the matrix again once they are stacked.
 fn stacked_law<T: Ring>()
     ensures { (a : Plain T.ring) (sizes : List ℕ)
         → IsWithin a → IsProper a → total_size sizes ≡ a.rows
         → stacked T.ring a.cols (row_blocks T.ring 0 sizes a) ≡ a }
 {}
 
-// Appends a triplet of a matrix to the list of a block of its rows, if it lies there.
+// Appends a triplet of a matrix to the list of a block of rows, if it lies in the block.
 fn push_inside<T: Ring>(
     list: &mut CooMatrix<T>,
     start: usize,
@@ -83,7 +83,7 @@ fn rows_from<T: Ring>(
         ≡ row_block T.ring start count (plain_of_rows T.ring T.value a.now)) }
     ensures minor { IfOk result (λ m. m.pattern.minor_dim ≡ a.now.pattern.minor_dim) }
 {
-    // This call costs nothing: it tells the prover that the places lie within the shape.
+    // This call costs nothing: it tells the prover that the entries lie within the shape.
     stands_law::<T>();
     let mut block = CooMatrix::new(alloc, count, a.ncols());
     for (row, col, value) in a.triplet_iter() {

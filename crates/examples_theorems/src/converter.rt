@@ -1,4 +1,4 @@
-//! A converter of Matrix Market texts: what it writes means the matrix that it read.
+//! A converter of Matrix Market texts: the text that it writes has the plain matrix of the text that it reads.
 
 ghost use Rattle.std.specs.Prelude.{◌≡◌, ◌<◌, ◌^◌, IfOk, Ok, string_bytes};
 ghost use Rattle.std.specs.Int.{w64};
@@ -25,12 +25,12 @@ fn is_size(number: usize)
     ensures { number < 2 ^ 64 }
 {}
 
-// Returns the text of the matrix, which means the triplets of the matrix in the order of its form.
+// Returns the text of the matrix, which means its triplets in the order of its format.
 fn written<S: MatrixMarketExport<W64>>(alloc: Global, matrix: &S) -> Result<String, AllocError>
     ensures { IfOk result (λ text. Means (wrapping_scalar w64) (string_bytes text)
         (Ok (values_of w64_number (S.exported matrix.now)))) }
 {
-    // These calls cost nothing: they tell the prover the law, that the shapes fit, and that the triplets lie inside.
+    // These calls cost nothing: they tell the prover the law, and that the shape fits and the triplets lie within it.
     round_trip::<W64>();
     is_size(matrix.nrows());
     is_size(matrix.ncols());
@@ -40,7 +40,7 @@ fn written<S: MatrixMarketExport<W64>>(alloc: Global, matrix: &S) -> Result<Stri
     Ok(text)
 }
 
-// Returns the text of the same matrix, its places row by row, each once.
+// Returns the text of the same matrix with its entries row by row, each once.
 fn by_rows(alloc: Global, text: &str) -> Result<String, MatrixMarketError>
     ensures { IfOk result (λ other. MeanOnePlain text.now (string_bytes other)) }
 {
@@ -50,7 +50,7 @@ fn by_rows(alloc: Global, text: &str) -> Result<String, MatrixMarketError>
     Ok(other)
 }
 
-// Returns the text of the same matrix, its places column by column, each once.
+// Returns the text of the same matrix with its entries column by column, each once.
 fn by_cols(alloc: Global, text: &str) -> Result<String, MatrixMarketError>
     ensures { IfOk result (λ other. MeanOnePlain text.now (string_bytes other)) }
 {
@@ -60,7 +60,7 @@ fn by_cols(alloc: Global, text: &str) -> Result<String, MatrixMarketError>
     Ok(other)
 }
 
-// Whether both texts end as they should: the two triplets at (2, 1) are one, and the order is that of the form.
+// Whether both texts end as expected: the two triplets at (2, 1) are added, and the order is that of the format.
 #[cfg(test)]
 fn both_orders(alloc: Global) -> Result<bool, Fail> {
     let text =

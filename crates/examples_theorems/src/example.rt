@@ -1,4 +1,4 @@
-//! What an example answers.
+//! The result of an example.
 
 use std::process::Termination;
 use std::test::Fail;

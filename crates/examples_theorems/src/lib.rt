@@ -1,5 +1,5 @@
-//! Theorems of users: functions over the library's calls, each with a contract of its own that follows from the library's,
-//! and the functions of README.md and docs/TUTORIAL.md, which claim what a run cannot show.
+//! Theorems of users: functions over the library's calls, each with a contract of its own that follows from the
+//! library's, and the functions of README.md and docs/TUTORIAL.md, whose contracts no run can test.
 #![tactic(auto)]
 
 mod assembly;

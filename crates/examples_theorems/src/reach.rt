@@ -47,7 +47,7 @@ fn take_steps(
     Ok(reached)
 }
 
-// Returns the pairs (i, j) for which a walk of at most `steps` steps along places of the pattern leads from i to j.
+// Returns the pairs (i, j) for which a walk of at most `steps` steps along entries of the pattern leads from i to j.
 fn reach(
     alloc: Global,
     pattern: &SparsityPattern,
@@ -64,8 +64,8 @@ fn reach(
     Ok(reached)
 }
 
-// Returns the pairs (i, j) for which some walk along places of the pattern leads from i to j, however long. A shortest
-// walk repeats no index, so its steps are fewer than the lanes.
+// Returns the pairs (i, j) for which some walk along entries of the pattern leads from i to j, however long. A shortest
+// walk repeats no index, so it has fewer steps than the pattern has lanes.
 fn closure(alloc: Global, pattern: &SparsityPattern) -> Result<SparsityPattern, AllocError>
     requires { pattern.now.major_dim ≡ pattern.now.minor_dim }
     ensures major { IfOk result (λ p. p.major_dim ≡ pattern.now.major_dim) }

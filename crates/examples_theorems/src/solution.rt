@@ -35,7 +35,7 @@ fn solve_symmetric<T: Units>(
     ensures singular { IfErr result (λ e. e ≡ OperationErrorKind.Singular
         → HasNoFactors T.ring T.value a.now) }
 {
-    // This call costs nothing: it tells the prover the law.
+    // This call costs nothing: it tells the prover that the product is associative.
     product_associative_law::<T>();
     let mut x = b.clone(alloc)?;
     match Ldl::factor(alloc, a) {

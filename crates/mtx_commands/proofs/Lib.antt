@@ -1,2 +1,2 @@
-mod OneALane
+mod OneEntryPerLane
 mod Unwritten

@@ -9,9 +9,9 @@ use Rattle.mtx_commands.specs.declared.cli.Failure.TheVariants.{Refused}
 use Rattle.mtx_commands.specs.Writes.{write_fault, IsUnwritten}
 
 -- the failure that a refused write becomes has the same cause
-pub refused_is : (kind : MatrixMarketErrorKind) (before after : ℕ) (last : Option ErrorKind)
+pub unwritten_write_fault : (kind : MatrixMarketErrorKind) (before after : ℕ) (last : Option ErrorKind)
     → IsRefusedWrite kind before after last
     → IsUnwritten before after last (Refused (write_fault kind))
-refused_is OutOfMemory before after last is = is
-refused_is (IOError kind) before after last is = is
-refused_is kind before after last is = absurd is
+unwritten_write_fault OutOfMemory before after last is = is
+unwritten_write_fault (IOError kind) before after last is = is
+unwritten_write_fault kind before after last is = absurd is

@@ -5,12 +5,12 @@ use Rattle.nalgebra_sparse.specs.Coo.{Coo}
 use Rattle.nalgebra_sparse.specs.Compressed.{Compressed}
 use Rattle.nalgebra_sparse.specs.Meaning.{Means}
 use Rattle.nalgebra_sparse.specs.OneMatrix.{coo_of_cols}
-use Rattle.nalgebra_sparse.specs.Raw.{Raw, IsPlace}
+use Rattle.nalgebra_sparse.specs.Raw.{Raw, IsEntry}
 use Rattle.nalgebra_sparse.specs.ScalarTypes.{pattern_scalar}
 use Rattle.nalgebra_sparse.specs.Symbolic.{Symbolic, IsFactorOf}
 use Rattle.nalgebra_sparse.specs.Written.{text_of}
 use Rattle.sparse_factor.specs.declared.factorization.Triangle.{Triangle}
-use Rattle.mtx_commands.specs.Places.{HasTriplet}
+use Rattle.mtx_commands.specs.TripletPatterns.{HasTriplet}
 
 -- the pattern, stored by columns, has the shape that some text means, and exactly its places
 pub record IsRead (pattern : Raw) : Type 0 where
@@ -19,7 +19,7 @@ pub record IsRead (pattern : Raw) : Type 0 where
   pub meant : Means pattern_scalar text (Ok list)
   pub rows : pattern.minor_dim ≡ list.nrows
   pub columns : pattern.major_dim ≡ list.ncols
-  pub places : (i j : ℕ) → IsPlace pattern j i ↔ HasTriplet list i j
+  pub places : (i j : ℕ) → IsEntry pattern j i ↔ HasTriplet list i j
 
 -- the text of a matrix with this pattern and no values was appended, column by column
 pub record WritesPattern (pattern : Raw) (old new : Option (List ℕ)) : Type 0 where

@@ -1,5 +1,5 @@
 pub mod Commands
-pub mod Places
+pub mod TripletPatterns
 pub mod Inputs
 pub mod Writes
 pub mod Fills

@@ -34,15 +34,15 @@ where
     E: Sink,
     ensures status { exit_status result ≤ 2 }
     ensures flushed { exit_status result ≡ 0 → IsTrue out.new.flushed }
-    ensures silent { exit_status result ≡ 0 → E.taken err.new ≡ E.taken err.old }
-    ensures reported { exit_status result ≢ 0 → IsReported (E.taken err.old) (E.taken err.new)
+    ensures silent { exit_status result ≡ 0 → E.accepted err.new ≡ E.accepted err.old }
+    ensures reported { exit_status result ≢ 0 → IsReported (E.accepted err.old) (E.accepted err.new)
         (E.failures err.old) (E.failures err.new) }
     ensures unanswered { exit_status result ≡ 2
         → W.contents out.new.inner ≡ W.contents out.old.inner }
     ensures unread { IfErr arguments
         (λ e. exit_status result ≡ status_of (argument_fault (error_kind e))) }
 {
-    exit_code(obey(rt, arguments, out, err))
+    exit_code(run_args(rt, arguments, out, err))
 }
 
 // The exit status as the runtime takes it.
@@ -54,35 +54,35 @@ fn exit_code(status: u8) -> ExitCode
 
 // Runs the command that the arguments give, reports a failure, and returns the status. At status 0 the output was
 // flushed.
-fn obey<R, W, E>(rt: &R, arguments: io::Result<Args>, out: &mut Out<W>, err: &mut E) -> u8
+fn run_args<R, W, E>(rt: &R, arguments: io::Result<Args>, out: &mut Out<W>, err: &mut E) -> u8
 where
     R: Files + AllocGlobal,
     W: io::Write,
     E: Sink,
     ensures status { result ≤ 2 }
     ensures flushed { result ≡ 0 → IsTrue out.new.flushed }
-    ensures silent { result ≡ 0 → E.taken err.new ≡ E.taken err.old }
-    ensures reported { result ≢ 0 → IsReported (E.taken err.old) (E.taken err.new)
+    ensures silent { result ≡ 0 → E.accepted err.new ≡ E.accepted err.old }
+    ensures reported { result ≢ 0 → IsReported (E.accepted err.old) (E.accepted err.new)
         (E.failures err.old) (E.failures err.new) }
     ensures unanswered { result ≡ 2 → W.contents out.new.inner ≡ W.contents out.old.inner }
     ensures unread { IfErr arguments (λ e. result ≡ status_of (argument_fault (error_kind e))) }
 {
     match given_words(rt.alloc(), arguments) {
-        Ok(words) => obey_words(rt, &words, out, err),
+        Ok(words) => run_words(rt, &words, out, err),
         Err(failure) => report(rt.alloc(), failure, err),
     }
 }
 
 // Runs the command that these words give, and flushes its output at status 0.
-fn obey_words<R, W, E>(rt: &R, words: &[String], out: &mut Out<W>, err: &mut E) -> u8
+fn run_words<R, W, E>(rt: &R, words: &[String], out: &mut Out<W>, err: &mut E) -> u8
 where
     R: Files + AllocGlobal,
     W: io::Write,
     E: Sink,
     ensures status { result ≤ 2 }
     ensures flushed { result ≡ 0 → IsTrue out.new.flushed }
-    ensures silent { result ≡ 0 → E.taken err.new ≡ E.taken err.old }
-    ensures reported { result ≢ 0 → IsReported (E.taken err.old) (E.taken err.new)
+    ensures silent { result ≡ 0 → E.accepted err.new ≡ E.accepted err.old }
+    ensures reported { result ≢ 0 → IsReported (E.accepted err.old) (E.accepted err.new)
         (E.failures err.old) (E.failures err.new) }
     ensures unanswered { result ≡ 2 → W.contents out.new.inner ≡ W.contents out.old.inner }
 {

@@ -4,7 +4,7 @@ ghost use Rattle.std.specs.Prelude.{◌≡◌, ◌≢◌, ◌≤◌, ◌↔◌, 
 ghost use Rattle.std.specs.Prelude.{IfErr, IfSome, IsTrue, map, string_bytes};
 ghost use Rattle.nalgebra_sparse.specs.PostfixWords.{texts};
 ghost use Rattle.nalgebra_sparse.specs.Run.{Writes};
-ghost use Rattle.sparse_expr.specs.declared.calculator.Form.{Form};
+ghost use Rattle.sparse_expr.specs.declared.calculator.OutputOrder.{OutputOrder};
 ghost use Rattle.sparse_expr.specs.declared.error.ExprError.TheVariants.{OutOfMemory};
 ghost use Rattle.sparse_factor.specs.declared.factorization.Triangle.{Triangle};
 ghost use Rattle.mtx_commands.specs.Commands.{IsAnswered, IsEvaluated, name_of, triangle_name};
@@ -14,7 +14,7 @@ ghost use Rattle.mtx_commands.specs.declared.cli.Failure.TheVariants.{Usage, Ref
 
 use crate::fill::fill;
 use crate::inputs::read_all;
-use nalgebra_sparse::expr::{Expr, ExprError, Form, run_owned};
+use nalgebra_sparse::expr::{Expr, ExprError, OutputOrder, run_owned};
 use nalgebra_sparse::factorization::Triangle;
 use nalgebra_sparse::io::{Out, Sink, write_all_to};
 use std::alloc::{AllocError, AllocFailed, Global};
@@ -87,26 +87,26 @@ where
     E: Sink,
     ensures status { result ≤ 2 }
     ensures answered { result ≡ 0
-        → IsAnswered (texts words.now) (W.taken out.old) (W.taken out.new) }
-    ensures silent { result ≡ 0 → E.taken err.new ≡ E.taken err.old }
+        → IsAnswered (texts words.now) (W.accepted out.old) (W.accepted out.new) }
+    ensures silent { result ≡ 0 → E.accepted err.new ≡ E.accepted err.old }
     ensures quiet { result ≡ 0 → E.failures err.new ≡ E.failures err.old }
-    ensures reported { result ≢ 0 → IsReported (E.taken err.old) (E.taken err.new)
+    ensures reported { result ≢ 0 → IsReported (E.accepted err.old) (E.accepted err.new)
         (E.failures err.old) (E.failures err.new) }
-    ensures unanswered { result ≡ 2 → W.taken out.new ≡ W.taken out.old }
+    ensures unanswered { result ≡ 2 → W.accepted out.new ≡ W.accepted out.old }
 {
-    match execute(rt, words, out) {
+    match run(rt, words, out) {
         Ok(()) => 0,
         Err(failure) => report(rt.alloc(), failure, err),
     }
 }
 
-fn execute<R, W>(rt: &R, words: &[&str], out: &mut W) -> Result<(), Failure>
+fn run<R, W>(rt: &R, words: &[&str], out: &mut W) -> Result<(), Failure>
 where
     R: Files + AllocGlobal,
     W: Sink,
     ensures answered { OnOk result
-        (IsAnswered (texts words.now) (W.taken out.old) (W.taken out.new)) }
-    ensures unanswered { IfErr result (λ e. e ≡ Usage → W.taken out.new ≡ W.taken out.old) }
+        (IsAnswered (texts words.now) (W.accepted out.old) (W.accepted out.new)) }
+    ensures unanswered { IfErr result (λ e. e ≡ Usage → W.accepted out.new ≡ W.accepted out.old) }
 {
     match words {
         ["fill", path] => fill(rt, Triangle::Upper, path, out),
@@ -115,7 +115,7 @@ where
             None => Err(Failure::Usage),
         },
         [order, expression, paths @ ..] if !paths.is_empty() => match form_of(order) {
-            Some(form) => calculate(rt, form, expression, paths, out),
+            Some(form) => evaluate(rt, form, expression, paths, out),
             None => Err(Failure::Usage),
         },
         _ => Err(Failure::Usage),
@@ -123,13 +123,13 @@ where
 }
 
 // The order that a first word names.
-fn form_of(word: &str) -> Option<Form>
+fn form_of(word: &str) -> Option<OutputOrder>
     ensures named { IfSome result (λ form. word.now ≡ name_of form) }
-    ensures unnamed { result ≡ None → (form : Form) → word.now ≢ name_of form }
+    ensures unnamed { result ≡ None → (form : OutputOrder) → word.now ≢ name_of form }
 {
     match word {
-        "rows" => Some(Form::Rows),
-        "cols" => Some(Form::Cols),
+        "rows" => Some(OutputOrder::Rows),
+        "cols" => Some(OutputOrder::Cols),
         _ => None,
     }
 }
@@ -148,9 +148,9 @@ fn triangle_of(word: &str) -> Option<Triangle>
 }
 
 // Parses the expression, reads the files, and writes the value.
-fn calculate<R, W>(
+fn evaluate<R, W>(
     rt: &R,
-    form: Form,
+    form: OutputOrder,
     expression: &str,
     paths: &[&str],
     out: &mut W,
@@ -159,7 +159,7 @@ where
     R: Files + AllocGlobal,
     W: Sink,
     ensures evaluated { OnOk result
-        (IsEvaluated form expression.now (length paths.now) (W.taken out.old) (W.taken out.new)) }
+        (IsEvaluated form expression.now (length paths.now) (W.accepted out.old) (W.accepted out.new)) }
     ensures refused { IfErr result (λ e. e ≡ Usage → ⊥) }
 {
     let expr = Expr::from_words(rt.alloc(), expression)?;
@@ -170,13 +170,13 @@ where
 // Writes the value of an expression over the texts of the files, and drops each text once it is loaded.
 fn write_value<W: Sink>(
     alloc: Global,
-    form: Form,
+    form: OutputOrder,
     expr: &Expr,
     sources: Vec<String>,
     out: &mut W,
 ) -> Result<(), Failure>
     ensures written { OnOk result ((read : List (List ℕ)) × (length read ≡ length sources.items)
-        × Writes form read expr.now (W.taken out.old) (W.taken out.new)) }
+        × Writes form read expr.now (W.accepted out.old) (W.accepted out.new)) }
     ensures refused { IfErr result (λ e. e ≡ Usage → ⊥) }
 {
     run_owned(alloc, form, expr, sources, out)?;
@@ -198,8 +198,8 @@ where
     E: Sink,
     ensures status { result ≤ 1 }
     ensures flushed { (result ≡ 0) ↔ IsTrue out.new.flushed }
-    ensures silent { result ≡ 0 → E.taken err.new ≡ E.taken err.old }
-    ensures reported { result ≢ 0 → IsReported (E.taken err.old) (E.taken err.new)
+    ensures silent { result ≡ 0 → E.accepted err.new ≡ E.accepted err.old }
+    ensures reported { result ≢ 0 → IsReported (E.accepted err.old) (E.accepted err.new)
         (E.failures err.old) (E.failures err.new) }
 {
     match out.flush() {
@@ -211,7 +211,7 @@ where
 /// Writes the line of a failure, and returns its status.
 pub fn report<E: Sink>(alloc: Global, failure: Failure, err: &mut E) -> u8
     ensures status { result ≡ status_of failure }
-    ensures reported { IsReported (E.taken err.old) (E.taken err.new) (E.failures err.old)
+    ensures reported { IsReported (E.accepted err.old) (E.accepted err.new) (E.failures err.old)
         (E.failures err.new) }
 {
     write_line(alloc, failure, err);
@@ -220,7 +220,7 @@ pub fn report<E: Sink>(alloc: Global, failure: Failure, err: &mut E) -> u8
 
 // Writes the line of a failure.
 fn write_line<E: Sink>(alloc: Global, failure: Failure, err: &mut E)
-    ensures { IsReported (E.taken err.old) (E.taken err.new) (E.failures err.old)
+    ensures { IsReported (E.accepted err.old) (E.accepted err.new) (E.failures err.old)
         (E.failures err.new) }
 {
     match failure {
@@ -232,7 +232,7 @@ fn write_line<E: Sink>(alloc: Global, failure: Failure, err: &mut E)
 
 // Writes the line of an error.
 fn write_error<E: Sink>(alloc: Global, error: ExprError, err: &mut E)
-    ensures { IsReported (E.taken err.old) (E.taken err.new) (E.failures err.old)
+    ensures { IsReported (E.accepted err.old) (E.accepted err.new) (E.failures err.old)
         (E.failures err.new) }
 {
     match error_line(alloc, error) {
@@ -244,7 +244,7 @@ fn write_error<E: Sink>(alloc: Global, error: ExprError, err: &mut E)
 // Writes the text of a line. An error in writing it is ignored.
 fn write_message<E: Sink>(text: &str, err: &mut E)
     requires { IsErrorLine text.now }
-    ensures { IsReported (E.taken err.old) (E.taken err.new) (E.failures err.old)
+    ensures { IsReported (E.accepted err.old) (E.accepted err.new) (E.failures err.old)
         (E.failures err.new) }
 {
     match write_all_to(err, text.as_bytes()) {

@@ -2,17 +2,17 @@
 
 ghost use Rattle.std.specs.Prelude.{◌≡◌, ◌≢◌, ℕ, ◌<◌, ◌↔◌, ◌⊎◌};
 ghost use Rattle.std.specs.Prelude.{All, Err, IfOk, IfErr, OnOk, length};
-ghost use Rattle.nalgebra_sparse.specs.Raw.{IsValid, IsPlace};
+ghost use Rattle.nalgebra_sparse.specs.Raw.{IsValid, IsEntry};
 ghost use Rattle.nalgebra_sparse.specs.Symbolic.{IsFactorOf};
 ghost use Rattle.mtx_commands.specs.Fills.{IsRead, WritesPattern, WritesFill};
-ghost use Rattle.mtx_commands.specs.Places.{HasTriplet, IsOneALane, AreNumbersTo};
+ghost use Rattle.mtx_commands.specs.TripletPatterns.{HasTriplet, HasOneEntryPerLane, AreNumbersTo};
 ghost use Rattle.sparse_expr.specs.declared.error.ExprError.TheVariants.{OutOfMemory};
 ghost use Rattle.mtx_commands.specs.Inputs.{IsMisread};
 ghost use Rattle.mtx_commands.specs.Writes.{write_fault, IsUnwritten};
 ghost use Rattle.mtx_commands.specs.declared.cli.Failure.TheVariants.{Usage, NotSquare, Refused};
 
 use crate::cli::Failure;
-use crate::inputs::read_places;
+use crate::inputs::read_triplets;
 use nalgebra_sparse::expr::ExprError;
 use nalgebra_sparse::factorization::{CscSymbolicCholesky, Triangle};
 use nalgebra_sparse::io::{MatrixMarketErrorKind, Sink, save_to_matrix_market};
@@ -27,7 +27,7 @@ pub fn fill<R, W>(rt: &R, triangle: Triangle, path: &str, out: &mut W) -> Result
 where
     R: Files + AllocGlobal,
     W: Sink,
-    ensures filled { OnOk result (WritesFill triangle (W.taken out.old) (W.taken out.new)) }
+    ensures filled { OnOk result (WritesFill triangle (W.accepted out.old) (W.accepted out.new)) }
     ensures refused { IfErr result (λ e. e ≡ Usage → ⊥) }
 {
     let pattern = read_pattern(rt, path)?;
@@ -43,7 +43,7 @@ fn read_pattern<R: Files + AllocGlobal>(rt: &R, path: &str) -> Result<SparsityPa
     ensures unread { IfErr result
         (λ e. (e ≡ Refused OutOfMemory) ⊎ ((e ≡ NotSquare) ⊎ IsMisread e)) }
 {
-    let places = read_places(rt, path)?;
+    let places = read_triplets(rt, path)?;
     square_pattern_of(rt.alloc(), &places)
 }
 
@@ -52,7 +52,7 @@ fn square_pattern_of(alloc: Global, places: &CooMatrix<()>) -> Result<SparsityPa
     ensures columns { IfOk result (λ p. p.major_dim ≡ places.now.ncols) }
     ensures rows { IfOk result (λ p. p.minor_dim ≡ places.now.nrows) }
     ensures square { IfOk result (λ p. p.major_dim ≡ p.minor_dim) }
-    ensures places { IfOk result (λ p. (i j : ℕ) → IsPlace p j i ↔ HasTriplet places.now i j) }
+    ensures places { IfOk result (λ p. (i j : ℕ) → IsEntry p j i ↔ HasTriplet places.now i j) }
     ensures not_square { places.now.nrows ≢ places.now.ncols → result ≡ Err NotSquare }
     ensures refused { IfErr result (λ e. (e ≡ Refused OutOfMemory) ⊎ (e ≡ NotSquare)) }
 {
@@ -63,14 +63,14 @@ fn square_pattern_of(alloc: Global, places: &CooMatrix<()>) -> Result<SparsityPa
 }
 
 // Writes a pattern by columns.
-#[tactic(auto, using(crate::proofs::Unwritten::refused_is))]
+#[tactic(auto, using(crate::proofs::Unwritten::unwritten_write_fault))]
 fn write_pattern<W: Sink>(
     alloc: Global,
     pattern: &SparsityPattern,
     out: &mut W,
 ) -> Result<(), Failure>
     ensures written { OnOk result
-        (WritesPattern pattern.now (W.taken out.old) (W.taken out.new)) }
+        (WritesPattern pattern.now (W.accepted out.old) (W.accepted out.new)) }
     ensures refused { IfErr result (λ e. e ≡ Usage → ⊥) }
     ensures unwritten { IfErr result
         (IsUnwritten (W.failures out.old) (W.failures out.new) (W.last out.new)) }
@@ -89,18 +89,18 @@ fn write_pattern<W: Sink>(
 fn pattern_of(alloc: Global, places: &CooMatrix<()>) -> Result<SparsityPattern, AllocError>
     ensures columns { IfOk result (λ p. p.major_dim ≡ places.now.ncols) }
     ensures rows { IfOk result (λ p. p.minor_dim ≡ places.now.nrows) }
-    ensures places { IfOk result (λ p. (i j : ℕ) → IsPlace p j i ↔ HasTriplet places.now i j) }
+    ensures places { IfOk result (λ p. (i j : ℕ) → IsEntry p j i ↔ HasTriplet places.now i j) }
     ensures valid { IfOk result IsValid }
 {
-    let rows = one_a_lane(alloc, places.row_indices(), places.nrows())?;
-    let columns = one_a_lane(alloc, places.col_indices(), places.ncols())?;
+    let rows = one_entry_per_lane(alloc, places.row_indices(), places.nrows())?;
+    let columns = one_entry_per_lane(alloc, places.col_indices(), places.ncols())?;
     let transposed = columns.transpose(alloc)?;
     let pattern = spmm_csr_pattern(alloc, &transposed, &rows)?;
     Ok(pattern)
 }
 
 // Returns a pattern with a lane for each index.
-fn one_a_lane(
+fn one_entry_per_lane(
     alloc: Global,
     indices: &[usize],
     minor_dim: usize,
@@ -108,7 +108,7 @@ fn one_a_lane(
     requires { All (λ i. i < minor_dim) indices.now }
     ensures lanes { IfOk result (λ p. p.major_dim ≡ length indices.now) }
     ensures size { IfOk result (λ p. p.minor_dim ≡ minor_dim) }
-    ensures places { IfOk result (λ p. IsOneALane p indices.now) }
+    ensures places { IfOk result (λ p. HasOneEntryPerLane p indices.now) }
     ensures valid { IfOk result IsValid }
 {
     let offsets = numbers_to(alloc, indices.len())?;

@@ -54,7 +54,7 @@ fn unreadable(number: usize, kind: io::ErrorKind) -> ExprError
 }
 
 /// Reads the places in the only file.
-pub fn read_places<R: Files + AllocGlobal>(rt: &R, path: &str) -> Result<CooMatrix<()>, Failure>
+pub fn read_triplets<R: Files + AllocGlobal>(rt: &R, path: &str) -> Result<CooMatrix<()>, Failure>
     ensures read { IfOk result
         (λ m. (text : List ℕ) × Means pattern_scalar text (Ok (values_of (λ x. x) m))) }
     ensures unread { IfErr result IsMisread }

@@ -4,10 +4,10 @@ use Rattle.std.proofs.Common.{◌∷◌, length, map, refl, sym, ap, ◌∙◌, 
 use Rattle.sparse_algebra.specs.Algebra.{CommRing}
 use Rattle.sparse_algebra.specs.Integers.{element_of, times_one}
 use Rattle.sparse_coo_dense.specs.Coo.{zip_triplets}
-use Rattle.mtxkit_matrices.specs.Orders.{places_of}
+use Rattle.mtxkit_matrices.specs.Orders.{coordinates_of}
 
 pub places-zipped : {S T : Type 0} (ts : List (ℕ × ℕ × S)) (vs : List T) → length vs ≡ length ts
-    → places_of (zip_triplets (map (λ t. t.0) ts) (map (λ t. t.1) ts) vs) ≡ places_of ts
+    → coordinates_of (zip_triplets (map (λ t. t.0) ts) (map (λ t. t.1) ts) vs) ≡ coordinates_of ts
 places-zipped [] vs e = refl
 places-zipped (t ∷ ts) [] e = absurd (omega (arith, e))
 places-zipped (t ∷ ts) (v ∷ vs) e =

@@ -3,7 +3,7 @@ use Rattle.std.specs.Prelude.{◌≡◌, ◌⊎◌, ℕ, ◌+◌, ◌==◌, if�
 use Rattle.std.specs.Prelude.{Some, None}
 use Rattle.std.specs.Io.KnownBytes.{Appends}
 use Rattle.mtxkit_texts.specs.declared.failure.Failure.{Failure}
-use Rattle.mtxkit_texts.specs.declared.failure.Failure.TheVariants.{Unread, Input, NotCarried}
+use Rattle.mtxkit_texts.specs.declared.failure.Failure.TheVariants.{Unread, Input, NotSupported}
 use Rattle.mtxkit_texts.specs.declared.failure.Failure.TheVariants.{Wide, Overflow, Unsaved}
 use Rattle.mtxkit_commands.specs.declared.command_error.CommandError.{CommandError}
 use Rattle.mtxkit_commands.specs.declared.command_error.CommandError.TheVariants.{Failed}
@@ -52,8 +52,8 @@ saved_file command = None
 -- the path of the file that a failure of the command is about
 abbrev pub fault_file : Command → Failure → Option (List ℕ)
 fault_file command (Unread number error) = file_of command number
-fault_file command (Input number kind spot) = file_of command number
-fault_file command (NotCarried number) = file_of command number
+fault_file command (Input number kind location) = file_of command number
+fault_file command (NotSupported number) = file_of command number
 fault_file command (Wide number) = file_of command number
 fault_file command (Overflow number) = file_of command number
 fault_file command (Unsaved error) = saved_file command

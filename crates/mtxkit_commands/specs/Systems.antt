@@ -10,9 +10,9 @@ use Rattle.sparse_coo_dense.specs.CooPlain.{plain_of_coo}
 use Rattle.sparse_algebra.specs.Integers.{element_of}
 use Rattle.sparse_io.specs.Written.{text_of}
 use Rattle.sparse_market_scalar.specs.ScalarTypes.{signed_scalar}
-use Rattle.sparse_with_dense.specs.Solutions.{HasSameValues}
+use Rattle.sparse_dense_ops.specs.Solutions.{HasSameValues}
 use Rattle.mtxkit_matrices.specs.Values.{IsSymmetricMatrix}
-use Rattle.mtxkit_matrices.specs.Orders.{IsByColumns, places_of}
+use Rattle.mtxkit_matrices.specs.Orders.{IsByColumns, coordinates_of}
 use Rattle.mtxkit_matrices.specs.Systems.{HasNoFactorisation, IsEquation, IsSystem}
 use Rattle.mtxkit_texts.specs.Loaded.{IsRefused, MeansIntegers}
 use Rattle.mtxkit_texts.specs.declared.failure.Failure.{Failure}
@@ -39,7 +39,7 @@ module _ (R : CommRing) where
     pub rows : x.nrows ≡ a.ncols
     pub cols : x.ncols ≡ b.ncols
     pub product : IsProduct a x b
-    pub order : IsByColumns (places_of x.triplets)
+    pub order : IsByColumns (coordinates_of x.triplets)
     pub nonzero : All (λ z. z ≡ pos 0 → ⊥) (map (λ t. t.2) x.triplets)
     pub values : All (λ z. reduced z ≡ z) (map (λ t. t.2) x.triplets)
 

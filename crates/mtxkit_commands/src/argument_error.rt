@@ -21,7 +21,7 @@ impl ArgumentError {
     /// Writes the line of the error, and returns its exit status. An error in writing the line is ignored.
     pub fn report<E: Sink>(self, err: &mut E) -> u8
         ensures status { result ≡ argument_status self }
-        ensures reported { IsReported None (E.taken err.old) (E.taken err.new)
+        ensures reported { IsReported None (E.accepted err.old) (E.accepted err.new)
             (E.failures err.old) (E.failures err.new) }
     {
         write_message(self.line().as_bytes(), err);

@@ -44,8 +44,8 @@ where
     S: io::Write + Drop,
     ensures status { exit_status result ≤ 2 }
     ensures flushed { exit_status result ≡ 0 → IsTrue out.new.flushed }
-    ensures silent { exit_status result ≡ 0 → E.taken err.new ≡ E.taken err.old }
-    ensures reported { exit_status result ≡ 1 → HasReport (E.taken err.old) (E.taken err.new)
+    ensures silent { exit_status result ≡ 0 → E.accepted err.new ≡ E.accepted err.old }
+    ensures reported { exit_status result ≡ 1 → HasReport (E.accepted err.old) (E.accepted err.new)
         (E.failures err.old) (E.failures err.new) }
     ensures unanswered { exit_status result ≡ 2 → out.new.failures ≡ out.old.failures
         → W.contents out.new.inner ≡ W.contents out.old.inner }
@@ -54,7 +54,7 @@ where
 {
     let (mut stdin, mut screen) = (stdin, screen);
     let mut texts = Inputs::new(rt, &mut stdin, &mut screen);
-    exit_code(obey(rt, arguments, &mut texts, out, err))
+    exit_code(run_args(rt, arguments, &mut texts, out, err))
 }
 
 // The exit status as the runtime takes it.
@@ -65,7 +65,7 @@ fn exit_code(status: u8) -> ExitCode
 }
 
 // Runs the command that the arguments give, reports a failure, and returns the status.
-fn obey<R, T, W, E>(
+fn run_args<R, T, W, E>(
     rt: &R,
     arguments: io::Result<Args>,
     texts: &mut T,
@@ -79,8 +79,8 @@ where
     E: Sink,
     ensures status { result ≤ 2 }
     ensures flushed { result ≡ 0 → IsTrue out.new.flushed }
-    ensures silent { result ≡ 0 → E.taken err.new ≡ E.taken err.old }
-    ensures reported { result ≡ 1 → HasReport (E.taken err.old) (E.taken err.new)
+    ensures silent { result ≡ 0 → E.accepted err.new ≡ E.accepted err.old }
+    ensures reported { result ≡ 1 → HasReport (E.accepted err.old) (E.accepted err.new)
         (E.failures err.old) (E.failures err.new) }
     ensures unanswered { result ≡ 2 → out.new.failures ≡ out.old.failures
         → W.contents out.new.inner ≡ W.contents out.old.inner }
@@ -88,13 +88,13 @@ where
         (λ e. result ≡ argument_status (argument_fault (error_kind e))) }
 {
     match given_words(rt.alloc(), arguments) {
-        Ok(words) => obey_words(rt, &words, texts, out, err),
+        Ok(words) => run_flushed(rt, &words, texts, out, err),
         Err(error) => error.report(err),
     }
 }
 
 // Runs the command that these words give, and flushes its output at status 0.
-fn obey_words<R, T, W, E>(
+fn run_flushed<R, T, W, E>(
     rt: &R,
     words: &[String],
     texts: &mut T,
@@ -108,8 +108,8 @@ where
     E: Sink,
     ensures status { result ≤ 2 }
     ensures flushed { result ≡ 0 → IsTrue out.new.flushed }
-    ensures silent { result ≡ 0 → E.taken err.new ≡ E.taken err.old }
-    ensures reported { result ≡ 1 → HasReport (E.taken err.old) (E.taken err.new)
+    ensures silent { result ≡ 0 → E.accepted err.new ≡ E.accepted err.old }
+    ensures reported { result ≡ 1 → HasReport (E.accepted err.old) (E.accepted err.new)
         (E.failures err.old) (E.failures err.new) }
     ensures unanswered { result ≡ 2 → out.new.failures ≡ out.old.failures
         → W.contents out.new.inner ≡ W.contents out.old.inner }
@@ -128,12 +128,12 @@ where
     W: Sink,
     E: Sink,
     ensures status { result ≤ 2 }
-    ensures silent { result ≡ 0 → E.taken err.new ≡ E.taken err.old }
+    ensures silent { result ≡ 0 → E.accepted err.new ≡ E.accepted err.old }
     ensures quiet { result ≡ 0 → E.failures err.new ≡ E.failures err.old }
-    ensures reported { result ≡ 1 → HasReport (E.taken err.old) (E.taken err.new)
+    ensures reported { result ≡ 1 → HasReport (E.accepted err.old) (E.accepted err.new)
         (E.failures err.old) (E.failures err.new) }
     ensures unanswered { result ≡ 2 → W.failures out.new ≡ W.failures out.old
-        → W.taken out.new ≡ W.taken out.old }
+        → W.accepted out.new ≡ W.accepted out.old }
 {
     match parse(rt.alloc(), words) {
         Ok(Some(command)) => run(rt, command, texts, out, err),
@@ -146,13 +146,13 @@ where
 fn explain<W: Sink, E: Sink>(alloc: Global, error: &clap::Error, out: &mut W, err: &mut E) -> u8
     ensures status { result ≤ 2 }
     ensures memory { kind_of error.now ≡ words.OutOfMemory → result ≡ 1 }
-    ensures silent { result ≡ 0 → E.taken err.new ≡ E.taken err.old }
+    ensures silent { result ≡ 0 → E.accepted err.new ≡ E.accepted err.old }
     ensures quiet { result ≡ 0 → E.failures err.new ≡ E.failures err.old }
-    ensures reported { result ≡ 1 → IsReported None (E.taken err.old) (E.taken err.new)
+    ensures reported { result ≡ 1 → IsReported None (E.accepted err.old) (E.accepted err.new)
         (E.failures err.old) (E.failures err.new) }
     ensures mistake { result ≡ 2 → (kind_of error.now ≢ words.DisplayHelp)
         × (kind_of error.now ≢ words.DisplayVersion) }
-    ensures unanswered { result ≡ 2 → W.taken out.new ≡ W.taken out.old }
+    ensures unanswered { result ≡ 2 → W.accepted out.new ≡ W.accepted out.old }
     ensures help { kind_of error.now ≢ words.DisplayHelp
         → kind_of error.now ≢ words.DisplayVersion → result ≢ 0 }
 {

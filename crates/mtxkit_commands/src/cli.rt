@@ -34,20 +34,20 @@ where
     requires { IsSized command }
     ensures status { result ≤ 2 }
     ensures answered { result ≡ 0 → IsAnswered command.entry (T.readings texts.old)
-        (T.readings texts.new) (W.taken out.old) (W.taken out.new) }
+        (T.readings texts.new) (W.accepted out.old) (W.accepted out.new) }
     ensures unfailed { result ≡ 0 → W.failures out.new ≡ W.failures out.old }
-    ensures silent { result ≡ 0 → E.taken err.new ≡ E.taken err.old }
+    ensures silent { result ≡ 0 → E.accepted err.new ≡ E.accepted err.old }
     ensures quiet { result ≡ 0 → E.failures err.new ≡ E.failures err.old }
     ensures failed { result ≢ 0 → (error : CommandError)
         × CanFail command.entry (T.readings texts.old) (T.readings texts.new)
         (W.failures out.old) (W.failures out.new) (W.last out.new) error
         × (result ≡ error_status error)
-        × IsReported (error_file command.entry error) (E.taken err.old) (E.taken err.new)
+        × IsReported (error_file command.entry error) (E.accepted err.old) (E.accepted err.new)
         (E.failures err.old) (E.failures err.new) }
     ensures unanswered { result ≢ 0 → W.failures out.new ≡ W.failures out.old
-        → W.taken out.new ≡ W.taken out.old }
+        → W.accepted out.new ≡ W.accepted out.old }
 {
-    match execute(rt, command, texts, out) {
+    match try_run(rt, command, texts, out) {
         Ok(()) => 0,
         Err(error) => report_error(rt.alloc(), command, error, err),
     }
@@ -61,8 +61,8 @@ fn report_error<E: Sink>(
     err: &mut E,
 ) -> u8
     ensures status { result ≡ error_status error }
-    ensures reported { IsReported (error_file command.entry error) (E.taken err.old)
-        (E.taken err.new) (E.failures err.old) (E.failures err.new) }
+    ensures reported { IsReported (error_file command.entry error) (E.accepted err.old)
+        (E.accepted err.new) (E.failures err.old) (E.failures err.new) }
 {
     match error {
         CommandError::Failed(failure) => {
@@ -73,7 +73,7 @@ fn report_error<E: Sink>(
 }
 
 // Runs a command.
-fn execute<R, T, W>(
+fn try_run<R, T, W>(
     rt: &R,
     command: Command<'_>,
     texts: &mut T,
@@ -87,10 +87,10 @@ where
     ensures failed { IfErr result (CanFail command.entry (T.readings texts.old)
         (T.readings texts.new) (W.failures out.old) (W.failures out.new) (W.last out.new)) }
     ensures answered { OnOk result (IsAnswered command.entry (T.readings texts.old)
-        (T.readings texts.new) (W.taken out.old) (W.taken out.new)) }
+        (T.readings texts.new) (W.accepted out.old) (W.accepted out.new)) }
     ensures unfailed { OnOk result (W.failures out.new ≡ W.failures out.old) }
     ensures unanswered { OnErr result (W.failures out.new ≡ W.failures out.old
-        → W.taken out.new ≡ W.taken out.old) }
+        → W.accepted out.new ≡ W.accepted out.old) }
 {
     let answer = answer_of(rt.alloc(), command, texts)?;
     match command.path() {
@@ -119,7 +119,7 @@ fn saved(written: io::Result<()>) -> Result<(), Failure>
 
 // Writes the text.
 fn write_text<W: Sink>(out: &mut W, text: &[u8]) -> Result<(), Failure>
-    ensures written { OnOk result (Appends (W.taken out.old) (W.taken out.new) text.now) }
+    ensures written { OnOk result (Appends (W.accepted out.old) (W.accepted out.new) text.now) }
     ensures unfailed { OnOk result (W.failures out.new ≡ W.failures out.old) }
     ensures failed { OnErr result (W.failures out.new ≢ W.failures out.old) }
     ensures unwritten { IfErr result
@@ -138,8 +138,8 @@ where
     E: Sink,
     ensures status { result ≤ 1 }
     ensures flushed { (result ≡ 0) ↔ IsTrue out.new.flushed }
-    ensures silent { result ≡ 0 → E.taken err.new ≡ E.taken err.old }
-    ensures reported { result ≢ 0 → IsReported None (E.taken err.old) (E.taken err.new)
+    ensures silent { result ≡ 0 → E.accepted err.new ≡ E.accepted err.old }
+    ensures reported { result ≢ 0 → IsReported None (E.accepted err.old) (E.accepted err.new)
         (E.failures err.old) (E.failures err.new) }
 {
     match out.flush() {

@@ -134,7 +134,7 @@ impl<'a> Command<'a> {
         match failure {
             Failure::Unread(number, _)
             | Failure::Input(number, _, _)
-            | Failure::NotCarried(number)
+            | Failure::NotSupported(number)
             | Failure::Wide(number)
             | Failure::Overflow(number) => self.file(number),
             Failure::Unsaved(_) => self.path(),

@@ -16,8 +16,8 @@ const OUT_OF_MEMORY: &str = "mtxkit: out of memory\n";
 /// Writes the line of a failure, which names this file, and returns the failure's status.
 pub fn report<E: Sink>(alloc: Global, file: Option<&str>, failure: Failure, err: &mut E) -> u8
     ensures status { result ≡ status_of failure }
-    ensures reported { IsReported (option_map (λ path. path.now) file.entry) (E.taken err.old)
-        (E.taken err.new) (E.failures err.old) (E.failures err.new) }
+    ensures reported { IsReported (option_map (λ path. path.now) file.entry) (E.accepted err.old)
+        (E.accepted err.new) (E.failures err.old) (E.failures err.new) }
 {
     write_line(failure_line(alloc, file, failure), err);
     failure.status()
@@ -25,10 +25,10 @@ pub fn report<E: Sink>(alloc: Global, file: Option<&str>, failure: Failure, err:
 
 /// Writes this line, or, where no memory was left for it, the line that says so. An error in writing it is ignored.
 pub(crate) fn write_line<E: Sink>(line: Result<String, AllocError>, err: &mut E)
-    ensures line { IfOk line (λ text. IsWritten (string_bytes text) (E.taken err.old)
-        (E.taken err.new) (E.failures err.old) (E.failures err.new)) }
+    ensures line { IfOk line (λ text. IsWritten (string_bytes text) (E.accepted err.old)
+        (E.accepted err.new) (E.failures err.old) (E.failures err.new)) }
     ensures memory { IfErr line (λ _. IsWritten (codes "mtxkit: out of memory\n")
-        (E.taken err.old) (E.taken err.new) (E.failures err.old) (E.failures err.new)) }
+        (E.accepted err.old) (E.accepted err.new) (E.failures err.old) (E.failures err.new)) }
 {
     match line {
         Ok(line) => write_message(line.as_bytes(), err),
@@ -38,7 +38,7 @@ pub(crate) fn write_line<E: Sink>(line: Result<String, AllocError>, err: &mut E)
 
 /// Writes a text. An error in writing it is ignored.
 pub(crate) fn write_message<E: Sink>(text: &[u8], err: &mut E)
-    ensures { IsWritten text.now (E.taken err.old) (E.taken err.new) (E.failures err.old)
+    ensures { IsWritten text.now (E.accepted err.old) (E.accepted err.new) (E.failures err.old)
         (E.failures err.new) }
 {
     match write_all_to(err, text) {
@@ -63,7 +63,10 @@ pub fn failure_line(
     let why = match (file, failure) {
         (None, Failure::Write(kind)) => format!(in alloc; "write failed: {}\n", Reason(kind))?,
         (None, _) => format!(in alloc; "{failure}\n")?,
-        (Some(_), Failure::Input(_, _, spot)) => format!(in alloc; ":{}: {failure}\n", spot.line)?,
+        (Some(_), Failure::Input(_, _, location)) => format!(in alloc;
+            ":{}: {failure}\n",
+            location.line
+        )?,
         (Some(_), _) => format!(in alloc; ": {failure}\n")?,
     };
     line.push_str(why.as_str())?;

@@ -4,7 +4,7 @@ ghost use Rattle.std.specs.Prelude.{◌≡◌, pos, All, IfOk, map};
 ghost use Rattle.sparse_coo_dense.specs.CooPlain.{plain_of_coo};
 ghost use Rattle.sparse_algebra.specs.Integers.{element_of};
 ghost use Rattle.mtxkit_commands.specs.Systems.{plain_of_integers};
-ghost use Rattle.mtxkit_matrices.specs.Orders.{places_of};
+ghost use Rattle.mtxkit_matrices.specs.Orders.{coordinates_of};
 
 use crate::residues::Residues;
 use mtxkit_texts::with_values;
@@ -31,7 +31,7 @@ pub fn integers_of<T: Residues>(
     ensures plain { IfOk result (λ m. plain_of_integers T.ring m
         ≡ plain_of_coo T.ring T.value list.now) }
     ensures places { IfOk result
-        (λ m. places_of m.triplets ≡ places_of list.now.triplets) }
+        (λ m. coordinates_of m.triplets ≡ coordinates_of list.now.triplets) }
     ensures nonzero { IfOk result
         (λ m. All (λ t. T.value t.2 ≡ T.ring.zero → ⊥) list.now.triplets
         → All (λ z. z ≡ pos 0 → ⊥) (map (λ t. t.2) m.triplets)) }

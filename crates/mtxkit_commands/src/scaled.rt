@@ -40,7 +40,7 @@ pub(crate) fn report_unscaled<E: Sink>(
     err: &mut E,
 ) -> u8
     ensures status { result ≡ 1 }
-    ensures reported { IsReported (Some file.now) (E.taken err.old) (E.taken err.new)
+    ensures reported { IsReported (Some file.now) (E.accepted err.old) (E.accepted err.new)
         (E.failures err.old) (E.failures err.new) }
 {
     write_line(unscaled_line(alloc, file, error), err);

@@ -24,7 +24,7 @@ use std::alloc::Global;
 ///
 /// # Errors
 ///
-/// Returns `Input` or `NotCarried` if a text does not mean a matrix of integers, `Modulus` if the modulus is none of
+/// Returns `Input` or `NotSupported` if a text does not mean a matrix of integers, `Modulus` if the modulus is none of
 /// those that the program is built for, `Shapes` if A is not square or B has another number of rows, `NotSymmetric` if A
 /// is not symmetric, and `NoFactors` if A has no factorisation L D L^T. Otherwise fails only if an allocation fails.
 pub fn solve_text(alloc: Global, modulus: Option<u64>, a: &str, b: &str) -> Result<String, Failure>
@@ -46,7 +46,7 @@ pub fn solve_text(alloc: Global, modulus: Option<u64>, a: &str, b: &str) -> Resu
 ///
 /// # Errors
 ///
-/// Returns `Input` or `NotCarried` if a text does not mean a matrix of integers, `Modulus` if the modulus is none of
+/// Returns `Input` or `NotSupported` if a text does not mean a matrix of integers, `Modulus` if the modulus is none of
 /// those that the program is built for, `Shapes` if the shapes do not fit, and `NotSolution` if A X is another matrix.
 /// Otherwise fails only if an allocation fails.
 pub fn check_text(

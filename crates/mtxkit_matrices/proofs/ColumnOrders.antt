@@ -8,29 +8,29 @@ use Rattle.std.proofs.lemmas.List.{append-nil}
 use Rattle.std.proofs.lemmas.List.Elements.{All-nil, All-cons, All-head, All-tail, All-append}
 use Rattle.std.proofs.lemmas.List.Elements.{All-map, All-weaker, filter_passes}
 use Rattle.sparse_algebra.specs.Plain.{below}
-use Rattle.sparse_convert.proofs.FullLanes.{all_below}
-use Rattle.mtxkit_matrices.specs.Orders.{places_of, IsBefore, IsByColumns}
+use Rattle.sparse_convert.proofs.DenseLanes.{all_below}
+use Rattle.mtxkit_matrices.specs.Orders.{coordinates_of, IsBefore, IsByColumns}
 
 -- ---- triplets that are kept
 
 module _ {T : Type 0} (keep : ℕ × ℕ × T → Bool) where
-  all-kept : (P : ℕ × ℕ → Type 0) (ts : List (ℕ × ℕ × T)) → All P (places_of ts)
-      → All P (places_of (filter keep ts))
+  all-kept : (P : ℕ × ℕ → Type 0) (ts : List (ℕ × ℕ × T)) → All P (coordinates_of ts)
+      → All P (coordinates_of (filter keep ts))
   all-kept P [] h = All-nil P
   all-kept P (t ∷ ts) h =
-      let rest = all-kept P ts (All-tail P (t.0, t.1) (places_of ts) h) in
-      elim (keep t) as (λ v. All P (places_of (cond v (t ∷ filter keep ts) (filter keep ts)))) [
-        | true ↦ All-cons P (t.0, t.1) (places_of (filter keep ts))
-            (All-head P (t.0, t.1) (places_of ts) h) rest
+      let rest = all-kept P ts (All-tail P (t.0, t.1) (coordinates_of ts) h) in
+      elim (keep t) as (λ v. All P (coordinates_of (cond v (t ∷ filter keep ts) (filter keep ts)))) [
+        | true ↦ All-cons P (t.0, t.1) (coordinates_of (filter keep ts))
+            (All-head P (t.0, t.1) (coordinates_of ts) h) rest
         | false ↦ rest
       ]
 
-  pub kept-by_columns : (ts : List (ℕ × ℕ × T)) → IsByColumns (places_of ts)
-      → IsByColumns (places_of (filter keep ts))
+  pub kept-by_columns : (ts : List (ℕ × ℕ × T)) → IsByColumns (coordinates_of ts)
+      → IsByColumns (coordinates_of (filter keep ts))
   kept-by_columns [] h = tt
   kept-by_columns (t ∷ ts) h =
       let rest = kept-by_columns ts h.1 in
-      elim (keep t) as (λ v. IsByColumns (places_of (cond v (t ∷ filter keep ts) (filter keep ts)))) [
+      elim (keep t) as (λ v. IsByColumns (coordinates_of (cond v (t ∷ filter keep ts) (filter keep ts)))) [
         | true ↦ (all-kept (IsBefore (t.0, t.1)) ts h.0, rest)
         | false ↦ rest
       ]
@@ -46,7 +46,7 @@ joined (p ∷ ps) qs h k before = (
 )
 
 places-append : {T : Type 0} (ts us : List (ℕ × ℕ × T))
-    → places_of (ts ++ us) ≡ places_of ts ++ places_of us
+    → coordinates_of (ts ++ us) ≡ coordinates_of ts ++ coordinates_of us
 places-append [] us = refl
 places-append (t ∷ ts) us = ap (λ ps. (t.0, t.1) ∷ ps) (places-append ts us)
 
@@ -85,40 +85,40 @@ module _ {T : Type 0} (value : ℕ → ℕ → T) where
   columns n js = flat_map (column n) js
 
   places-column : (j : ℕ) (is : List ℕ)
-      → places_of (map {B = ℕ × ℕ × T} (λ i. (i, j, value i j)) is) ≡ in_column j is
+      → coordinates_of (map {B = ℕ × ℕ × T} (λ i. (i, j, value i j)) is) ≡ in_column j is
   places-column j [] = refl
   places-column j (i ∷ is) = ap (λ ps. (i, j) ∷ ps) (places-column j is)
 
-  columns-push : (n m : ℕ) → places_of (columns n (below m ++ m ∷ []))
-      ≡ places_of (columns n (below m)) ++ in_column m (below n)
+  columns-push : (n m : ℕ) → coordinates_of (columns n (below m ++ m ∷ []))
+      ≡ coordinates_of (columns n (below m)) ++ in_column m (below n)
   columns-push n m =
-      ap places_of (flat_map-append (column n) (below m) (m ∷ []))
+      ap coordinates_of (flat_map-append (column n) (below m) (m ∷ []))
       ∙ places-append (columns n (below m)) (column n m ++ [])
-      ∙ ap (λ ts. places_of (columns n (below m)) ++ places_of ts) (append-nil (column n m))
-      ∙ ap (λ ps. places_of (columns n (below m)) ++ ps) (places-column m (below n))
+      ∙ ap (λ ts. coordinates_of (columns n (below m)) ++ coordinates_of ts) (append-nil (column n m))
+      ∙ ap (λ ps. coordinates_of (columns n (below m)) ++ ps) (places-column m (below n))
 
-  columns-below : (n m : ℕ) → All (λ (p : ℕ × ℕ). p.1 < m) (places_of (columns n (below m)))
+  columns-below : (n m : ℕ) → All (λ (p : ℕ × ℕ). p.1 < m) (coordinates_of (columns n (below m)))
   columns-below n zero = All-nil (λ (p : ℕ × ℕ). p.1 < 0)
   columns-below n (suc m) =
       let P = λ (p : ℕ × ℕ). p.1 < suc m in
       subst (All P) (sym (columns-push n m))
-      (All-append P (places_of (columns n (below m))) (in_column m (below n))
+      (All-append P (coordinates_of (columns n (below m))) (in_column m (below n))
       (All-weaker (λ (p : ℕ × ℕ). p.1 < m) P (λ (p : ℕ × ℕ) (lt : p.1 < m). omega (arith, lt))
-      (places_of (columns n (below m))) (columns-below n m))
+      (coordinates_of (columns n (below m))) (columns-below n m))
       (in_column-all P m (below n) (All-weaker (λ i. i < n) (λ i. m < suc m) (λ i lt. omega arith)
       (below n) (all_below n))))
 
-  pub columns-by_columns : (n m : ℕ) → IsByColumns (places_of (columns n (below m)))
+  pub columns-by_columns : (n m : ℕ) → IsByColumns (coordinates_of (columns n (below m)))
   columns-by_columns n zero = tt
   columns-by_columns n (suc m) =
       let before = λ (p : ℕ × ℕ). All (IsBefore p) (in_column m (below n)) in
       subst IsByColumns (sym (columns-push n m))
-      (joined (places_of (columns n (below m))) (in_column m (below n)) (columns-by_columns n m)
+      (joined (coordinates_of (columns n (below m))) (in_column m (below n)) (columns-by_columns n m)
       (rows-by_columns m n)
       (All-weaker (λ (p : ℕ × ℕ). p.1 < m) before
       (λ (p : ℕ × ℕ) (lt : p.1 < m). in_column-all (IsBefore p) m (below n)
       (All-weaker (λ i. i < n) (λ i. IsBefore p (i, m)) (λ i row. inl lt) (below n) (all_below n)))
-      (places_of (columns n (below m))) (columns-below n m)))
+      (coordinates_of (columns n (below m))) (columns-below n m)))
 
 -- ---- values that are not zero
 

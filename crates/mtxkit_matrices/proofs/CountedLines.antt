@@ -24,13 +24,13 @@ no_lines (line ∷ lines) (plain, inr (end, rest, is, e, others)) =
 
 module _ {rest line others : List ℕ} (c : IsCut rest line others) where
   -- the front line, and the lines behind it
-  pub front_line : (next : List ℕ) (behind : List (List ℕ)) → IsEnded others next
+  pub AreLines-first_line : (next : List ℕ) (behind : List (List ℕ)) → IsEnded others next
       → AreLines next behind → AreLines rest (line ∷ behind)
-  front_line next behind (inl (o, n)) h =
+  AreLines-first_line next behind (inl (o, n)) h =
       let whole : rest ≡ line = sym (cut_whole c) ∙ rw o (append-nil line) in
       let some = c.some in
       (cut_plain c, inl (rw whole at some, whole, no_lines behind (rw n at h)))
-  front_line next behind (inr (end, is, o)) h =
+  AreLines-first_line next behind (inr (end, is, o)) h =
       (cut_plain c, inr (end, next, is, sym (cut_whole c) ∙ rw o refl, h))
 
   -- the line of this number
@@ -46,7 +46,7 @@ module _ {rest line others : List ℕ} (c : IsCut rest line others) where
         record {
           before = t.before;
           behind = lines.0;
-          lines = t.read_is (line ∷ lines.0) (front_line next.0 lines.0 next.1 lines.1);
+          lines = t.read_is (line ∷ lines.0) (AreLines-first_line next.0 lines.0 next.1 lines.1);
           counted = e ∙ t.counted;
         },
         words_are line,
@@ -60,7 +60,7 @@ first_line text next a = record {
   before = [];
   line = a.line;
   counted = refl;
-  read_is = λ behind h. front_line a.cut next behind a.ended h;
+  read_is = λ behind h. AreLines-first_line a.cut next behind a.ended h;
 }
 
 pub next_line : {text rest : List ℕ} {number : ℕ} (next : List ℕ) → IsBelowLine text rest number
@@ -73,7 +73,7 @@ next_line next b a = record {
       let m = b.counted in
       omega arith;
   read_is = λ behind h. rw append_assoc
-      (b.read_is (a.line ∷ behind) (front_line a.cut next behind a.ended h));
+      (b.read_is (a.line ∷ behind) (AreLines-first_line a.cut next behind a.ended h));
 }
 
 pub numbered : {text rest : List ℕ} {number : ℕ} → IsBelowLine text rest number

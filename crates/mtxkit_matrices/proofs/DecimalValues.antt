@@ -10,7 +10,7 @@ use Rattle.std.proofs.lemmas.Result.{IfOk-at_ok, IfErr-at_err}
 use Rattle.sparse_algebra.proofs.Cases.{and_parts}
 use Rattle.sparse_parser.specs.Bytes.{after, is_point}
 use Rattle.sparse_parser.specs.Grammar.{is_number, is_exponent}
-use Rattle.sparse_parser.proofs.Fronts.{length-after}
+use Rattle.sparse_parser.proofs.LeadingBytes.{length-after}
 use Rattle.mtxkit_matrices.specs.declared.decimals.number.Misfit.{Misfit}
 use Rattle.mtxkit_matrices.specs.declared.decimals.number.Misfit.TheVariants.{Fraction, Range}
 use Rattle.mtxkit_matrices.specs.Decimals.{IsScaled, IsMisfit, mantissa_of, exponent_of, power_of}

@@ -9,8 +9,8 @@ use Rattle.sparse_parser.proofs.LineLaws.{blank_line}
 use Rattle.sparse_parser.proofs.WordLaws.{words_are}
 use Rattle.mtxkit_matrices.specs.declared.decimals.stage.Stage.{Stage}
 use Rattle.mtxkit_matrices.specs.declared.decimals.stage.Stage.TheVariants.{Head, Sizes, Entries}
-use Rattle.mtxkit_matrices.specs.ScaledTexts.{IsPassedOver, AreKept, AreKeptBelowHeader}
-use Rattle.mtxkit_matrices.specs.InnerRewriting.{IsSkipped, IsStep, IsCopied, AreLinesWritten}
+use Rattle.mtxkit_matrices.specs.ScaledTexts.{IsBlankOrComment, AreKept, AreKeptBelowHeader}
+use Rattle.mtxkit_matrices.specs.InnerRewriting.{AreBlankOrComment, IsStep, IsCopied, AreLinesWritten}
 use Rattle.mtxkit_matrices.proofs.LineLists.{some_header}
 
 -- ---- blank lines and comments
@@ -19,7 +19,7 @@ pub blank_words : (line : List ℕ) → words_of line ≡ [] → AreBlanks line
 blank_words line e = subst (AreWords line) e (words_are line)
 
 -- the words of a line that is passed over
-pub passed_words : (line : List ℕ) → IsPassedOver line → IsSkipped (words_of line)
+pub passed_words : (line : List ℕ) → IsBlankOrComment line → AreBlankOrComment (words_of line)
 passed_words line (inl blanks) = inl (blank_line line blanks)
 passed_words line (inr (before, rest, blanks, e)) =
     inr (ap (λ (x : List ℕ). is_content (words_of x)) e ∙ comment_line before rest blanks)
@@ -32,7 +32,7 @@ blanks_more (first ∷ lines) line h b = (h.0, blanks_more lines line h.1 b)
 -- ---- one line more
 
 same_more : (lines written : List (List ℕ)) (line wrote : List ℕ) → AreKept lines written
-    → (IsPassedOver line → wrote ≡ line) → AreKept (lines ++ (line ∷ [])) (written ++ (wrote ∷ []))
+    → (IsBlankOrComment line → wrote ≡ line) → AreKept (lines ++ (line ∷ [])) (written ++ (wrote ∷ []))
 same_more [] [] line wrote h k = (k, tt)
 same_more [] (b ∷ written) line wrote h k = absurd h
 same_more (a ∷ lines) [] line wrote h k = absurd h
@@ -40,7 +40,7 @@ same_more (a ∷ lines) (b ∷ written) line wrote h k =
     (h.0, same_more lines written line wrote h.1 k)
 
 below_more : {lines written : List (List ℕ)} (line wrote : List ℕ)
-    → AreKeptBelowHeader lines written → (IsSkipped (words_of line) → wrote ≡ line)
+    → AreKeptBelowHeader lines written → (AreBlankOrComment (words_of line) → wrote ≡ line)
     → AreKeptBelowHeader (lines ++ (line ∷ [])) (written ++ (wrote ∷ []))
 below_more line wrote h k = record {
   blank = h.blank;

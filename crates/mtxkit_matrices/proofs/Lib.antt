@@ -1,7 +1,7 @@
 -- facts
 mod LaneCounts
 mod LongestLanes
-mod PlacesLeft
+mod EntriesLeft
 -- pictures
 mod Marks
 -- systems, and the values of matrices

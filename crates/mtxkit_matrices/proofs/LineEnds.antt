@@ -8,9 +8,9 @@ use Rattle.sparse_parser.specs.Bytes.{is_line_end}
 use Rattle.sparse_parser.specs.InnerBytes.{is_within_line}
 use Rattle.sparse_parser.specs.Grammar.{IsOneLine, IsLineEnd}
 use Rattle.sparse_parser.specs.InnerReading.{ends_line, written_of}
-use Rattle.sparse_parser.proofs.Fronts.{IsStopped, Passes-front, IsStopped-after}
-use Rattle.sparse_parser.proofs.Fronts.{front-append-after, length-after}
-use Rattle.sparse_parser.proofs.FrontLines.{plain-from}
+use Rattle.sparse_parser.proofs.LeadingBytes.{IsStopped, Passes-leading, IsStopped-after}
+use Rattle.sparse_parser.proofs.LeadingBytes.{leading-append-after, length-after}
+use Rattle.sparse_parser.proofs.FirstLines.{plain-from}
 use Rattle.sparse_parser.proofs.LineLaws.{some_byte, written_of-end}
 use Rattle.mtxkit_matrices.specs.InnerLines.{IsCut, IsEnded}
 
@@ -76,10 +76,10 @@ stopped_end (b ∷ text) h = not-false (is_line_end b) h
 
 module _ {rest line others : List ℕ} (c : IsCut rest line others) where
   pub cut_whole : line ++ others ≡ rest
-  cut_whole = rw (c.line_is, c.others_are) (front-append-after is_within_line rest)
+  cut_whole = rw (c.line_is, c.others_are) (leading-append-after is_within_line rest)
 
   pub cut_plain : IsOneLine line
-  cut_plain = rw c.line_is (plain-from _ (Passes-front is_within_line rest))
+  cut_plain = rw c.line_is (plain-from _ (Passes-leading is_within_line rest))
 
   pub cut_ends : ends_line others ≡ true
   cut_ends = rw c.others_are (stopped_end _ (IsStopped-after is_within_line rest))

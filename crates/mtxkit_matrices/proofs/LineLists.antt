@@ -13,7 +13,7 @@ use Rattle.sparse_parser.specs.InnerReading.{is_content, words_of}
 use Rattle.sparse_parser.proofs.LineLaws.{add}
 use Rattle.sparse_parser.proofs.LineShapes.{entry_nil}
 use Rattle.mtxkit_matrices.specs.ScaledTexts.{IsScaledEntry, AreScaled}
-use Rattle.mtxkit_matrices.specs.InnerRewriting.{IsSkipped}
+use Rattle.mtxkit_matrices.specs.InnerRewriting.{AreBlankOrComment}
 
 -- the words of a line, unless it is blank
 abbrev pub ones : List (List ℕ) → List (List (List ℕ))
@@ -33,12 +33,12 @@ ones-some [] n = absurd (n refl)
 ones-some (word ∷ words) n = refl
 
 -- a line that is blank or a comment adds no contents
-pub nothing-more : (xs : List (List (List ℕ))) (words : List (List ℕ)) → IsSkipped words
+pub nothing-more : (xs : List (List (List ℕ))) (words : List (List ℕ)) → AreBlankOrComment words
     → filter is_content (xs ++ ones words) ≡ filter is_content xs
 nothing-more xs words s = rw (filter-append is_content xs (ones words), none words s)
     (append-nil (filter is_content xs))
   where
-    none : (words : List (List ℕ)) → IsSkipped words → filter is_content (ones words) ≡ []
+    none : (words : List (List ℕ)) → AreBlankOrComment words → filter is_content (ones words) ≡ []
     none [] h = refl
     none (word ∷ words) (inl e) = absurd cc
     none (word ∷ words) (inr e) = rw e refl

@@ -6,7 +6,7 @@ use Rattle.std.proofs.lemmas.List.{get_or-set_same, get_or-set_other}
 use Rattle.std.proofs.lemmas.Bool.{cases_eq}
 use Rattle.std.proofs.lemmas.Nat.{div-mul-add, mod-mul-add}
 use Rattle.sparse_pattern.specs.Raw.{Raw}
-use Rattle.mtxkit_matrices.specs.Pictures.{cell_of, HasPlaceIn, IsMarked}
+use Rattle.mtxkit_matrices.specs.Pictures.{cell_of, HasEntryIn, IsMarked}
 
 -- the cell of the pair (i, j), if there is one, is marked
 abbrev pub IsCellMarked : Raw → ℕ → ℕ → List Bool → ℕ → ℕ → Type 0
@@ -38,12 +38,12 @@ marked_cases cells k q e = elim (cases_eq q k) [
 
 -- ---- the row and the column of a position
 
-pub place_at : (p : Raw) (height width r c : ℕ) → c < width
-    → IsMarked p height width (r * width + c) → HasPlaceIn p height width r c
-place_at p height width r c lt m =
+pub HasEntryIn-from_marked : (p : Raw) (height width r c : ℕ) → c < width
+    → IsMarked p height width (r * width + c) → HasEntryIn p height width r c
+HasEntryIn-from_marked p height width r c lt m =
     let row : m.r ≡ r = sym (div-mul-add m.r width m.c m.col) ∙ ap (λ n. n / width) m.at
     ∙ div-mul-add r width c lt in
     let col : m.c ≡ c = sym (mod-mul-add m.r width m.c m.col) ∙ ap (λ n. n % width) m.at
     ∙ mod-mul-add r width c lt in
-    subst (λ x. HasPlaceIn p height width r x) col
-    (subst (λ x. HasPlaceIn p height width x m.c) row m.has)
+    subst (λ x. HasEntryIn p height width r x) col
+    (subst (λ x. HasEntryIn p height width x m.c) row m.has)

@@ -15,7 +15,7 @@ use Rattle.mtxkit_matrices.specs.ScaledTexts.{IsScaledText, with_integers}
 use Rattle.mtxkit_matrices.specs.InnerLines.{IsCut, IsEnded}
 use Rattle.mtxkit_matrices.specs.InnerRewriting.{IsStep, AreBelow}
 use Rattle.mtxkit_matrices.specs.InnerRewriting.{AreRewritten, IsLineWritten, IsTextWritten}
-use Rattle.mtxkit_matrices.proofs.CountedLines.{front_line}
+use Rattle.mtxkit_matrices.proofs.CountedLines.{AreLines-first_line}
 use Rattle.mtxkit_matrices.proofs.KeptLines.{kept_more}
 use Rattle.mtxkit_matrices.proofs.LineLists.{ones, ones-some, nothing-more, one-more}
 use Rattle.mtxkit_matrices.proofs.LineLists.{all_more, scaled_more, some_header, some_size, some_entry}
@@ -152,7 +152,7 @@ module _ (scale : ℕ) (text : List ℕ) where
         let m = t.counted in
         omega arith;
     read_is = λ behind h. rw append_assoc
-        (t.read_is (line ∷ behind) (front_line c rest' behind e h));
+        (t.read_is (line ∷ behind) (AreLines-first_line c rest' behind e h));
     wrote_is = λ more behind h. rw (append_assoc t.wrote (w.written ∷ []) behind)
         (subst (λ (x : List ℕ). AreLines x (t.wrote ++ (w.written ∷ behind)))
         (sym (whole more)) (t.wrote_is (w.written ++ (10 ∷ more)) (w.written ∷ behind)

@@ -9,7 +9,7 @@ use Rattle.sparse_algebra.specs.Sums.{sum_below}
 use Rattle.sparse_algebra.proofs.SumLemmas.{sum_below-same}
 use Rattle.sparse_coo_dense.specs.DensePlain.{plain_full}
 use Rattle.sparse_factor.specs.Factorisations.{IsFactorisation, plain_symmetric}
-use Rattle.sparse_with_dense.specs.Solutions.{HasSameValues}
+use Rattle.sparse_dense_ops.specs.Solutions.{HasSameValues}
 use Rattle.mtxkit_matrices.specs.Systems.{HasNoFactorisation}
 
 module _ (R : CommRing) where

@@ -21,7 +21,7 @@ use Rattle.sparse_market_scalar.specs.IntegerTexts.{number_text}
 use Rattle.mtxkit_matrices.specs.declared.decimals.stage.Stage.TheVariants.{Entries}
 use Rattle.mtxkit_matrices.specs.Decimals.{IsScaled}
 use Rattle.mtxkit_matrices.specs.ScaledTexts.{IsScaledWord}
-use Rattle.mtxkit_matrices.specs.InnerRewriting.{IsSkipped, IsLineWritten, coordinate_text}
+use Rattle.mtxkit_matrices.specs.InnerRewriting.{AreBlankOrComment, IsLineWritten, coordinate_text}
 use Rattle.mtxkit_matrices.specs.InnerRewriting.{IsCoordinateLine, IsArrayLine}
 
 -- ---- words
@@ -44,7 +44,7 @@ integer_is_number z f = integer-number (signed_decimal z) (number_text w128 z f)
 -- ---- lines
 
 not_skipped : (words : List (List ℕ)) (word : List ℕ) (others : List (List ℕ))
-    → words ≡ word ∷ others → is_content words ≡ true → IsSkipped words → ⊥
+    → words ≡ word ∷ others → is_content words ≡ true → AreBlankOrComment words → ⊥
 not_skipped words word others e c (inl n) = cc
 not_skipped words word others e c (inr n) = cc
 

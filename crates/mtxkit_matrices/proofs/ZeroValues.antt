@@ -3,14 +3,14 @@ use Rattle.std.proofs.Common.{◌≡◌, ℕ, ◌<◌, ◌≤◌, ◌⊎◌, inl
 use Rattle.std.proofs.Common.{refl, sym, ap, ◌∙◌, arith}
 use Rattle.std.proofs.lemmas.Bool.{cases_Bool, cases_lt}
 use Rattle.sparse_algebra.proofs.RingLemmas.{cancel}
-use Rattle.sparse_pattern.proofs.Positions.{lane_of_position}
-use Rattle.sparse_compressed.proofs.Arrays.{position_within}
-use Rattle.sparse_compressed.proofs.Standing.{rows_have}
+use Rattle.sparse_pattern.proofs.OffsetsInLanes.{lane_of_offset}
+use Rattle.sparse_compressed.proofs.Arrays.{offset_within}
+use Rattle.sparse_compressed.proofs.ArraysDeterminePlain.{plain_of_rows-has_lanes}
 use Rattle.sparse_algebra.specs.Algebra.{CommRing}
-use Rattle.sparse_compressed.specs.Compressed.{Compressed, IsSound, IsPosition}
+use Rattle.sparse_compressed.specs.Compressed.{Compressed, IsSound, IsOffset}
 use Rattle.sparse_algebra.specs.Plain.{Plain, plain_difference}
 use Rattle.sparse_compressed.specs.PlainOfLanes.{plain_of_rows}
-use Rattle.sparse_with_dense.specs.Solutions.{HasSameValues}
+use Rattle.sparse_dense_ops.specs.Solutions.{HasSameValues}
 use Rattle.mtxkit_matrices.specs.Values.{AllZero}
 
 module _ (R : CommRing) {T : Type 0} (f : T → R.Carrier) (z : T) (m : Compressed T)
@@ -18,12 +18,12 @@ module _ (R : CommRing) {T : Type 0} (f : T → R.Carrier) (z : T) (m : Compress
   pub zero_values : ((k : ℕ) → k < length m.values → f (slice_index_or m.values k z) ≡ R.zero)
       → AllZero R (plain_of_rows R f m)
   zero_values zeros i j =
-      let have = rows_have R f m sound in
+      let have = plain_of_rows-has_lanes R f m sound in
       elim (cases_Bool ((plain_of_rows R f m).has i j)) [
         | inl is ↦
             let place = (have.places i j).1 is in
-            let at : IsPosition m.pattern i j place.at = (place.in_lane, place.index) in
-            let within = position_within m.pattern sound.valid i j place.at at in
+            let at : IsOffset m.pattern i j place.at = (place.in_lane, place.index) in
+            let within = offset_within m.pattern sound.valid i j place.at at in
             sym (have.values i j place.at z at)
             ∙ zeros place.at (omega (arith, within, sound.count))
         | inr not ↦ have.proper i j not
@@ -32,8 +32,8 @@ module _ (R : CommRing) {T : Type 0} (f : T → R.Carrier) (z : T) (m : Compress
   pub values_zero : AllZero R (plain_of_rows R f m) → (k : ℕ) → k < length m.values
       → f (slice_index_or m.values k z) ≡ R.zero
   values_zero all k lt =
-      let have = rows_have R f m sound in
-      let found = lane_of_position m.pattern sound.valid k (omega (arith, lt, sound.count)) in
+      let have = plain_of_rows-has_lanes R f m sound in
+      let found = lane_of_offset m.pattern sound.valid k (omega (arith, lt, sound.count)) in
       have.values found.0 (slice_index_or m.pattern.indices k 0) k z (found.1, refl)
       ∙ all found.0 (slice_index_or m.pattern.indices k 0)
 
@@ -46,7 +46,7 @@ IsZeroOutside R n m a = (i j : ℕ) → (n ≤ i) ⊎ (m ≤ j) → a.value i j 
 pub zero_outside : (R : CommRing) {T : Type 0} (f : T → R.Carrier) (c : Compressed T) → IsSound c
     → IsZeroOutside R c.pattern.major_dim c.pattern.minor_dim (plain_of_rows R f c)
 zero_outside R f c sound i j out =
-    let have = rows_have R f c sound in
+    let have = plain_of_rows-has_lanes R f c sound in
     elim (cases_Bool ((plain_of_rows R f c).has i j)) [
       | inl is ↦
           let within = have.within i j is in

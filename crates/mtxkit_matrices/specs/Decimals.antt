@@ -7,7 +7,7 @@ use Rattle.std.specs.Int.RustNames.{FitsSigned}
 use Rattle.std.specs.Str.Parse.{digits_value, signed_digits_value, starts_with_minus}
 use Rattle.std.specs.Str.Parse.{without_leading_sign}
 use lib.IntN.{neg_ℤ}
-use Rattle.sparse_parser.specs.Bytes.{is_exponent_letter, is_point, front, after}
+use Rattle.sparse_parser.specs.Bytes.{is_exponent_letter, is_point, leading, after}
 use Rattle.mtxkit_matrices.specs.declared.decimals.number.Misfit.{Misfit}
 use Rattle.mtxkit_matrices.specs.declared.decimals.number.Misfit.TheVariants.{Fraction, Range}
 
@@ -15,7 +15,7 @@ use Rattle.mtxkit_matrices.specs.declared.decimals.number.Misfit.TheVariants.{Fr
 
 -- the digits and the point
 abbrev pub mantissa_of : List ℕ → List ℕ
-mantissa_of word = front (λ b. not (is_exponent_letter b)) (without_leading_sign word)
+mantissa_of word = leading (λ b. not (is_exponent_letter b)) (without_leading_sign word)
 
 -- the letter and the power of ten, or nothing
 abbrev pub exponent_of : List ℕ → List ℕ

@@ -1,13 +1,13 @@
 -- The lines of a text, as they are read from its front.
 use Rattle.std.specs.Prelude.{◌≡◌, ◌⊎◌, ℕ, ◌+◌, ◌<◌, List, [], ◌∷◌, ◌++◌, length}
-use Rattle.sparse_parser.specs.Bytes.{front, after}
+use Rattle.sparse_parser.specs.Bytes.{leading, after}
 use Rattle.sparse_parser.specs.InnerBytes.{is_within_line}
 use Rattle.sparse_parser.specs.Grammar.{AreLines, IsLineEnd}
 
 -- a text that is not empty, its front line, and the text from the line's end on
 pub record IsCut (rest line others : List ℕ) : Type 0 where
   pub some : 0 < length rest
-  pub line_is : line ≡ front is_within_line rest
+  pub line_is : line ≡ leading is_within_line rest
   pub others_are : others ≡ after is_within_line rest
 
 -- the text from a line end on, and after it

@@ -20,8 +20,8 @@ use Rattle.mtxkit_matrices.specs.declared.decimals.stage.Stage.{Stage}
 use Rattle.mtxkit_matrices.specs.declared.decimals.stage.Stage.TheVariants.{Head, Sizes, Entries}
 
 -- the line is blank or a comment
-abbrev pub IsSkipped : List (List ℕ) → Type 0
-IsSkipped words = (words ≡ []) ⊎ (is_content words ≡ false)
+abbrev pub AreBlankOrComment : List (List ℕ) → Type 0
+AreBlankOrComment words = (words ≡ []) ⊎ (is_content words ≡ false)
 
 -- a line with these words is written as one with those, and the next is at this stage
 abbrev pub IsStep : ℕ → Stage → List (List ℕ) → Stage → List (List ℕ) → Type 0
@@ -31,11 +31,11 @@ IsStep scale Head words next written =
     × (header_of written ≡ Some (with_integers h)) × (is_decimal h.field ≡ true)
     × (is_allowed h ≡ true))
 IsStep scale (Sizes h) words next written =
-    (IsSkipped words × (written ≡ words) × (next ≡ Sizes h))
+    (AreBlankOrComment words × (written ≡ words) × (next ≡ Sizes h))
     ⊎ ((is_content words ≡ true) × (written ≡ words) × (next ≡ Entries h)
     × (is_size words ≡ true) × IsSized h words)
 IsStep scale (Entries h) words next written =
-    (IsSkipped words × (written ≡ words) × (next ≡ Entries h))
+    (AreBlankOrComment words × (written ≡ words) × (next ≡ Entries h))
     ⊎ ((is_content words ≡ true) × (is_content written ≡ true) × (next ≡ Entries h)
     × (is_entry words ≡ true) × (is_entry written ≡ true)
     × IsScaledEntry scale h.format words written)
@@ -88,7 +88,7 @@ pub record IsHead (format : Format) (symmetry : Symmetry) (line : List ℕ) : Ty
 -- a line that is blank, or a comment below the header, is written as it is
 abbrev pub IsCopied : Stage → List ℕ → List ℕ → Type 0
 IsCopied Head line written = words_of line ≡ [] → written ≡ line
-IsCopied stage line written = IsSkipped (words_of line) → written ≡ line
+IsCopied stage line written = AreBlankOrComment (words_of line) → written ≡ line
 
 -- for this line one was appended, and the next is at this stage
 pub record IsLineWritten (scale : ℕ) (stage : Stage) (line : List ℕ) (next : Stage)

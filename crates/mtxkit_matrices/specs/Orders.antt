@@ -2,8 +2,8 @@
 use Rattle.std.specs.Prelude.{◌≡◌, ℕ, ◌<◌, ◌⊎◌, List, [], ◌∷◌, All, map}
 
 -- the row and the column of each triplet
-abbrev pub places_of : {T : Type 0} → List (ℕ × ℕ × T) → List (ℕ × ℕ)
-places_of ts = map {B = ℕ × ℕ} (λ t. (t.0, t.1)) ts
+abbrev pub coordinates_of : {T : Type 0} → List (ℕ × ℕ × T) → List (ℕ × ℕ)
+coordinates_of ts = map {B = ℕ × ℕ} (λ t. (t.0, t.1)) ts
 
 -- in an earlier column, or in the same one and an earlier row
 abbrev pub IsBefore : ℕ × ℕ → ℕ × ℕ → Type 0

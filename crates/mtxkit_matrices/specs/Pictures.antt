@@ -1,6 +1,6 @@
 -- Pictures of patterns.
 use Rattle.std.specs.Prelude.{◌≡◌, ℕ, ◌+◌, ◌*◌, ◌/◌, ◌<◌, Bool, false, List, slice_index_or}
-use Rattle.sparse_pattern.specs.Raw.{Raw, IsPlace}
+use Rattle.sparse_pattern.specs.Raw.{Raw, IsEntry}
 
 -- rows of cells, row by row; a black cell is true
 pub record Bitmap : Type 0 where
@@ -20,10 +20,10 @@ cell_of size cells i = i * cells / size
 
 -- some place of the pattern lies in the cell at row r and column c of a picture of this height and
 -- this width
-pub record HasPlaceIn (p : Raw) (height width r c : ℕ) : Type 0 where
+pub record HasEntryIn (p : Raw) (height width r c : ℕ) : Type 0 where
   pub i : ℕ
   pub j : ℕ
-  pub place : IsPlace p i j
+  pub place : IsEntry p i j
   pub down : cell_of p.major_dim height i ≡ r
   pub across : cell_of p.minor_dim width j ≡ c
 
@@ -34,4 +34,4 @@ pub record IsMarked (p : Raw) (height width q : ℕ) : Type 0 where
   pub row : r < height
   pub col : c < width
   pub at : r * width + c ≡ q
-  pub has : HasPlaceIn p height width r c
+  pub has : HasEntryIn p height width r c

@@ -47,15 +47,15 @@ abbrev pub with_integers : Header → Header
 with_integers h = record { format = h.format; field = Integer; symmetry = h.symmetry }
 
 -- the line is blank or a comment
-abbrev pub IsPassedOver : List ℕ → Type 0
-IsPassedOver line = AreBlanks line ⊎ ((before : List ℕ) × (rest : List ℕ) × AreBlanks before
+abbrev pub IsBlankOrComment : List ℕ → Type 0
+IsBlankOrComment line = AreBlanks line ⊎ ((before : List ℕ) × (rest : List ℕ) × AreBlanks before
     × (line ≡ before ++ (37 ∷ rest)))
 
 -- a line for each line; those of blank lines and comments are the same
 abbrev pub AreKept : List (List ℕ) → List (List ℕ) → Type 0
 AreKept [] [] = Unit {0}
 AreKept (line ∷ lines) (written ∷ more) =
-    (IsPassedOver line → written ≡ line) × AreKept lines more
+    (IsBlankOrComment line → written ≡ line) × AreKept lines more
 AreKept lines more = ⊥
 
 -- the same of lines of which the first that is not blank, the header, is written anew

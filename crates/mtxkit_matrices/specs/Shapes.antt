@@ -1,15 +1,15 @@
 -- The shape of a pattern.
 use Rattle.std.specs.Prelude.{◌≡◌, ℕ, ◌≤◌, ◌⊎◌}
 use Rattle.std.specs.Int.{abs_diff}
-use Rattle.sparse_pattern.specs.Raw.{Raw, IsPlace}
+use Rattle.sparse_pattern.specs.Raw.{Raw, IsEntry}
 
 -- square, with the place (j, i) for each place (i, j)
 pub record IsSymmetricPattern (p : Raw) : Type 0 where
   pub square : p.major_dim ≡ p.minor_dim
-  pub places : (i j : ℕ) → IsPlace p i j → IsPlace p j i
+  pub places : (i j : ℕ) → IsEntry p i j → IsEntry p j i
 
 -- the greatest distance of a place from the diagonal, or 0 if there are no places
 pub record IsBandwidth (p : Raw) (width : ℕ) : Type 0 where
-  pub bound : (i j : ℕ) → IsPlace p i j → abs_diff i j ≤ width
+  pub bound : (i j : ℕ) → IsEntry p i j → abs_diff i j ≤ width
   pub reached : (width ≡ 0)
-      ⊎ ((i : ℕ) × (j : ℕ) × IsPlace p i j × (abs_diff i j ≡ width))
+      ⊎ ((i : ℕ) × (j : ℕ) × IsEntry p i j × (abs_diff i j ≡ width))

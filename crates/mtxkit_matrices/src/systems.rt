@@ -5,9 +5,9 @@ ghost use Rattle.sparse_coo_dense.specs.CooPlain.{plain_of_coo};
 ghost use Rattle.sparse_coo_dense.specs.DensePlain.{plain_of_dense};
 ghost use Rattle.sparse_compressed.specs.PlainOfLanes.{plain_of_rows};
 ghost use Rattle.sparse_algebra.specs.Plain.{plain_product};
-ghost use Rattle.sparse_with_dense.specs.Solutions.{HasSameValues};
+ghost use Rattle.sparse_dense_ops.specs.Solutions.{HasSameValues};
 ghost use Rattle.sparse_algebra.specs.declared.error.OperationErrorKind.TheVariants.{Singular};
-ghost use Rattle.mtxkit_matrices.specs.Orders.{IsByColumns, places_of};
+ghost use Rattle.mtxkit_matrices.specs.Orders.{IsByColumns, coordinates_of};
 ghost use Rattle.mtxkit_matrices.specs.Systems.{HasNoFactorisation, IsEquation, IsSystem};
 ghost use Rattle.mtxkit_matrices.specs.Values.{IsSymmetricMatrix};
 ghost use Rattle.mtxkit_matrices.specs.declared.systems.SystemError.TheVariants.{NoFactors};
@@ -124,7 +124,7 @@ pub fn solve_listed<T: Units>(
     b: &CooMatrix<T>,
 ) -> Result<CooMatrix<T>, SystemError>
     ensures shapes { (result ≡ Err Shapes) ↔ (IsSystem a.now b.now → ⊥) }
-    ensures order { IfOk result (λ x. IsByColumns (places_of x.triplets)) }
+    ensures order { IfOk result (λ x. IsByColumns (coordinates_of x.triplets)) }
     ensures nonzero { IfOk result
         (λ x. All (λ t. T.value t.2 ≡ T.ring.zero → ⊥) x.triplets) }
     ensures rows { IfOk result (λ x. x.nrows ≡ a.now.ncols) }
@@ -150,7 +150,7 @@ fn listed<T: Ring>(alloc: Global, x: &DMatrix<T>) -> Result<CooMatrix<T>, AllocE
     ensures cols { IfOk result (λ m. m.ncols ≡ x.now.ncols) }
     ensures values { IfOk result (λ m. (i j : ℕ) → (plain_of_coo T.ring T.value m).value i j
         ≡ (plain_of_dense T.ring T.value x.now).value i j) }
-    ensures order { IfOk result (λ m. IsByColumns (places_of m.triplets)) }
+    ensures order { IfOk result (λ m. IsByColumns (coordinates_of m.triplets)) }
     ensures nonzero { IfOk result (λ m. All (λ t. T.value t.2 ≡ T.ring.zero → ⊥) m.triplets) }
 {
     from_dense_law::<T>();

@@ -3,7 +3,7 @@
 ghost use Rattle.std.specs.Prelude.{◌≡◌, IfOk, MatchOption};
 ghost use Rattle.sparse_compressed.specs.PlainOfLanes.{plain_of_rows};
 ghost use Rattle.sparse_compressed.specs.Compressed.{lane_triplets};
-ghost use Rattle.sparse_compressed.specs.Filter.{is_lower, HasSizesOf};
+ghost use Rattle.sparse_compressed.specs.Filter.{is_lower, HasShapeOf};
 ghost use Rattle.std.specs.List.{filter};
 ghost use Rattle.mtxkit_matrices.specs.Values.{IsSymmetricMatrix};
 
@@ -19,7 +19,7 @@ pub fn lower_of<T: Ring>(
     matrix: &CsrMatrix<T>,
 ) -> Result<Option<CsrMatrix<T>>, AllocError>
     ensures sizes { IfOk result
-        (λ found. MatchOption found (Unit {0}) (HasSizesOf matrix.now)) }
+        (λ found. MatchOption found (Unit {0}) (HasShapeOf matrix.now)) }
     ensures lower { IfOk result (λ found. MatchOption found
         (¬ IsSymmetricMatrix T.ring (plain_of_rows T.ring T.value matrix.now))
         (λ l. IsSymmetricMatrix T.ring (plain_of_rows T.ring T.value matrix.now)

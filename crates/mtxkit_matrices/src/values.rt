@@ -4,10 +4,10 @@ ghost use Rattle.std.specs.Prelude.{◌≡◌, ℕ, ◌<◌, ◌↔◌, IfOk, Is
 ghost use Rattle.std.specs.Prelude.{slice_index_or};
 ghost use Rattle.sparse_compressed.specs.Compressed.{IsSound};
 ghost use Rattle.sparse_compressed.specs.PlainOfLanes.{plain_of_rows};
-ghost use Rattle.sparse_with_dense.specs.Solutions.{HasSameValues};
+ghost use Rattle.sparse_dense_ops.specs.Solutions.{HasSameValues};
 ghost use Rattle.mtxkit_matrices.specs.Values.{AllZero, IsSymmetricMatrix};
 
-use sparse_algebra::learn;
+use sparse_algebra::recall;
 use sparse_algebra::scalar::Ring;
 use sparse_compressed::laws::transpose_law;
 use sparse_csr_csc::csr::CsrMatrix;
@@ -41,8 +41,8 @@ pub fn has_same_values<T: Ring>(
         ↔ HasSameValues T.ring a.now.pattern.major_dim a.now.pattern.minor_dim
         (plain_of_rows T.ring T.value a.now) (plain_of_rows T.ring T.value b.now)) }
 {
-    learn(a.values());
-    learn(b.values());
+    recall(a.values());
+    recall(b.values());
     let difference = sub_csr(alloc, a, b)?;
     Ok(is_zero(&difference))
 }
@@ -60,7 +60,7 @@ pub fn has_symmetric_values<T: Ring>(
     if matrix.nrows() != matrix.ncols() {
         return Ok(false);
     }
-    learn(matrix.values());
+    recall(matrix.values());
     transpose_law::<T>();
     let transposed = matrix.transpose(alloc)?;
     Ok(has_same_values(alloc, matrix, &transposed)?)

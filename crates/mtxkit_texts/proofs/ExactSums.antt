@@ -18,12 +18,12 @@ use Rattle.sparse_algebra.specs.declared.scalar.wrapping.W64.{W64}
 use Rattle.sparse_algebra.proofs.PlainLaws.{proper_plain_of_triplets}
 use Rattle.sparse_algebra.proofs.WholeNumbers.{number_of-class, number_of-wrapped}
 use Rattle.sparse_coo_dense.specs.Coo.{Coo}
-use Rattle.sparse_compressed.specs.Compressed.{Compressed, IsSound, IsPosition}
+use Rattle.sparse_compressed.specs.Compressed.{Compressed, IsSound, IsOffset}
 use Rattle.sparse_compressed.specs.PlainOfLanes.{plain_of_rows}
-use Rattle.sparse_compressed.proofs.Arrays.{position_within}
-use Rattle.sparse_compressed.proofs.Standing.{rows_have, rows_are}
-use Rattle.sparse_pattern.proofs.Positions.{lane_of_position}
-use Rattle.sparse_pattern.specs.Raw.{IsPlace}
+use Rattle.sparse_compressed.proofs.Arrays.{offset_within}
+use Rattle.sparse_compressed.proofs.ArraysDeterminePlain.{plain_of_rows-has_lanes, plain_of_rows-unique}
+use Rattle.sparse_pattern.proofs.OffsetsInLanes.{lane_of_offset}
+use Rattle.sparse_pattern.specs.Raw.{IsEntry}
 use Rattle.mtxkit_texts.specs.Loaded.{HasSums, HasFittingSums, IsNarrow, ring128, value128}
 use Rattle.mtxkit_texts.specs.Loaded.{sums_of}
 
@@ -74,13 +74,13 @@ narrow-fits list few fit i j =
 
 -- the number at a position is that of the class of the sum of the integers of its place
 pub class-at : (list : Coo ℤ) (m : Compressed W128) → IsSound m → HasSums list m → (i j p : ℕ)
-    (z : W128) → IsPosition m.pattern i j p
+    (z : W128) → IsOffset m.pattern i j p
     → w128_number (slice_index_or m.values p z)
     ≡ number_of w128 (wrapped w128 ((sums_of list).value i j))
 class-at list m sound sums i j p z at =
     let v : W128 = slice_index_or m.values p z in
     sym (number_of-class w128 (w128_number v) v.in_range)
-    ∙ ap (number_of w128) ((rows_have ring128 value128 m sound).values i j p z at)
+    ∙ ap (number_of w128) ((plain_of_rows-has_lanes ring128 value128 m sound).values i j p z at)
     ∙ ap (λ (a : Plain ring128). number_of w128 (a.value i j)) sums
 
 -- ---- sums that fit
@@ -88,7 +88,7 @@ class-at list m sound sums i j p z at =
 module _ (list : Coo ℤ) (m : Compressed W128) (sound : IsSound m) (sums : HasSums list m)
     (fits : HasFittingSums list) where
   -- the number at a position is the sum of the integers of its place
-  pub number-at : (i j p : ℕ) (z : W128) → IsPosition m.pattern i j p
+  pub number-at : (i j p : ℕ) (z : W128) → IsOffset m.pattern i j p
       → w128_number (slice_index_or m.values p z) ≡ (sums_of list).value i j
   number-at i j p z at =
       class-at list m sound sums i j p z at ∙ number_of-wrapped w128 _ (fits i j)
@@ -96,7 +96,7 @@ module _ (list : Coo ℤ) (m : Compressed W128) (sound : IsSound m) (sums : HasS
   -- where the sums fit in 64 bits, so do all values
   pub values-narrow : IsNarrow list → All (λ v. FitsSigned w64 (w128_number v)) m.values
   values-narrow narrow k d lt =
-      let found = lane_of_position m.pattern sound.valid k (omega (arith, lt, sound.count)) in
+      let found = lane_of_offset m.pattern sound.valid k (omega (arith, lt, sound.count)) in
       let j = slice_index_or m.pattern.indices k 0 in
       subst (FitsSigned w64) (sym (number-at found.0 j k d (found.1, refl))) (narrow.sums found.0 j)
 
@@ -114,24 +114,24 @@ module _ (list : Coo ℤ) (m : Compressed W128) (sound : IsSound m) (sums : HasS
 
     number-sums : plain_of_rows whole_ring number n ≡ sums_of list
     number-sums =
-        let have = rows_have ring128 value128 m sound in
+        let have = plain_of_rows-has_lanes ring128 value128 m sound in
         let rows = ap (λ (a : Plain ring128). a.rows) sums in
         let cols = ap (λ (a : Plain ring128). a.cols) sums in
         let zero128 : W128 = record { number = pos 0; in_range = fits_zero w128 } in
-        rows_are whole_ring number n sound_n z (sums_of list)
+        plain_of_rows-unique whole_ring number n sound_n z (sums_of list)
         (record {
           rows = ap (λ p. p.major_dim) pattern ∙ rows;
           cols = ap (λ p. p.minor_dim) pattern ∙ cols;
           places = λ i j.
               let h = have.places i j in
               let has = ap (λ (a : Plain ring128). a.has i j) sums in (
-                λ place. sym has ∙ h.0 (subst (λ d. IsPlace d i j) pattern place),
-                λ e. subst (λ d. IsPlace d i j) (sym pattern) (h.1 (has ∙ e)),
+                λ place. sym has ∙ h.0 (subst (λ d. IsEntry d i j) pattern place),
+                λ e. subst (λ d. IsEntry d i j) (sym pattern) (h.1 (has ∙ e)),
               );
           values = λ i j p t at.
-              let within = position_within n.pattern sound_n.valid i j p at in
+              let within = offset_within n.pattern sound_n.valid i j p at in
               number-same p t zero128 (omega (arith, within, sound_n.count))
-              ∙ number-at i j p zero128 (subst (λ d. IsPosition d i j p) pattern at);
+              ∙ number-at i j p zero128 (subst (λ d. IsOffset d i j p) pattern at);
           within = λ i j e.
               let has = ap (λ (a : Plain ring128). a.has i j) sums in
               let in_rows = have.within i j (has ∙ e) in

@@ -1,10 +1,10 @@
 mod ExactSums
 mod Heads
 mod HighSums
-mod ListedPlaces
+mod ListedEntries
 pub mod Revalued
 mod SumRoom
-mod UncarriedTexts
+mod UnsupportedTexts
 mod WideLists
-mod PlaceLines
+mod EntryLines
 mod ShapeParts

@@ -6,7 +6,7 @@ use Rattle.std.specs.List.{list_all}
 use Rattle.sparse_parser.specs.declared.error.MatrixMarketErrorKind.{MatrixMarketErrorKind}
 use Rattle.sparse_parser.specs.declared.header.Header.{Header}
 use Rattle.sparse_parser.specs.declared.size.Size.{Size}
-use Rattle.sparse_parser.specs.Bytes.{front, after}
+use Rattle.sparse_parser.specs.Bytes.{leading, after}
 use Rattle.sparse_parser.specs.InnerBytes.{is_space, is_within_line, BeginsLine}
 use Rattle.sparse_parser.specs.Header.{header_of}
 use Rattle.sparse_parser.specs.Grammar.{is_size, is_entry, IsHeaded}
@@ -14,12 +14,12 @@ use Rattle.sparse_parser.specs.Meaning.{Sizes, sizes_of, is_count}
 use Rattle.sparse_parser.specs.Reads.{Read}
 use Rattle.sparse_parser.specs.InnerReading.{words_of, written_of, contents_of, count_of}
 use Rattle.sparse_parser.specs.InnerReading.{is_content}
-use Rattle.sparse_parser.proofs.Fronts.{IsStopped, IsStopped-after}
+use Rattle.sparse_parser.proofs.LeadingBytes.{IsStopped, IsStopped-after}
 use Rattle.sparse_parser.proofs.ContentLaws.{lines_headed, headed_lines}
 use Rattle.sparse_parser.proofs.WordLaws.{words_of-nil}
-use Rattle.sparse_parser.proofs.FrontLines.{contents_of-line, written_of-first}
-use Rattle.sparse_parser.proofs.FrontLines.{written_of-after_space, written_of-nil}
-use Rattle.sparse_parser.proofs.FrontLines.{contents_of-nil}
+use Rattle.sparse_parser.proofs.FirstLines.{contents_of-line, written_of-first}
+use Rattle.sparse_parser.proofs.FirstLines.{written_of-after_space, written_of-nil}
+use Rattle.sparse_parser.proofs.FirstLines.{contents_of-nil}
 use Rattle.mtxkit_texts.specs.Shapes.{IsShapeOf, HasNoShape}
 use Rattle.mtxkit_texts.specs.InnerShapes.{IsShapeBelow, HasNoShapeBelow}
 use Rattle.mtxkit_texts.specs.declared.shapes.Shape.{Shape}
@@ -34,24 +34,24 @@ no_header header e =
 
 headed_first : (text : List ℕ) (b : ℕ) (start : List ℕ) (header : Header)
     → b ∷ start ≡ after is_space text → is_space b ≡ false
-    → Some header ≡ header_of (words_of (front is_within_line (b ∷ start)))
+    → Some header ≡ header_of (words_of (leading is_within_line (b ∷ start)))
     → IsHeaded text header (contents_of (after is_within_line (b ∷ start)))
 unfolding contents_of
 headed_first text b start header s stop h =
-    lines_headed text (words_of (front is_within_line (b ∷ start)))
+    lines_headed text (words_of (leading is_within_line (b ∷ start)))
     (written_of (after is_within_line (b ∷ start))) header
     (sym (written_of-after_space text) ∙ ap written_of (sym s) ∙ written_of-first b start stop)
     (sym h)
 
 headed_start : (text start : List ℕ) (header : Header) → start ≡ after is_space text
-    → IsStopped is_space start → Some header ≡ header_of (words_of (front is_within_line start))
+    → IsStopped is_space start → Some header ≡ header_of (words_of (leading is_within_line start))
     → IsHeaded text header (contents_of (after is_within_line start))
 headed_start text [] header s stop h = absurd (no_header header h)
 headed_start text (b ∷ start) header s stop h = headed_first text b start header s stop h
 
 -- the header line of a text, and the contents below it
 headed_text : (text start line rest : List ℕ) (header : Header) → start ≡ after is_space text
-    → line ≡ front is_within_line start → rest ≡ after is_within_line start
+    → line ≡ leading is_within_line start → rest ≡ after is_within_line start
     → Some header ≡ header_of (words_of line) → IsHeaded text header (contents_of rest)
 headed_text text start line rest header s l r h =
     subst (λ (x : List ℕ). IsHeaded text header (contents_of x)) (sym r)
@@ -62,22 +62,22 @@ headed_text text start line rest header s l r h =
 -- the first line that is not blank, and the lines below it
 begun : (text start : List ℕ) → start ≡ after is_space text → IsStopped is_space start
     → (words : List (List ℕ)) (others : List (List (List ℕ))) → written_of text ≡ words ∷ others
-    → (words ≡ words_of (front is_within_line start))
+    → (words ≡ words_of (leading is_within_line start))
     × (others ≡ written_of (after is_within_line start))
 begun text [] s stop words others e = absurd
     (let f : written_of text ≡ [] =
     sym (written_of-after_space text) ∙ ap written_of (sym s) ∙ written_of-nil in cc)
 begun text (b ∷ start) s stop words others e =
-    let f : written_of text ≡ words_of (front is_within_line (b ∷ start))
+    let f : written_of text ≡ words_of (leading is_within_line (b ∷ start))
     ∷ written_of (after is_within_line (b ∷ start)) =
     sym (written_of-after_space text) ∙ ap written_of (sym s) ∙ written_of-first b start stop in
-    let first : words ≡ words_of (front is_within_line (b ∷ start)) = cc in
+    let first : words ≡ words_of (leading is_within_line (b ∷ start)) = cc in
     let others_are : others ≡ written_of (after is_within_line (b ∷ start)) = cc in
     (first, others_are)
 
 -- no text has another header, nor other contents below it
 headed_once : (text start line rest : List ℕ) → start ≡ after is_space text
-    → line ≡ front is_within_line start → rest ≡ after is_within_line start
+    → line ≡ leading is_within_line start → rest ≡ after is_within_line start
     → (header : Header) (contents : List (List (List ℕ))) → IsHeaded text header contents
     → (header_of (words_of line) ≡ Some header) × (contents ≡ contents_of rest)
 unfolding contents_of
@@ -97,15 +97,15 @@ no_size e = let f : is_size (words_of []) ≡ false = ap is_size words_of-nil in
     let g : false ≡ true = sym f ∙ e in cc
 
 sized_start : (start : List ℕ) → BeginsLine start
-    → is_size (words_of (front is_within_line start)) ≡ true
-    → contents_of start ≡ words_of (front is_within_line start)
+    → is_size (words_of (leading is_within_line start)) ≡ true
+    → contents_of start ≡ words_of (leading is_within_line start)
     ∷ contents_of (after is_within_line start)
 sized_start [] b e = absurd (no_size e)
 sized_start (c ∷ start) b e = contents_of-line c start b.0 b.1
 
 -- the size line of a text below a header, and the contents below it
 sized_text : (text start line rest : List ℕ) → BeginsLine start
-    → contents_of start ≡ contents_of text → line ≡ front is_within_line start
+    → contents_of start ≡ contents_of text → line ≡ leading is_within_line start
     → rest ≡ after is_within_line start → is_size (words_of line) ≡ true
     → contents_of text ≡ words_of line ∷ contents_of rest
 sized_text text start line rest b same l r e =
@@ -117,14 +117,14 @@ sized_text text start line rest b same l r e =
 -- no text has another size line, nor other contents below it
 sized_once : (start : List ℕ) → BeginsLine start → (size : List (List ℕ))
     (lines : List (List (List ℕ))) → contents_of start ≡ size ∷ lines
-    → (size ≡ words_of (front is_within_line start))
+    → (size ≡ words_of (leading is_within_line start))
     × (lines ≡ contents_of (after is_within_line start))
 sized_once [] b size lines e =
     absurd (let f : contents_of [] ≡ [] = contents_of-nil in cc)
 sized_once (c ∷ start) b size lines e =
-    let f : contents_of (c ∷ start) ≡ words_of (front is_within_line (c ∷ start))
+    let f : contents_of (c ∷ start) ≡ words_of (leading is_within_line (c ∷ start))
     ∷ contents_of (after is_within_line (c ∷ start)) = contents_of-line c start b.0 b.1 in
-    let first : size ≡ words_of (front is_within_line (c ∷ start)) = cc in
+    let first : size ≡ words_of (leading is_within_line (c ∷ start)) = cc in
     let others : lines ≡ contents_of (after is_within_line (c ∷ start)) = cc in
     (first, others)
 
@@ -152,7 +152,7 @@ same_sizes x y r e f = cc
 
 -- a shape below a header has the sizes of the size line, and the data lines are those below it
 module _ (text start line rest : List ℕ) (begins : BeginsLine start)
-    (same : contents_of start ≡ contents_of text) (l : line ≡ front is_within_line start)
+    (same : contents_of start ≡ contents_of text) (l : line ≡ leading is_within_line start)
     (r : rest ≡ after is_within_line start) where
   below_once : (s : Shape) → (b : IsShapeBelow (contents_of text) s)
       → (b.size ≡ words_of line) × (b.lines ≡ contents_of rest)
@@ -190,7 +190,7 @@ module _ (text start line rest : List ℕ) (begins : BeginsLine start)
 
 -- what stands below a header is this shape, or there is none
 pub shape_parts : (h : Header) (size : Size) (text start line rest : List ℕ) → BeginsLine start
-    → contents_of start ≡ contents_of text → line ≡ front is_within_line start
+    → contents_of start ≡ contents_of text → line ≡ leading is_within_line start
     → rest ≡ after is_within_line start → is_size (words_of line) ≡ true
     → Ok (size.rows, size.cols, size.count) ≡ sizes_of h (words_of line)
     → (r : Option Shape) → IfSome r (λ s. s.header ≡ h)
@@ -218,7 +218,7 @@ shape_parts h size text start line rest begins same l k sized e (Some s) a b c d
 
 -- a text without a header has no shape
 pub shape_none : (text start line rest : List ℕ) → start ≡ after is_space text
-    → line ≡ front is_within_line start → rest ≡ after is_within_line start
+    → line ≡ leading is_within_line start → rest ≡ after is_within_line start
     → None ≡ header_of (words_of line) → HasNoShape text
 shape_none text start line rest s l r e = λ shape is.
     let k = headed_once text start line rest s l r shape.header _ is.document.headed in
@@ -227,7 +227,7 @@ shape_none text start line rest s l r e = λ shape is.
 
 -- a text with this header has the shape that stands below it, or none
 pub shape_whole : (text start line rest : List ℕ) → start ≡ after is_space text
-    → line ≡ front is_within_line start → rest ≡ after is_within_line start → (h : Header)
+    → line ≡ leading is_within_line start → rest ≡ after is_within_line start → (h : Header)
     → Some h ≡ header_of (words_of line) → (r : Option Shape) → IfSome r (λ s. s.header ≡ h)
     → MatchOption r (HasNoShapeBelow h (contents_of rest)) (IsShapeBelow (contents_of rest))
     → MatchOption r (HasNoShape text) (IsShapeOf text)

@@ -16,12 +16,12 @@ use Rattle.sparse_algebra.proofs.PlainLaws.{proper_plain_of_triplets}
 use Rattle.sparse_algebra.proofs.WholeNumbers.{number_of-class}
 use Rattle.sparse_coo_dense.specs.Coo.{Coo}
 use Rattle.sparse_coo_dense.specs.CooPlain.{plain_of_coo}
-use Rattle.sparse_compressed.specs.Compressed.{Compressed, IsSound, IsPosition}
-use Rattle.sparse_compressed.proofs.Arrays.{position_within}
-use Rattle.sparse_compressed.proofs.Standing.{rows_have}
+use Rattle.sparse_compressed.specs.Compressed.{Compressed, IsSound, IsOffset}
+use Rattle.sparse_compressed.proofs.Arrays.{offset_within}
+use Rattle.sparse_compressed.proofs.ArraysDeterminePlain.{plain_of_rows-has_lanes}
 use Rattle.sparse_pattern.specs.Raw.{Raw}
-use Rattle.sparse_pattern.proofs.Positions.{lane_of_position}
-use Rattle.sparse_pattern.proofs.SamePlaces.{same_from_places}
+use Rattle.sparse_pattern.proofs.OffsetsInLanes.{lane_of_offset}
+use Rattle.sparse_pattern.proofs.SameEntries.{equal_from_entries}
 use Rattle.mtxkit_texts.specs.HighParts.{AreNear, IsNear, high_part}
 use Rattle.mtxkit_texts.specs.Loaded.{HasFittingSums, HasSums, ring128, sums_of, value128}
 use Rattle.mtxkit_texts.proofs.ExactSums.{class-at, narrow-fits, number-at}
@@ -31,7 +31,7 @@ use Rattle.mtxkit_texts.proofs.Revalued.{revalued, plain-revalued}
 
 -- the number at a position is what is left of the sum of its place
 pub left-at : (list : Coo ℤ) (m : Compressed W128) → IsSound m → HasSums list m → (i j p : ℕ)
-    (z : W128) → IsPosition m.pattern i j p
+    (z : W128) → IsOffset m.pattern i j p
     → w128_number (slice_index_or m.values p z) ≡ int_wrap w128 ((sums_of list).value i j)
 left-at list m sound sums i j p z at =
     class-at list m sound sums i j p z at
@@ -62,9 +62,9 @@ module _ (list highs : Coo ℤ) (few : length list.triplets < 2 ^ 64) (vs : List
 
   same_pattern : h.pattern ≡ m.pattern
   same_pattern =
-      let have_m = rows_have ring128 value128 m sound_m in
-      let have_h = rows_have ring128 value128 h sound_h in
-      same_from_places h.pattern m.pattern sound_h.valid sound_m.valid record {
+      let have_m = plain_of_rows-has_lanes ring128 value128 m sound_m in
+      let have_h = plain_of_rows-has_lanes ring128 value128 h sound_h in
+      equal_from_entries h.pattern m.pattern sound_h.valid sound_m.valid record {
         major_dim = ap (λ (a : Plain ring128). a.rows) sums_h
             ∙ ap (λ (a : Plain whole_ring). a.rows) plain
             ∙ sym (ap (λ (a : Plain ring128). a.rows) sums_m);
@@ -80,22 +80,22 @@ module _ (list highs : Coo ℤ) (few : length list.triplets < 2 ^ 64) (vs : List
             );
       }
 
-  high-at : (i j p : ℕ) (z : W128) → IsPosition m.pattern i j p
+  high-at : (i j p : ℕ) (z : W128) → IsOffset m.pattern i j p
       → w128_number (slice_index_or h.values p z)
       ≡ (plain_of_coo whole_ring high_part list).value i j
   high-at i j p z at =
       number-at highs h sound_h sums_h fits i j p z
-      (subst (λ d. IsPosition d i j p) (sym same_pattern) at)
+      (subst (λ d. IsOffset d i j p) (sym same_pattern) at)
       ∙ ap (λ (a : Plain whole_ring). a.value i j) plain
 
   fitting : AreNear m.values h.values (length list.triplets) → HasFittingSums list
   fitting near i j = elim (true_or_false ((sums_of list).has i j)) [
     | inl has ↦
-        let place = ((rows_have ring128 value128 m sound_m).places i j).1
+        let place = ((plain_of_rows-has_lanes ring128 value128 m sound_m).places i j).1
         (ap (λ (a : Plain ring128). a.has i j) sums_m ∙ has) in
         let zero : W128 = record { number = pos 0; in_range = fits_zero w128 } in
-        let at : IsPosition m.pattern i j place.at = (place.in_lane, place.index) in
-        let within = position_within m.pattern sound_m.valid i j place.at at in
+        let at : IsOffset m.pattern i j place.at = (place.in_lane, place.index) in
+        let within = offset_within m.pattern sound_m.valid i j place.at at in
         fits-from_near (length list.triplets) _ _ few (above-sums i j list.triplets)
         (subst (λ w. IsNear w ((plain_of_coo whole_ring high_part list).value i j) (length list.triplets))
         (left-at list m sound_m sums_m i j place.at zero at)
@@ -109,10 +109,10 @@ module _ (list highs : Coo ℤ) (few : length list.triplets < 2 ^ 64) (vs : List
 
   near : HasFittingSums list → AreNear m.values h.values (length list.triplets)
   near room k z lt =
-      let found = lane_of_position m.pattern sound_m.valid k (omega (arith, lt, sound_m.count)) in
+      let found = lane_of_offset m.pattern sound_m.valid k (omega (arith, lt, sound_m.count)) in
       let i = found.0 in
       let j = slice_index_or m.pattern.indices k 0 in
-      let at : IsPosition m.pattern i j k = (found.1, refl) in
+      let at : IsOffset m.pattern i j k = (found.1, refl) in
       subst (λ w. IsNear w (w128_number (slice_index_or h.values k z)) (length list.triplets))
       (sym (left-at list m sound_m sums_m i j k z at))
       (subst (λ v. IsNear (int_wrap w128 ((sums_of list).value i j)) v (length list.triplets))

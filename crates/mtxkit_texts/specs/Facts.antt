@@ -12,7 +12,7 @@ use Rattle.mtxkit_texts.specs.Headers.{header_in}
 use Rattle.mtxkit_texts.specs.Loaded.{MeansWhole, IsWholeFailure, ring128, value128}
 use Rattle.mtxkit_texts.specs.Shapes.{WritesShape}
 use Rattle.mtxkit_texts.specs.declared.failure.Failure.{Failure}
-use Rattle.mtxkit_texts.specs.declared.failure.Failure.TheVariants.{NotCarried, OutOfMemory}
+use Rattle.mtxkit_texts.specs.declared.failure.Failure.TheVariants.{NotSupported, OutOfMemory}
 
 -- the facts are those of the matrix
 abbrev pub AreFactsOf : Compressed W128 → Info → Type 0
@@ -38,4 +38,4 @@ WritesInfo text written = WritesFacts text written ⊎ WritesShape text written
 -- never that its values are real or complex
 abbrev pub IsInfoFailure : List ℕ → Failure → Type 0
 IsInfoFailure text failure = (failure ≡ OutOfMemory)
-    ⊎ ((failure ≢ NotCarried 1) × IsWholeFailure 1 text failure)
+    ⊎ ((failure ≢ NotSupported 1) × IsWholeFailure 1 text failure)

@@ -3,25 +3,25 @@ use Rattle.std.specs.Prelude.{◌≡◌, ℕ, Bool, true, false, List}
 use Rattle.sparse_parser.specs.declared.error.MatrixMarketErrorKind.{MatrixMarketErrorKind}
 use Rattle.sparse_parser.specs.declared.error.MatrixMarketErrorKind.TheVariants as kinds
 use Rattle.mtxkit_matrices.specs.Lines.{HasLineNumber}
-use Rattle.mtxkit_texts.specs.Headers.{header_in, is_carried}
+use Rattle.mtxkit_texts.specs.Headers.{header_in, is_supported}
 use Rattle.mtxkit_texts.specs.declared.failure.Failure.{Failure}
-use Rattle.mtxkit_texts.specs.declared.failure.Failure.TheVariants.{Input, NotCarried, OutOfMemory}
-use Rattle.mtxkit_texts.specs.declared.spots.Spot.{Spot}
+use Rattle.mtxkit_texts.specs.declared.failure.Failure.TheVariants.{Input, NotSupported, OutOfMemory}
+use Rattle.mtxkit_texts.specs.declared.locations.Location.{Location}
 
 -- the failure names the text with this number, this error and a line of the text
 abbrev pub IsInput : ℕ → List ℕ → MatrixMarketErrorKind → Failure → Type 0
-IsInput number text kind failure = (spot : Spot) × (HasLineNumber text spot.line
-    × (failure ≡ Input number kind spot))
+IsInput number text kind failure = (location : Location) × (HasLineNumber text location.line
+    × (failure ≡ Input number kind location))
 
 -- a value of a text, whose field is carried or not, does not have its type
 abbrev pub IsMismatch : Bool → ℕ → List ℕ → Failure → Type 0
 IsMismatch true number text failure = IsInput number text kinds.TypeMismatch failure
-IsMismatch false number text failure = failure ≡ NotCarried number
+IsMismatch false number text failure = failure ≡ NotSupported number
 
 -- the failure of the text with this number, which means this error: values are not carried only
 -- where the header names real or complex ones
 abbrev pub IsTextFault : ℕ → List ℕ → MatrixMarketErrorKind → Failure → Type 0
 IsTextFault number text kinds.OutOfMemory failure = failure ≡ OutOfMemory
 IsTextFault number text kinds.TypeMismatch failure =
-    IsMismatch (is_carried (header_in text)) number text failure
+    IsMismatch (is_supported (header_in text)) number text failure
 IsTextFault number text kind failure = IsInput number text kind failure

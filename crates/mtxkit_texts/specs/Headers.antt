@@ -1,6 +1,6 @@
 -- The headers of texts.
 use Rattle.std.specs.Prelude.{ℕ, List, Option, Some, None, Bool, true, false}
-use Rattle.sparse_parser.specs.Bytes.{after, front}
+use Rattle.sparse_parser.specs.Bytes.{after, leading}
 use Rattle.sparse_parser.specs.Header.{header_of}
 use Rattle.sparse_parser.specs.InnerBytes.{is_space, is_within_line}
 use Rattle.sparse_parser.specs.InnerReading.{words_of}
@@ -13,7 +13,7 @@ use Rattle.sparse_parser.specs.declared.header.Symmetry.TheVariants.{SkewSymmetr
 
 -- the contents of the first line that is not blank, if it is a header
 abbrev pub header_in : List ℕ → Option Header
-header_in text = header_of (words_of (front is_within_line (after is_space text)))
+header_in text = header_of (words_of (leading is_within_line (after is_space text)))
 
 -- some entries imply a mirrored one
 abbrev pub is_mirrored : Symmetry → Bool
@@ -23,16 +23,16 @@ is_mirrored SkewSymmetric = true
 is_mirrored Hermitian = true
 
 -- the values of the field are carried: integers, and the places of a pattern
-abbrev pub is_carried_field : Field → Bool
-is_carried_field Real = false
-is_carried_field Complex = false
-is_carried_field Integer = true
-is_carried_field Pattern = true
+abbrev pub is_supported_field : Field → Bool
+is_supported_field Real = false
+is_supported_field Complex = false
+is_supported_field Integer = true
+is_supported_field Pattern = true
 
 -- the header, if there is one, names a field whose values are carried
-abbrev pub is_carried : Option Header → Bool
-is_carried None = true
-is_carried (Some h) = is_carried_field h.field
+abbrev pub is_supported : Option Header → Bool
+is_supported None = true
+is_supported (Some h) = is_supported_field h.field
 
 -- the field is that of a pattern
 abbrev pub is_pattern_field : Field → Bool

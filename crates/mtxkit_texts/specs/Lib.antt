@@ -5,7 +5,7 @@ pub mod Headers
 pub mod HighParts
 pub mod Loaded
 pub mod Lower
-pub mod Places
+pub mod ListEntries
 pub mod Rewritten
 pub mod Shown
 pub mod Statuses

@@ -20,7 +20,7 @@ use Rattle.sparse_parser.specs.declared.error.MatrixMarketErrorKind.{MatrixMarke
 use Rattle.sparse_market_scalar.specs.ScalarTypes.{pattern_scalar, signed_scalar}
 use Rattle.mtxkit_texts.specs.Faults.{IsTextFault}
 use Rattle.mtxkit_texts.specs.Headers.{header_in, is_pattern}
-use Rattle.mtxkit_texts.specs.Places.{HasPlacesOf}
+use Rattle.mtxkit_texts.specs.ListEntries.{HasEntriesOf}
 use Rattle.mtxkit_texts.specs.declared.failure.Failure.{Failure}
 use Rattle.mtxkit_texts.specs.declared.failure.Failure.TheVariants.{OutOfMemory, Wide}
 use Rattle.mtxkit_texts.specs.declared.failure.Failure.TheVariants.{Overflow}
@@ -87,7 +87,7 @@ pub record MeansOnes {T : Type 0} (R : CommRing) (f : T → R.Carrier) (text : L
   pub list : Coo (Unit {0})
   pub counted : entries ≡ length list.triplets
   pub means : Means pattern_scalar text (Ok list)
-  pub places : HasPlacesOf list m.pattern
+  pub places : HasEntriesOf list m.pattern
   pub ones : All (λ v. f v ≡ R.one) m.values
 
 -- one of both, by whether the header names a pattern

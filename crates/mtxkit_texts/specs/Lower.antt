@@ -6,7 +6,7 @@ use Rattle.sparse_algebra.specs.Algebra.{CommRing}
 use Rattle.sparse_algebra.specs.declared.scalar.wide.W128.{W128}
 use Rattle.sparse_algebra.specs.declared.scalar.wrapping.W64.{W64}
 use Rattle.sparse_compressed.specs.Compressed.{Compressed, lane_triplets}
-use Rattle.sparse_compressed.specs.Filter.{is_lower, HasSizesOf}
+use Rattle.sparse_compressed.specs.Filter.{is_lower, HasShapeOf}
 use Rattle.sparse_compressed.specs.PlainOfLanes.{plain_of_rows}
 use Rattle.sparse_coo_dense.specs.Coo.{Coo}
 use Rattle.sparse_market_scalar.specs.ScalarTypes.{pattern_scalar}
@@ -48,7 +48,7 @@ IsSymmetricPattern lower written = (general : List ℕ)
 pub record IsLowerOf {T : Type 0} (R : CommRing) (f : T → R.Carrier) (matrix lower : Compressed T)
     : Type 0 where
   pub is : IsSymmetricMatrix R (plain_of_rows R f matrix)
-  pub sizes : HasSizesOf matrix lower
+  pub sizes : HasShapeOf matrix lower
   pub kept : lane_triplets lower ≡ filter is_lower (lane_triplets matrix)
 
 -- the lower triangle of the symmetric pattern that the text means, in symmetric form

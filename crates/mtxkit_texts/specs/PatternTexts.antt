@@ -6,8 +6,8 @@ use Rattle.sparse_io.specs.Written.{heading, size_line}
 use Rattle.sparse_pattern.specs.Raw.{Raw, entries_of}
 
 -- a row and a column, counted from 1, and a line end; no blank stands before it
-unfoldable pub place_line : ℕ × ℕ → List ℕ
-place_line p = decimal (p.0 + 1) ++ (32 ∷ (decimal (p.1 + 1) ++ (10 ∷ [])))
+unfoldable pub entry_line : ℕ × ℕ → List ℕ
+entry_line p = decimal (p.0 + 1) ++ (32 ∷ (decimal (p.1 + 1) ++ (10 ∷ [])))
 
 -- the header, the comment below it, and the size line
 abbrev pub pattern_head : Raw → List ℕ
@@ -15,4 +15,4 @@ pattern_head d = heading (codes "pattern") ++ size_line d.major_dim d.minor_dim 
 
 -- the text of a pattern, row by row
 abbrev pub pattern_text : Raw → List ℕ
-pattern_text d = pattern_head d ++ flat_map place_line (entries_of d)
+pattern_text d = pattern_head d ++ flat_map entry_line (entries_of d)

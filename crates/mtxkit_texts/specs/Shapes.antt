@@ -7,7 +7,7 @@ use Rattle.sparse_parser.specs.declared.error.MatrixMarketErrorKind.TheVariants.
 use Rattle.sparse_market_scalar.specs.ScalarTypes.{signed_scalar}
 use Rattle.mtxkit_matrices.specs.FactLines.{count_line}
 use Rattle.mtxkit_texts.specs.HeaderLines.{header_lines}
-use Rattle.mtxkit_texts.specs.Headers.{header_in, is_carried}
+use Rattle.mtxkit_texts.specs.Headers.{header_in, is_supported}
 use Rattle.mtxkit_texts.specs.declared.shapes.Shape.{Shape}
 
 -- the text is a document of this header and these sizes, and of as many entries as it says
@@ -25,8 +25,8 @@ abbrev pub HasNoShape : List ℕ → Type 0
 HasNoShape text = (s : Shape) → IsShapeOf text s → ⊥
 
 -- the first error of the text is a value, and its header names a real or complex field
-pub record IsUncarried (text : List ℕ) : Type 0 where
-  pub field : is_carried (header_in text) ≡ false
+pub record IsUnsupported (text : List ℕ) : Type 0 where
+  pub field : is_supported (header_in text) ≡ false
   pub means : Means (signed_scalar w128) text (Err TypeMismatch)
 
 -- the lines of the shape
@@ -39,5 +39,5 @@ shape_lines s = header_lines (Some s.header) ++ (count_line (codes "rows") s.row
 pub record WritesShape (text written : List ℕ) : Type 0 where
   pub shape : Shape
   pub of : IsShapeOf text shape
-  pub uncarried : IsUncarried text
+  pub unsupported : IsUnsupported text
   pub is : written ≡ shape_lines shape

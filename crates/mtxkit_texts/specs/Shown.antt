@@ -2,7 +2,7 @@
 use Rattle.std.specs.Prelude.{◌≡◌, ℕ, ◌<◌, ◌≤◌, ◌↔◌, IsTrue, List}
 use Rattle.sparse_algebra.specs.declared.scalar.wide.W128.{W128}
 use Rattle.sparse_compressed.specs.Compressed.{Compressed}
-use Rattle.mtxkit_matrices.specs.Pictures.{Bitmap, HasPlaceIn, is_black}
+use Rattle.mtxkit_matrices.specs.Pictures.{Bitmap, HasEntryIn, is_black}
 use Rattle.mtxkit_matrices.specs.PictureTexts.{bitmap_text, block_text}
 use Rattle.mtxkit_matrices.specs.PictureSizes.{picture_sizes}
 use Rattle.mtxkit_texts.specs.Loaded.{MeansMatrix}
@@ -19,7 +19,7 @@ pub record IsPictureOf (text : List ℕ) (size : ℕ) (picture : Bitmap) : Type 
   pub wide : picture.width ≤ size
   pub black : (r c : ℕ) → r < picture.height → c < picture.width
       → IsTrue (is_black picture r c)
-      ↔ HasPlaceIn matrix.pattern picture.height picture.width r c
+      ↔ HasEntryIn matrix.pattern picture.height picture.width r c
 
 -- the text of such a picture as a portable bitmap
 abbrev pub ShowsBitmap : List ℕ → ℕ → List ℕ → Type 0

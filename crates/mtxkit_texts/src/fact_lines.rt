@@ -5,12 +5,12 @@ ghost use Rattle.mtxkit_texts.specs.HeaderLines.{format_name, field_name, symmet
 ghost use Rattle.mtxkit_texts.specs.HeaderLines.{header_lines, size_lines};
 ghost use Rattle.mtxkit_texts.specs.Facts.{WritesFacts, WritesInfo, IsInfoFailure};
 ghost use Rattle.mtxkit_texts.specs.Loaded.{IsWholeFailure, MeansWhole};
-ghost use Rattle.mtxkit_texts.specs.Shapes.{IsUncarried, WritesShape, shape_lines};
+ghost use Rattle.mtxkit_texts.specs.Shapes.{IsUnsupported, WritesShape, shape_lines};
 
 use crate::failure::Failure;
 use crate::loaded::{Loaded, header_of};
 use crate::shapes::{Shape, shape_of};
-use crate::whole::load_whole;
+use crate::whole::load_exact;
 use mtxkit_matrices::{info_of, push_count, push_facts, push_line};
 use sparse_parser::header::{Field, Format, Header, Symmetry};
 use std::alloc::{AllocError, Global};
@@ -18,13 +18,13 @@ use std::alloc::{AllocError, Global};
 /// Returns the lines that `mtxkit info` writes of a text: what its header says, and the facts about its matrix. Of a text
 /// with real or complex values they are what the header says, the shape, and the number of entries in the file.
 ///
-/// Fails as [`load_whole`](crate::load_whole) does, but never with `NotCarried`: a text whose first error is a real or
+/// Fails as [`load_exact`](crate::load_whole) does, but never with `NotSupported`: a text whose first error is a real or
 /// complex value has its lines.
 pub fn info_text(alloc: Global, text: &str) -> Result<String, Failure>
     ensures written { IfOk result (λ written. WritesInfo text.now (string_bytes written)) }
     ensures refused { IfErr result (IsInfoFailure text.now) }
 {
-    match load_whole(alloc, 1, text) {
+    match load_exact(alloc, 1, text) {
         Ok(loaded) => Ok(facts_text(alloc, text, &loaded)?),
         Err(failure) => shape_text(alloc, text, failure),
     }
@@ -37,14 +37,14 @@ fn shape_text(alloc: Global, text: &str, failure: Failure) -> Result<String, Fai
     ensures refused { IfErr result (IsInfoFailure text.now) }
 {
     match failure {
-        Failure::NotCarried(_) => Ok(uncarried_text(alloc, text)?),
+        Failure::NotSupported(_) => Ok(unsupported_text(alloc, text)?),
         failure => Err(failure),
     }
 }
 
 // Returns the lines of the shape of a text with real or complex values.
-fn uncarried_text(alloc: Global, text: &str) -> Result<String, AllocError>
-    requires { IsUncarried text.now }
+fn unsupported_text(alloc: Global, text: &str) -> Result<String, AllocError>
+    requires { IsUnsupported text.now }
     ensures { IfOk result (λ written. WritesShape text.now (string_bytes written)) }
 {
     match shape_of(text) {

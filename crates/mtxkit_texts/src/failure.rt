@@ -3,7 +3,7 @@
 ghost use Rattle.std.specs.Prelude.{◌≡◌};
 ghost use Rattle.mtxkit_texts.specs.Statuses.{status_of};
 
-use crate::spots::Spot;
+use crate::locations::Location;
 use sparse_parser::error::MatrixMarketErrorKind;
 use std::alloc::{AllocError, AllocFailed};
 use std::error::Error;
@@ -16,9 +16,9 @@ pub enum Failure {
     /// The file with this number, counted from 1, cannot be opened or read, or is no text.
     Unread(usize, io::Error),
     /// The text with this number means this error, and this is its first line that is at fault.
-    Input(usize, MatrixMarketErrorKind, Spot),
+    Input(usize, MatrixMarketErrorKind, Location),
     /// The values of the text with this number are real or complex.
-    NotCarried(usize),
+    NotSupported(usize),
     /// An integer of the text with this number, or the sum of those of one place, does not fit in 64 bits.
     Wide(usize),
     /// The sum of the integers of some place of the text with this number does not fit in 128 bits.
@@ -59,7 +59,7 @@ impl Failure {
         match self {
             Failure::Unread(_, _) => "the file cannot be read",
             Failure::Input(_, _, _) => "the text is at fault",
-            Failure::NotCarried(_) =>
+            Failure::NotSupported(_) =>
                 "real and complex values are not carried, nor is their pattern",
             Failure::Wide(_) => "a value or a sum of repeated entries does not fit in 64 bits",
             Failure::Overflow(_) => "a sum of repeated entries does not fit in 128 bits",
@@ -81,7 +81,7 @@ impl Display for Failure {
     fn fmt<W: Write>(&self, f: &mut Formatter<W>) -> fmt::Result {
         match self {
             Failure::Unread(_, error) | Failure::Unsaved(error) => write!(f, "{error}"),
-            Failure::Input(_, _, spot) => Display::fmt(&spot.fault, f),
+            Failure::Input(_, _, location) => Display::fmt(&location.fault, f),
             Failure::Write(kind) => write!(f, "write failed: {kind}"),
             failure => f.write_str(failure.reason()),
         }

@@ -18,13 +18,13 @@ pub(crate) fn coordinate_fault(
 {
     match (header.field, line) {
         (Field::Pattern, Line::Two(row, col)) if row.is_index() && col.is_index() => {
-            match place_fault(header.symmetry, row, col) {
+            match indices_fault(header.symmetry, row, col) {
                 None if as_integers => Some(LineFault::NoValue),
                 fault => fault,
             }
         }
         (Field::Integer, Line::Three(row, col, value)) => match value.integer() {
-            Ok(value) => place_fault(header.symmetry, row, col).or(value_fault(
+            Ok(value) => indices_fault(header.symmetry, row, col).or(value_fault(
                 header.symmetry,
                 value,
             )),
@@ -67,7 +67,7 @@ fn indices(row: Number<'_>, col: Number<'_>) -> Result<(usize, usize), LineFault
 }
 
 // What is wrong with the place of an entry.
-fn place_fault(symmetry: Symmetry, row: Number<'_>, col: Number<'_>) -> Option<LineFault>
+fn indices_fault(symmetry: Symmetry, row: Number<'_>, col: Number<'_>) -> Option<LineFault>
     requires row_is { IsNumber row }
     requires col_is { IsNumber col }
     requires row_index { is_plain row.kind ≡ true }

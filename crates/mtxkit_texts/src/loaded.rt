@@ -6,15 +6,15 @@ ghost use Rattle.sparse_market_scalar.specs.ScalarTypes.{pattern_scalar, signed_
 ghost use Rattle.sparse_parser.specs.Meaning.{Means};
 ghost use Rattle.std.specs.Int.{w128};
 ghost use Rattle.mtxkit_texts.specs.Faults.{IsTextFault};
-ghost use Rattle.mtxkit_texts.specs.Headers.{header_in, is_carried, is_carried_field};
+ghost use Rattle.mtxkit_texts.specs.Headers.{header_in, is_supported, is_supported_field};
 ghost use Rattle.mtxkit_texts.specs.Headers.{is_pattern, is_pattern_field};
 ghost use Rattle.mtxkit_texts.specs.Loaded.{MeansMatrix, MeansOnes, MeansSums, MeansIntegers};
 ghost use Rattle.mtxkit_texts.specs.Loaded.{IsRefused, IsLoadFailure, ring128, value128};
 ghost use Rattle.mtxkit_texts.specs.declared.failure.Failure.TheVariants.{OutOfMemory};
 
 use crate::failure::Failure;
+use crate::locations::location_of;
 use crate::places::ones_of;
-use crate::spots::spot_of;
 use crate::sums::wide_sums;
 use sparse_algebra::scalar::W128;
 use sparse_coo_dense::coo::CooMatrix;
@@ -40,14 +40,14 @@ pub struct Loaded {
 /// # Errors
 ///
 /// Returns `Input` with this number and the kind of the error that the text means for the field that its header names,
-/// or `NotCarried` if that is a value of a real or complex field. Otherwise fails only if an allocation fails.
+/// or `NotSupported` if that is a value of a real or complex field. Otherwise fails only if an allocation fails.
 pub fn load(alloc: Global, number: usize, text: &str) -> Result<Loaded, Failure>
     ensures meant { IfOk result (λ l. MeansMatrix text.now l.entries l.matrix) }
     ensures sound { IfOk result (λ l. IsSound l.matrix) }
     ensures refused { IfErr result (IsLoadFailure number text.now) }
 {
     if names_pattern(text) {
-        load_places(alloc, number, text)
+        load_pattern(alloc, number, text)
     } else {
         load_integers(alloc, number, text)
     }
@@ -82,13 +82,13 @@ fn is_pattern_field(field: Field) -> bool
 }
 
 // Reads the places of a text as a matrix of ones.
-pub(crate) fn load_places(alloc: Global, number: usize, text: &str) -> Result<Loaded, Failure>
+pub(crate) fn load_pattern(alloc: Global, number: usize, text: &str) -> Result<Loaded, Failure>
     ensures meant { IfOk result (λ l. MeansOnes ring128 value128 text.now l.entries l.matrix) }
     ensures sound { IfOk result (λ l. IsSound l.matrix) }
     ensures refused { IfErr result
         (λ e. (e ≡ OutOfMemory) ⊎ IsRefused pattern_scalar number text.now e) }
 {
-    let places = read_places(alloc, number, text)?;
+    let places = read_pattern_list(alloc, number, text)?;
     let matrix = ones_of(alloc, &places)?;
     let entries = places.nnz();
     Ok(Loaded { entries, matrix })
@@ -108,7 +108,7 @@ fn load_integers(alloc: Global, number: usize, text: &str) -> Result<Loaded, Fai
 }
 
 // Reads the places of a text.
-pub(crate) fn read_places(
+pub(crate) fn read_pattern_list(
     alloc: Global,
     number: usize,
     text: &str,
@@ -146,24 +146,24 @@ fn unread(number: usize, kind: MatrixMarketErrorKind, text: &str, as_integers: b
 {
     match kind {
         MatrixMarketErrorKind::OutOfMemory => Failure::OutOfMemory,
-        MatrixMarketErrorKind::TypeMismatch if !is_carried(text) => Failure::NotCarried(number),
-        kind => Failure::Input(number, kind, spot_of(text, as_integers)),
+        MatrixMarketErrorKind::TypeMismatch if !is_supported(text) => Failure::NotSupported(number),
+        kind => Failure::Input(number, kind, location_of(text, as_integers)),
     }
 }
 
 // Whether the header of a text, if there is one, names integers or patterns.
-fn is_carried(text: &str) -> bool
-    ensures { result ≡ is_carried (header_in text.now) }
+fn is_supported(text: &str) -> bool
+    ensures { result ≡ is_supported (header_in text.now) }
 {
     match header_of(text) {
-        Some(header) => is_carried_field(header.field),
+        Some(header) => is_supported_field(header.field),
         None => true,
     }
 }
 
 // Whether the values of a field are integers or patterns.
-fn is_carried_field(field: Field) -> bool
-    ensures { result ≡ is_carried_field field }
+fn is_supported_field(field: Field) -> bool
+    ensures { result ≡ is_supported_field field }
 {
     match field {
         Field::Integer | Field::Pattern => true,

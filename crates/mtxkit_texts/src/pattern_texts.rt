@@ -3,7 +3,7 @@
 ghost use Rattle.std.specs.Prelude.{◌≡◌, ◌++◌, IfOk, OnOk, codes, string_bytes};
 ghost use Rattle.std.specs.Fmt.{decimal};
 ghost use Rattle.sparse_io.specs.Written.{heading, size_line};
-ghost use Rattle.mtxkit_texts.specs.PatternTexts.{pattern_head, place_line, pattern_text};
+ghost use Rattle.mtxkit_texts.specs.PatternTexts.{pattern_head, entry_line, pattern_text};
 
 use itoa::Buffer;
 use sparse_pattern::pattern::SparsityPattern;
@@ -18,7 +18,7 @@ pub fn write_pattern(alloc: Global, pattern: &SparsityPattern) -> Result<String,
     let mut text = String::new(alloc);
     push_head(&mut text, pattern)?;
     for (row, col) in pattern.entries() {
-        push_place(&mut text, row, col)?;
+        push_entry(&mut text, row, col)?;
     }
     Ok(text)
 }
@@ -61,10 +61,10 @@ fn push_sizes(text: &mut String, nrows: usize, ncols: usize, nnz: usize) -> Resu
 }
 
 // Appends the line of a place, whose row and column count from 0.
-#[tactic(auto, unfolding(crate::specs::PatternTexts::place_line))]
-fn push_place(text: &mut String, row: usize, col: usize) -> Result<(), AllocError>
+#[tactic(auto, unfolding(crate::specs::PatternTexts::entry_line))]
+fn push_entry(text: &mut String, row: usize, col: usize) -> Result<(), AllocError>
     ensures { OnOk result
-        (string_bytes text.new ≡ string_bytes text.old ++ place_line (row, col)) }
+        (string_bytes text.new ≡ string_bytes text.old ++ entry_line (row, col)) }
 {
     push_number(text, row as u128 + 1)?;
     text.push_str(" ")?;

@@ -4,8 +4,8 @@ ghost use Rattle.std.specs.Prelude.{◌≡◌, ℕ, ◌↔◌, All, IfOk, IsTrue
 ghost use Rattle.std.specs.List.{list_any};
 ghost use Rattle.sparse_algebra.specs.Plain.{is_at};
 ghost use Rattle.sparse_compressed.specs.Compressed.{IsSound};
-ghost use Rattle.sparse_pattern.specs.Raw.{IsPlace};
-ghost use Rattle.mtxkit_texts.specs.Places.{HasPlacesOf};
+ghost use Rattle.sparse_pattern.specs.Raw.{IsEntry};
+ghost use Rattle.mtxkit_texts.specs.ListEntries.{HasEntriesOf};
 
 use crate::lists::with_values;
 use sparse_algebra::scalar::{Ring, W64};
@@ -20,7 +20,7 @@ use std::alloc::{AllocError, Global};
 ///
 /// Fails only if an allocation fails.
 pub fn ones_of<T: Ring>(alloc: Global, places: &CooMatrix<()>) -> Result<CsrMatrix<T>, AllocError>
-    ensures places { IfOk result (λ m. HasPlacesOf places.now m.pattern) }
+    ensures places { IfOk result (λ m. HasEntriesOf places.now m.pattern) }
     ensures ones { IfOk result (λ m. All (λ v. T.value v ≡ T.ring.one) m.values) }
     ensures sound { IfOk result IsSound }
 {
@@ -31,7 +31,7 @@ pub fn ones_of<T: Ring>(alloc: Global, places: &CooMatrix<()>) -> Result<CsrMatr
 
 // The pattern by rows of the places of a list.
 fn pattern_of(alloc: Global, places: &CooMatrix<()>) -> Result<SparsityPattern, AllocError>
-    ensures { IfOk result (HasPlacesOf places.now) }
+    ensures { IfOk result (HasEntriesOf places.now) }
 {
     let listed = listed_ones(alloc, places)?;
     stands_law::<W64>();

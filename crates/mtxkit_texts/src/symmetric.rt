@@ -17,7 +17,7 @@ ghost use Rattle.mtxkit_texts.specs.declared.failure.Failure.TheVariants.{OutOfM
 
 use crate::failure::Failure;
 use crate::field::{integer_text, pattern_text};
-use crate::loaded::{header_of, read_integers, read_places};
+use crate::loaded::{header_of, read_integers, read_pattern_list};
 use crate::pattern_texts::write_pattern;
 use crate::places::ones_of;
 use crate::values::narrow_sums;
@@ -103,7 +103,7 @@ fn square_ones(alloc: Global, text: &str) -> Result<CsrMatrix<W128>, Failure>
     ensures refused { IfErr result (λ e. IsLoadFailure 1 text.now e
         ⊎ ((e ≡ NotSymmetric) × MeansOblongPattern text.now)) }
 {
-    let places = read_places(alloc, 1, text)?;
+    let places = read_pattern_list(alloc, 1, text)?;
     if places.nrows() != places.ncols() {
         return Err(Failure::NotSymmetric);
     }

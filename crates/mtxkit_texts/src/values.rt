@@ -12,7 +12,7 @@ ghost use Rattle.mtxkit_texts.specs.Loaded.{IsNarrow, IsValuesFailure, MeansValu
 ghost use Rattle.mtxkit_texts.specs.declared.failure.Failure.TheVariants.{OutOfMemory, Wide};
 
 use crate::failure::Failure;
-use crate::loaded::{names_pattern, read_integers, read_places};
+use crate::loaded::{names_pattern, read_integers, read_pattern_list};
 use crate::places::{joined, ones_of};
 use crate::sums::{are_narrow, wide_sums};
 use sparse_algebra::scalar::{W64, W128};
@@ -33,7 +33,7 @@ pub fn load_values(alloc: Global, number: usize, text: &str) -> Result<CsrMatrix
     ensures refused { IfErr result (IsValuesFailure number text.now) }
 {
     if names_pattern(text) {
-        let places = read_places(alloc, number, text)?;
+        let places = read_pattern_list(alloc, number, text)?;
         Ok(ones_of(alloc, &places)?)
     } else {
         let integers = read_integers(alloc, number, text)?;

@@ -8,7 +8,7 @@ ghost use Rattle.mtxkit_texts.specs.declared.failure.Failure.TheVariants.{OutOfM
 
 use crate::exact::sums_fit;
 use crate::failure::Failure;
-use crate::loaded::{Loaded, load_places, names_pattern, read_integers};
+use crate::loaded::{Loaded, load_pattern, names_pattern, read_integers};
 use crate::sums::wide_sums;
 use sparse_coo_dense::coo::CooMatrix;
 use std::alloc::Global;
@@ -19,21 +19,21 @@ use std::alloc::Global;
 ///
 /// Returns the errors of [`load`](crate::load), and `Overflow` if the sum of the integers of some place does not fit in
 /// 128 bits.
-pub fn load_whole(alloc: Global, number: usize, text: &str) -> Result<Loaded, Failure>
+pub fn load_exact(alloc: Global, number: usize, text: &str) -> Result<Loaded, Failure>
     ensures meant { IfOk result (λ l. MeansWhole text.now l.entries l.matrix) }
     ensures sound { IfOk result (λ l. IsSound l.matrix) }
     ensures refused { IfErr result (IsWholeFailure number text.now) }
 {
     if names_pattern(text) {
-        load_places(alloc, number, text)
+        load_pattern(alloc, number, text)
     } else {
         let integers = read_integers(alloc, number, text)?;
-        whole_sums(alloc, number, &integers)
+        exact_sums(alloc, number, &integers)
     }
 }
 
 // Adds the integers of each place.
-fn whole_sums(alloc: Global, number: usize, list: &CooMatrix<i128>) -> Result<Loaded, Failure>
+fn exact_sums(alloc: Global, number: usize, list: &CooMatrix<i128>) -> Result<Loaded, Failure>
     ensures counted { IfOk result (λ l. l.entries ≡ length list.now.triplets) }
     ensures sums { IfOk result (λ l. HasExactSums list.now l.matrix) }
     ensures sound { IfOk result (λ l. IsSound l.matrix) }

@@ -61,10 +61,10 @@ pub use Rattle.sparse_compressed.specs.Filter
 pub use Rattle.sparse_compressed.specs.LaneEquality
 pub use Rattle.sparse_compressed.specs.Lanes
 pub use Rattle.sparse_compressed.specs.Laws
-pub use Rattle.sparse_compressed.specs.Left
+pub use Rattle.sparse_compressed.specs.MutIterators
 pub use Rattle.sparse_compressed.specs.PlainOfLanes
 pub use Rattle.sparse_compressed.specs.SortedFaults
-pub use Rattle.sparse_compressed.specs.Standing
+pub use Rattle.sparse_compressed.specs.ArraysDeterminePlain
 pub use Rattle.sparse_compressed.specs.StoredEntries
 pub use Rattle.sparse_compressed.specs.TransposedMatrix
 pub use Rattle.sparse_compressed.specs.UnsortedFaults
@@ -78,7 +78,7 @@ pub use Rattle.sparse_csr_csc.specs.CscWriting
 pub use Rattle.sparse_csr_csc.specs.CsrData
 pub use Rattle.sparse_csr_csc.specs.CsrWriting
 -- sparse vectors and dense ones
-pub use Rattle.sparse_with_dense.specs.SparseVectors
+pub use Rattle.sparse_dense_ops.specs.SparseVectors
 -- conversions
 pub use Rattle.sparse_convert.specs.FromDense
 pub use Rattle.sparse_convert.specs.OneMatrix
@@ -89,14 +89,14 @@ pub use Rattle.sparse_sums.specs.PatternSums
 pub use Rattle.sparse_products.specs.Products
 pub use Rattle.sparse_products.specs.ScalarProducts
 -- products with dense matrices
-pub use Rattle.sparse_with_dense.specs.DenseOperands
+pub use Rattle.sparse_dense_ops.specs.DenseOperands
 -- triangular systems and division
-pub use Rattle.sparse_with_dense.specs.Quotients
-pub use Rattle.sparse_with_dense.specs.Solutions
+pub use Rattle.sparse_dense_ops.specs.Quotients
+pub use Rattle.sparse_dense_ops.specs.Solutions
 -- the symbolic factor
 pub use Rattle.sparse_factor.specs.Fill
 pub use Rattle.sparse_factor.specs.Symbolic
-pub use Rattle.sparse_factor.specs.Walks
+pub use Rattle.sparse_factor.specs.FillPaths
 -- exact factorisations
 pub use Rattle.sparse_factor.specs.Factorisations
 pub use Rattle.sparse_factor.specs.Factors

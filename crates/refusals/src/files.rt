@@ -69,15 +69,15 @@ fn save_list(rt: &HostRuntime, turn: &mut Turn, list: &CooMatrix<W64>) -> Outcom
 // A command over a file.
 fn obey_case(rt: &HostRuntime, turn: &mut Turn, case: &str) -> Outcome {
     match case {
-        "rows" => obey(rt, turn, &["rows", "1 1 *", PATH], INTEGERS),
-        "cols" => obey(rt, turn, &["cols", "1 t 1 +", PATH], INTEGERS),
-        "fill" => obey(rt, turn, &["fill", PATH], PLACES),
-        "fill lower" => obey(rt, turn, &["fill", "lower", PATH], PLACES),
+        "rows" => run_args(rt, turn, &["rows", "1 1 *", PATH], INTEGERS),
+        "cols" => run_args(rt, turn, &["cols", "1 t 1 +", PATH], INTEGERS),
+        "fill" => run_args(rt, turn, &["fill", PATH], PLACES),
+        "fill lower" => run_args(rt, turn, &["fill", "lower", PATH], PLACES),
         _ => Outcome::Unknown,
     }
 }
 
-fn obey(rt: &HostRuntime, turn: &mut Turn, words: &[&str], text: &str) -> Outcome {
+fn run_args(rt: &HostRuntime, turn: &mut Turn, words: &[&str], text: &str) -> Outcome {
     if fs::write(rt, PATH, text.as_bytes()).is_err() {
         return Outcome::Unready;
     }

@@ -1,4 +1,5 @@
-//! The program `refusals`: calls whose requests for memory are refused in turn by `.ci/refusals`, and that are no rows of
+//! The program `refusals`: calls whose requests for memory are refused in turn by `.ci/refusals`, and that are no rows
+//! of
 //! `cases`: calls on files and sinks, the commands of both programs, and lists whose values or memory are counted.
 //!
 //! Each line of standard input names a scenario: its group, its call and perhaps a case after a comma. Before the name

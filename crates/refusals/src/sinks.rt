@@ -13,7 +13,7 @@ use nalgebra_sparse::io::{
 use nalgebra_sparse::scalar::W64;
 use std::alloc::Global;
 
-/// Returns the outcome of `save_to_matrix_market` of a list, of places, or of a matrix by rows or by columns.
+/// Returns the outcome of `save_to_matrix_market` of a list, of a pattern, or of a matrix by rows or by columns.
 pub fn run(turn: &mut Turn, case: &str) -> Outcome {
     match case {
         "places" => match places(turn.alloc()) {

@@ -5,7 +5,7 @@ ghost use Rattle.mtxkit_commands.specs.Commands.{IsSized};
 use crate::outcome::{Outcome, checksum_of_bytes};
 use crate::page::Page;
 use case_words::turn::Turn;
-use mtxkit_commands::{Command, Inputs, Target, Values, run as execute};
+use mtxkit_commands::{Command, Inputs, Target, Values, run as run_command};
 use mtxkit_texts::Screen;
 use nalgebra_sparse::io::Out;
 use std::fs;
@@ -36,21 +36,21 @@ const FILES: &[(&str, &str)] = &[
 pub fn run(rt: &HostRuntime, turn: &mut Turn, case: &str) -> Outcome {
     let modulus = Some(7);
     match case {
-        "info" => obey(rt, turn, Command::Info { file: A }),
-        "spy" => obey(rt, turn, picture(Target::Bitmap)),
-        "spy text" => obey(rt, turn, picture(Target::Blocks)),
+        "info" => run_args(rt, turn, Command::Info { file: A }),
+        "spy" => run_args(rt, turn, picture(Target::Bitmap)),
+        "spy text" => run_args(rt, turn, picture(Target::Blocks)),
         "field" => {
             let values = Values::Pattern;
-            obey(rt, turn, Command::Field { file: A, values })
+            run_args(rt, turn, Command::Field { file: A, values })
         }
         "integer" => {
             let scale = 2;
-            obey(rt, turn, Command::Integer { file: A, scale })
+            run_args(rt, turn, Command::Integer { file: A, scale })
         }
-        "symmetric" => obey(rt, turn, Command::Symmetric { file: A }),
+        "symmetric" => run_args(rt, turn, Command::Symmetric { file: A }),
         "solve" => {
             let modulus = None;
-            obey(
+            run_args(
                 rt,
                 turn,
                 Command::Solve {
@@ -60,7 +60,7 @@ pub fn run(rt: &HostRuntime, turn: &mut Turn, case: &str) -> Outcome {
                 },
             )
         }
-        "solve modulo" => obey(
+        "solve modulo" => run_args(
             rt,
             turn,
             Command::Solve {
@@ -71,7 +71,7 @@ pub fn run(rt: &HostRuntime, turn: &mut Turn, case: &str) -> Outcome {
         ),
         "check" => {
             let (a, x, b) = (A, X, B);
-            obey(rt, turn, Command::Check { modulus, a, x, b })
+            run_args(rt, turn, Command::Check { modulus, a, x, b })
         }
         _ => Outcome::Unknown,
     }
@@ -88,8 +88,8 @@ fn picture(target: Target<'static>) -> Command<'static>
     }
 }
 
-// Obeys a command twice. The first answer is the one that is wanted.
-fn obey(rt: &HostRuntime, turn: &mut Turn, command: Command<'static>) -> Outcome
+// Runs a command twice. The first answer is the wanted one.
+fn run_args(rt: &HostRuntime, turn: &mut Turn, command: Command<'static>) -> Outcome
     requires { IsSized command }
 {
     for (path, text) in FILES {
@@ -102,17 +102,17 @@ fn obey(rt: &HostRuntime, turn: &mut Turn, command: Command<'static>) -> Outcome
     let mut inputs = Inputs::new(rt, &mut stdin, &mut screen);
     let mut whole = Out::new(Page::new());
     let mut errors = Out::new(Page::new());
-    if execute(rt, command, &mut inputs, &mut whole, &mut errors) != 0 {
+    if run_command(rt, command, &mut inputs, &mut whole, &mut errors) != 0 {
         return Outcome::Unready;
     }
     let (mut out, mut err) = (Out::new(Page::new()), Out::new(Page::new()));
     turn.begin();
-    let status = turn.end(execute(rt, command, &mut inputs, &mut out, &mut err));
+    let status = turn.end(run_command(rt, command, &mut inputs, &mut out, &mut err));
     answered(status, &out.into_inner(), &err.into_inner())
 }
 
-// The outcome of a command: a text and status 0, or the line of an allocation failure and status 1. A command writes its
-// answer whole.
+// The outcome of a command: a text and status 0, or the line of an allocation failure and status 1. A command writes
+// its answer whole.
 fn answered(status: u8, out: &Page, err: &Page) -> Outcome {
     match (status, err.taken()) {
         (0, b"") => Outcome::Answered(checksum_of_bytes(out.taken())),

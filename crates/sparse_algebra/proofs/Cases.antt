@@ -1,4 +1,4 @@
--- Cases of two numbers and of two tests. Those of tests stand in std, under names of its own.
+-- Case distinctions on two numbers and on two Booleans. Those on Booleans are lemmas of std, renamed.
 use Rattle.std.proofs.Common.{◌≡◌, ◌≢◌, ℕ, suc, ◌+◌, ◌<◌, ◌≤◌, ◌⊎◌, false, arith}
 use Rattle.std.specs.Prelude.{nat_eq}
 use Rattle.std.proofs.lemmas.Bool.Decides.{nat_tests}

@@ -1,4 +1,4 @@
--- Euclid's steps over residues, and when there is no inverse.
+-- The extended Euclidean algorithm over residues, and residues without an inverse.
 use Rattle.std.proofs.Common.{◌≡◌, ℕ, ◌*◌, ◌/◌, ◌%◌, sym, ap, ◌∙◌, subst}
 use Rattle.std.specs.Int.{◌∣◌}
 use Rattle.std.proofs.Math.Nat.{dvd-mod_iff, dvd-mul_right_of_dvd, eq-one_of_dvd-one, div-add-mod'}
@@ -8,7 +8,7 @@ use Rattle.sparse_algebra.specs.Moduli.{modulus, mod_ring, mod_class}
 use Rattle.sparse_algebra.proofs.ModClasses.{mod_class_add, mod_class_mul}
 use Rattle.sparse_algebra.proofs.Products.{mul_neg, mul_swap}
 
--- a is x s, b is x t, and a is q b + c: so c is x (s - q t)
+-- if a = x s, b = x t and a = q b + c, then c = x (s - q t)
 pub euclid_step : (R : CommRing) (x s t q a b c : R.Carrier) → a ≡ R.mul x s → b ≡ R.mul x t
     → a ≡ R.add (R.mul q b) c → c ≡ R.mul x (R.add s (R.neg (R.mul q t)))
 euclid_step R x s t q a b c e f h =
@@ -19,7 +19,7 @@ euclid_step R x s t q a b c e f h =
     ∙ ap (λ y. R.add y (R.neg p)) (sym e ∙ h ∙ R.laws.add_comm p c)
     ∙ R.laws.add_assoc c p (R.neg p) ∙ ap (R.add c) (R.laws.add_neg p) ∙ R.laws.add_zero c)
 
--- a is its quotient times b and its rest, as residues
+-- a = (a / b) b + a % b, as residues
 pub class_split : (m a b : ℕ)
     → mod_class m a ≡ (mod_ring m).add ((mod_ring m).mul (mod_class m (a / b)) (mod_class m b))
     (mod_class m (a % b))
@@ -27,7 +27,7 @@ class_split m a b =
     ap (mod_class m) (sym (div-add-mod' a b)) ∙ mod_class_add m (a / b * b) (a % b)
     ∙ ap (λ c. (mod_ring m).add c (mod_class m (a % b))) (mod_class_mul m (a / b) b)
 
--- a common divisor of x and the modulus other than 1 rules an inverse out
+-- if x has an inverse, each common divisor of x and the modulus is 1
 pub no_inverse : (m x y g : ℕ) → g ∣ modulus m → g ∣ x
     → (mod_ring m).mul (mod_class m x) (mod_class m y) ≡ (mod_ring m).one → g ≡ 1
 no_inverse m x y g p q e =

@@ -1,4 +1,4 @@
--- Integers in the rings of residues.
+-- The images of integers in rings of residues.
 use Rattle.std.proofs.Common.{◌≡◌, ℕ, zero, suc, pred, ℤ, pos, negsuc}
 use Rattle.std.proofs.Common.{◌+◌, ◌-◌, ◌<◌, ◌%◌, ◌^◌, ap, sym}
 use Rattle.std.proofs.Common.{◌∙◌, ◌≤◌, ◌-ℤ◌, unsigned_abs, to_z, of_z, true, false, refl, arith}
@@ -23,7 +23,7 @@ module _ (m : ℕ) (some : 0 < m) where
       ∙ same_class m some (n % m + 1 % m) (suc n)
       (sym (add-mod n 1 m) ∙ ap (λ k. k % m) (omega arith))
 
--- a number of 64 bits, as one of the wrapping integers
+-- the residue class of a signed 64-bit integer is its image
 pub element_of-class : (z : ℤ) → FitsSigned w64 z
     → class_of w64 z ≡ element_of (wrapping_ring w64) z
 unfolding element_of
@@ -40,7 +40,7 @@ element_of-class (negsuc n) fits =
 -- ---- residues modulo m
 
 module _ (m : ℕ) where
-  -- the residue of the absolute value
+  -- the image of an integer z >= 0 is the residue of its absolute value
   pub element_of-from_zero : (z : ℤ) (n : ℕ) → lt_z z (pos 0) ≡ false
       → n ≡ unsigned_abs z % modulus m
       → mod_class m n ≡ element_of (mod_ring m) z
@@ -49,7 +49,7 @@ module _ (m : ℕ) where
       ∙ sym (times_one-residue (modulus m) (modulus_pos m) k)
   element_of-from_zero (negsuc k) n sign size = absurd (grind (arith, ints))
 
-  -- its opposite
+  -- the image of an integer z < 0 is the negated residue of its absolute value
   pub element_of-below_zero : (z : ℤ) (n : ℕ) → lt_z z (pos 0) ≡ true
       → n ≡ unsigned_abs z % modulus m
       → (mod_ring m).neg (mod_class m n) ≡ element_of (mod_ring m) z
@@ -59,7 +59,7 @@ module _ (m : ℕ) where
       ∙ sym (times_one-residue (modulus m) (modulus_pos m) (suc k)))
 
 module _ (m n : ℕ) where
-  -- a number below 2 ^ 63
+  -- n, below 2 ^ 63, is read as the integer n
   pub element_of-short : n ≤ 9223372036854775807
       → element_of (mod_ring m) (to_z w64 n) ≡ mod_class m n
   unfolding element_of
@@ -67,7 +67,7 @@ module _ (m n : ℕ) where
       ap (element_of (mod_ring m)) (to_z_pos w64 n (omega arith))
       ∙ times_one-residue (modulus m) (modulus_pos m) n
 
-  -- a larger one, less m
+  -- n, from 2 ^ 63 on, is read as the integer n - m
   pub element_of-long : n < modulus m → 9223372036854775807 < n → m < 2 ^ 64
       → element_of (mod_ring m) (to_z w64 (of_z w64 (pos 0 -ℤ to_z w64 (m - n)))) ≡ mod_class m n
   unfolding element_of

@@ -1,4 +1,5 @@
 pub mod Cases
+pub mod EarlyReturns
 pub mod RingLemmas
 pub mod SumLemmas
 pub mod PlainLemmas

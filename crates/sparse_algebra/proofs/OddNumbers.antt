@@ -14,7 +14,7 @@ use Rattle.sparse_algebra.specs.Wrapping.{wrapping_ring, class_of}
 use Rattle.sparse_algebra.proofs.RingLemmas.{zero_mul}
 use Rattle.sparse_algebra.specs.Inverses.{HasInverse}
 use Rattle.sparse_algebra.specs.InnerNewton.{squared, one_minus}
-use Rattle.sparse_algebra.proofs.NewtonSteps.{odd_rest, squared-mul, from_no_rest}
+use Rattle.sparse_algebra.proofs.NewtonSteps.{one_minus-odd, squared-mul, one_from_no_residual}
 
 two_divides : (w : Width) → 2 ∣ 2 ^ bits w
 two_divides w8 = dvd_of_mod-eq-zero 2 (omega arith)
@@ -23,7 +23,7 @@ two_divides w32 = dvd_of_mod-eq-zero 2 (omega arith)
 two_divides w64 = dvd_of_mod-eq-zero 2 (omega arith)
 two_divides w128 = dvd_of_mod-eq-zero 2 (omega arith)
 
--- the class of n
+-- the residue class of n
 abbrev pub bits_class : (w : Width) → ℕ → Residue (2 ^ bits w)
 bits_class w n = residue (2 ^ bits w) (pow_pos (bits w)) n
 
@@ -48,24 +48,24 @@ odd_class w u h =
     ∙ ap (λ z. (z + 1 % m) % m)
     (sym (mul-mod_left 2 ((u / 2) % m) m ∙ mul-mod_right 2 (u / 2) m)))
 
--- after n steps, where 2 ^ n is the width, nothing is missing from one
-no_rest : (w : Width) (n : ℕ) (u : ℕ) → 2 ^ n ≡ bits w → u % 2 ≡ 1
+-- for odd u the residual after n steps is zero, if 2 ^ n is the width
+no_residual : (w : Width) (n : ℕ) (u : ℕ) → 2 ^ n ≡ bits w → u % 2 ≡ 1
     → squared (wrapping_ring w) n (one_minus (wrapping_ring w) (bits_class w u))
     ≡ (wrapping_ring w).zero
-no_rest w n u e h =
+no_residual w n u e h =
     let R = wrapping_ring w in
     let m = 2 ^ bits w in
     let q = bits_class w (u / 2) in
-    ap (squared R n) (odd_rest R (bits_class w 2) q (bits_class w u) (odd_class w u h))
+    ap (squared R n) (one_minus-odd R (bits_class w 2) q (bits_class w u) (odd_class w u h))
     ∙ squared-mul R n (bits_class w 2) (R.neg q)
     ∙ ap (λ z. R.mul z (squared R n (R.neg q))) (squared-two w n ∙ ap (λ z. bits_class w (2 ^ z)) e
     ∙ same_class m (pow_pos (bits w)) _ _ (mod_self m ∙ sym (zero-mod m)))
     ∙ zero_mul R (squared R n (R.neg q))
 
--- an even number has no inverse
-even_none : (w : Width) (u v : ℕ) → u % 2 ≡ 0
+-- an even number has no inverse among the residues
+even_product_not_one : (w : Width) (u v : ℕ) → u % 2 ≡ 0
     → (wrapping_ring w).mul (bits_class w u) (bits_class w v) ≢ (wrapping_ring w).one
-even_none w u v h e =
+even_product_not_one w u v h e =
     let m = 2 ^ bits w in
     let product : (u * v) % m ≡ 1 % m = sym (mul-mod_left u (v % m) m ∙ mul-mod_right u v m)
     ∙ ap (λ r. r.number) e in
@@ -75,22 +75,22 @@ even_none w u v h e =
     let one : ◌≡◌ {A = ℕ} 2 1 = eq-one_of_dvd-one ((dvd-mod_iff 2 whole).0 divides) in
     absurd (omega arith)
 
--- an even number has no inverse, whatever scalars there are
-pub even_has_none : (w : Width) {T : Type 0} (number : T → ℤ) (x : ℤ) → cast_unsigned w x % 2 ≡ 0
+-- no scalar represents an inverse of an even number
+pub even_has_no_inverse : (w : Width) {T : Type 0} (number : T → ℤ) (x : ℤ) → cast_unsigned w x % 2 ≡ 0
     → HasInverse (wrapping_ring w) (λ y. class_of w (number y)) (class_of w x) → ⊥
-even_has_none w number x h inverse = even_none w (cast_unsigned w x)
+even_has_no_inverse w number x h inverse = even_product_not_one w (cast_unsigned w x)
     (cast_unsigned w (number inverse.0)) h inverse.1
 
--- Newton's steps from an odd number end at its inverse
+-- for odd x, n steps of Newton's iteration give an inverse
 pub odd_inverse : (w : Width) (n : ℕ) (x y : ℤ) → 2 ^ n ≡ bits w → cast_unsigned w x % 2 ≡ 1
     → one_minus (wrapping_ring w) ((wrapping_ring w).mul (class_of w x) (class_of w y)) ≡ squared
     (wrapping_ring w) n (one_minus (wrapping_ring w) (class_of w x))
     → (wrapping_ring w).mul (class_of w x) (class_of w y) ≡ (wrapping_ring w).one
-odd_inverse w n x y e h steps = from_no_rest (wrapping_ring w) _
-    (steps ∙ no_rest w n (cast_unsigned w x) e h)
+odd_inverse w n x y e h steps = one_from_no_residual (wrapping_ring w) _
+    (steps ∙ no_residual w n (cast_unsigned w x) e h)
 
--- the bits of a number that is shown as it is
-pub bits_shown : (w : Width) (u : ℕ) (shown x : ℤ) → FitsSigned w x → shown ≡ x
+-- the unsigned reading u of the number that `get` returned is that of the scalar's own number
+pub unsigned_of_get : (w : Width) (u : ℕ) (shown x : ℤ) → FitsSigned w x → shown ≡ x
     → u ≡ cast_unsigned w (to_z w (cast_unsigned w shown)) → u ≡ cast_unsigned w x
-bits_shown w u shown x fits same is = is
+unsigned_of_get w u shown x fits same is = is
     ∙ ap (cast_unsigned w) (ap (λ z. to_z w (cast_unsigned w z)) same ∙ to_z-of_z w x fits)

@@ -19,7 +19,7 @@ use Rattle.sparse_algebra.proofs.SumLemmas.{product_assoc, where_yes, where_no}
 use Rattle.sparse_algebra.proofs.PlainLemmas.{same_plain, same_bool, any_below-same, any_is}
 use Rattle.sparse_algebra.proofs.PlainLemmas.{transpose_product}
 
--- ---- tests
+-- ---- Booleans
 
 or_cross : (a b c d : Bool) → ((a || b) || (c || d)) ≡ ((a || c) || (b || d))
 or_cross true b c d = refl
@@ -48,14 +48,14 @@ any_below-and_right zero t b = refl
 any_below-and_right (suc n) t b = ap (λ c. c || (t n && b)) (any_below-and_right n t b)
     ∙ sym (and-or_distrib_right (any_below n t) (t n) b)
 
--- whether some pair passes, in either order
+-- whether some pair (i, j) passes a test does not depend on the order in which i and j are searched
 any_below-exchange : (m n : ℕ) (t : ℕ → ℕ → Bool)
     → any_below m (λ i. any_below n (λ j. t i j)) ≡ any_below n (λ j. any_below m (λ i. t i j))
 any_below-exchange zero n t = sym (any_below-none n)
 any_below-exchange (suc m) n t = ap (λ b. b || any_below n (λ j. t m j)) (any_below-exchange m n t)
     ∙ sym (any_below-or n (λ j. any_below m (λ i. t i j)) (λ j. t m j))
 
--- some l has some k with a k and b k l, and c l: some k has a k, and some l with b k l and c l
+-- a chain a k, b k l, c l exists: for some l some k, or equally for some k some l
 any_below-assoc : (m n : ℕ) (a : ℕ → Bool) (b : ℕ → ℕ → Bool) (c : ℕ → Bool)
     → any_below n (λ l. any_below m (λ k. a k && b k l) && c l) ≡ any_below m
     (λ k. a k && any_below n (λ l. b k l && c l))

@@ -14,7 +14,7 @@ use Rattle.sparse_algebra.proofs.SumLemmas.{sum_by-permutation, sum_below-same, 
 use Rattle.sparse_algebra.specs.Plain.{Plain, IsProper, any_below, is_at, plain_of_triplets}
 use Rattle.sparse_algebra.specs.Plain.{plain_product, plain_transpose}
 
--- plain matrices are the same where their parts are
+-- plain matrices with equal shapes, places and values are equal
 pub same_plain : {R : CommRing} (a b : Plain R) → a.rows ≡ b.rows → a.cols ≡ b.cols
     → ((i j : ℕ) → a.has i j ≡ b.has i j) → ((i j : ℕ) → a.value i j ≡ b.value i j) → a ≡ b
 same_plain {R} a b rows cols has value =
@@ -31,10 +31,10 @@ any_below-same zero s t h = refl
 any_below-same (suc n) s t h = ap (λ b. b || s n) (any_below-same n s t h)
     ∙ ap (λ b. any_below n t || b) (h n)
 
-pub order_free : (R : CommRing) {T : Type 0} (f : T → R.Carrier) (rows cols : ℕ)
+pub plain_of_triplets-permuted : (R : CommRing) {T : Type 0} (f : T → R.Carrier) (rows cols : ℕ)
     (xs ys : List (ℕ × ℕ × T))
     → IsPermutation xs ys → plain_of_triplets R f rows cols xs ≡ plain_of_triplets R f rows cols ys
-order_free R {T} f rows cols xs ys p = same_plain (plain_of_triplets R f rows cols xs)
+plain_of_triplets-permuted R {T} f rows cols xs ys p = same_plain (plain_of_triplets R f rows cols xs)
     (plain_of_triplets R f rows cols ys) refl refl
     (λ i j. list_any-IsPermutation (is_at i j) xs ys p)
     (λ i j. sum_by-permutation R (λ t. where_true R (is_at i j t) (f t.2)) xs ys p)
@@ -49,10 +49,10 @@ transpose_product R a b e = same_plain (plain_transpose R (plain_product R a b))
     (λ i j. ap (λ n. sum_below R n (λ k. R.mul (a.value j k) (b.value k i))) e
     ∙ sum_below-same R b.rows _ _ (λ k _. R.laws.mul_comm (a.value j k) (b.value k i)))
 
-any_forth : (n : ℕ) (t : ℕ → Bool) → any_below n t ≡ true → (k : ℕ) × (k < n) × (t k ≡ true)
-any_forth zero t h = cc
-any_forth (suc n) t h = elim (or_cases (any_below n t) (t n) h) [
-  | inl before ↦ let r = any_forth n t before in (r.0, omega (arith, r.1), r.2)
+any_below-some : (n : ℕ) (t : ℕ → Bool) → any_below n t ≡ true → (k : ℕ) × (k < n) × (t k ≡ true)
+any_below-some zero t h = cc
+any_below-some (suc n) t h = elim (or_cases (any_below n t) (t n) h) [
+  | inl before ↦ let r = any_below-some n t before in (r.0, omega (arith, r.1), r.2)
   | inr here ↦ (n, omega arith, here)
 ]
 
@@ -64,7 +64,7 @@ any_below-at (suc n) k t lt h = elim (lt_suc_cases k n lt) [
 ]
 
 pub any_is : (n : ℕ) (t : ℕ → Bool) → (any_below n t ≡ true) ↔ ((k : ℕ) × (k < n) × (t k ≡ true))
-any_is n t = (any_forth n t, λ h. any_below-at n h.0 t h.1 h.2)
+any_is n t = (any_below-some n t, λ h. any_below-at n h.0 t h.1 h.2)
 
 none_at : (n k : ℕ) (t : ℕ → Bool) → any_below n t ≡ false → k < n → t k ≡ false
 none_at zero k t h lt = absurd (omega arith)

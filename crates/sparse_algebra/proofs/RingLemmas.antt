@@ -1,4 +1,4 @@
--- What the ring laws give.
+-- Consequences of the laws of a commutative ring.
 use Rattle.std.proofs.Common.{◌≡◌, sym, ap, ◌∙◌}
 use Rattle.sparse_algebra.specs.Algebra.{CommRing}
 
@@ -6,24 +6,24 @@ module _ (R : CommRing) where
   pub zero_add : (a : R.Carrier) → R.add R.zero a ≡ a
   zero_add a = R.laws.add_comm R.zero a ∙ R.laws.add_zero a
 
-  -- a + (b + c) is b + (a + c)
+  -- a + (b + c) = b + (a + c)
   pub add_swap : (a b c : R.Carrier) → R.add a (R.add b c) ≡ R.add b (R.add a c)
   add_swap a b c = sym (R.laws.add_assoc a b c) ∙ ap (λ x. R.add x c) (R.laws.add_comm a b)
       ∙ R.laws.add_assoc b a c
 
-  -- (a + b) + (c + d) is (a + c) + (b + d)
+  -- (a + b) + (c + d) = (a + c) + (b + d)
   pub add_cross : (a b c d : R.Carrier)
       → R.add (R.add a b) (R.add c d) ≡ R.add (R.add a c) (R.add b d)
   add_cross a b c d = R.laws.add_assoc a b (R.add c d) ∙ ap (R.add a) (add_swap b c d)
       ∙ sym (R.laws.add_assoc a c (R.add b d))
 
-  -- a sum's inverse is unique: a + b is zero where b is -a
+  -- the additive inverse is unique: if a + b = 0, then b = -a
   pub neg_unique : (a b : R.Carrier) → R.add a b ≡ R.zero → b ≡ R.neg a
   neg_unique a b e =
       sym (zero_add b) ∙ ap (λ x. R.add x b) (sym (R.laws.add_neg a) ∙ R.laws.add_comm a (R.neg a))
       ∙ R.laws.add_assoc (R.neg a) a b ∙ ap (R.add (R.neg a)) e ∙ R.laws.add_zero (R.neg a)
 
-  -- a * 0 is 0
+  -- a * 0 = 0
   pub mul_zero : (a : R.Carrier) → R.mul a R.zero ≡ R.zero
   mul_zero a =
       let t = R.mul a R.zero in
@@ -36,7 +36,7 @@ module _ (R : CommRing) where
   pub zero_mul : (a : R.Carrier) → R.mul R.zero a ≡ R.zero
   zero_mul a = R.laws.mul_comm R.zero a ∙ mul_zero a
 
-  -- (a + b) * c is a * c + b * c
+  -- (a + b) * c = a * c + b * c
   pub distrib_right : (a b c : R.Carrier) → R.mul (R.add a b) c ≡ R.add (R.mul a c) (R.mul b c)
   distrib_right a b c = R.laws.mul_comm (R.add a b) c ∙ R.laws.distrib c a b
       ∙ ap (λ x. R.add x (R.mul c b)) (R.laws.mul_comm c a)
@@ -51,7 +51,7 @@ module _ (R : CommRing) where
       ∙ ap (λ x. R.add x (R.add b (R.neg b))) (R.laws.add_neg a)
       ∙ ap (R.add R.zero) (R.laws.add_neg b) ∙ R.laws.add_zero R.zero))
 
-  -- what is added on both sides cancels
+  -- if a + c = b + c, then a = b
   pub cancel : (a b c : R.Carrier) → R.add a c ≡ R.add b c → a ≡ b
   cancel a b c e =
       let back : (x : R.Carrier) → R.add (R.add x c) (R.neg c) ≡ x =

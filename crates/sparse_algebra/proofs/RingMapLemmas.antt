@@ -1,4 +1,4 @@
--- What a map between rings keeps: sums, and the operations of plain matrices.
+-- A ring homomorphism preserves finite sums and the operations on plain matrices.
 use Rattle.std.proofs.Common.{◌≡◌, ℕ, zero, suc, Bool, true, false, List, [], ◌∷◌, ap, ◌∙◌, refl}
 use Rattle.sparse_algebra.specs.Algebra.{CommRing}
 use Rattle.sparse_algebra.specs.Sums.{sum_below, sum_by, where_true}

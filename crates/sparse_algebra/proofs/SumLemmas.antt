@@ -12,7 +12,7 @@ use Rattle.sparse_algebra.specs.Sums.{sum_below, sum_by, where_true}
 use Rattle.sparse_algebra.proofs.RingLemmas.{zero_add, add_cross, mul_zero, cancel}
 
 module _ (R : CommRing) where
-  -- ---- one term
+  -- ---- a term with a condition
 
   pub where_yes : (b : Bool) (c : R.Carrier) → b ≡ true → where_true R b c ≡ c
   where_yes true c e = refl
@@ -78,7 +78,7 @@ module _ (R : CommRing) where
       (sum_below-exchange m n h) ∙ sym (sum_below-add n (λ j. sum_below R m (λ i. h i j))
       (λ j. h m j))
 
-  -- the product of three matrices, entry by entry: (A B) C is A (B C)
+  -- an entry of (A B) C equals the entry of A (B C); a is a row of A, and c a column of C
   pub product_assoc : (m n : ℕ) (a : ℕ → R.Carrier) (b : ℕ → ℕ → R.Carrier) (c : ℕ → R.Carrier)
       → sum_below R n (λ l. R.mul (sum_below R m (λ k. R.mul (a k) (b k l))) (c l)) ≡ sum_below R m
       (λ k. R.mul (a k) (sum_below R n (λ l. R.mul (b k l) (c l))))
@@ -96,9 +96,9 @@ module _ (R : CommRing) where
           ∙ sum_below-same m _ _ (λ k _. R.laws.mul_comm (c l) (R.mul (a k) (b k l))
           ∙ R.laws.mul_assoc (a k) (b k l) (c l))
 
-reads_back : {X : Type 0} (l : List X) (i j : ℕ) (y d : X) → i < length l → get_or l j d ≡ y
+get_or_after_set : {X : Type 0} (l : List X) (i j : ℕ) (y d : X) → i < length l → get_or l j d ≡ y
     → get_or (set l i y) j d ≡ y
-reads_back l i j y d h q =
+get_or_after_set l i j y d h q =
     elim (cases_eq j i) [
       | inl e ↦ subst (λ k. get_or (set l i y) k d ≡ y) (sym e)
           (get_or-set_same l i y d h)
@@ -107,7 +107,7 @@ reads_back l i j y d h q =
 
 module _ (R : CommRing) where
   module _ {X : Type 0} (f : X → R.Carrier) where
-    -- what a write changes
+    -- sum after a write + the old element = sum before it + the new element
     pub sum_by-set : (xs : List X) (i : ℕ) (d y : X) → i < length xs
         → R.add (sum_by R f (set xs i y)) (f (get_or xs i d)) ≡ R.add (sum_by R f xs) (f y)
     sum_by-set [] i d y h = absurd (omega arith)
@@ -126,13 +126,13 @@ module _ (R : CommRing) where
         let l : List X = d ∷ ys in
         let x : X = get_or l i d in
         let y : X = get_or l j d in
-        let read = reads_back l i j y d h refl in
+        let read = get_or_after_set l i j y d h refl in
         let a = sum_by-set l i d y h in
         let b = sum_by-set (set l i y) j d x (rw length-set k) in
         cancel R (sum_by R f l) (sum_by R f (set (set l i y) j x)) (f y)
         (sym (ap (λ z. R.add (sum_by R f (set (set l i y) j x)) (f z)) (sym read) ∙ b ∙ a))
 
-    -- std's permutations, as sorting ensures them
+    -- permutations as std defines them, and as its sorts ensure them
     pub sum_by-permutation : (xs ys : List X) → IsPermutation xs ys → sum_by R f xs ≡ sum_by R f ys
     sum_by-permutation xs = IsPermutation-keeps xs (λ l. sum_by R f xs ≡ sum_by R f l) refl
         (λ l i j h k e. e ∙ sum_by-swap l i j h k)

@@ -1,4 +1,4 @@
--- Results of wrapping operations are exact wherever the integer result fits.
+-- Results of wrapping operations are exact wherever the integer result fits the signed range.
 use Rattle.std.proofs.Common.{◌≡◌, ℕ, sym, ap, ◌∙◌, refl, List, ℤ, pos, ◌^◌, ◌%◌, lit<}
 use Rattle.std.specs.Prelude.{◌+ℤ◌, ◌*ℤ◌}
 use Rattle.std.specs.Int.{Width, cast_signed, int_wrap}
@@ -35,7 +35,7 @@ module _ (w : Width) where
   wrapped_fits : (z : ℤ) → FitsSigned w z → wrapped w z ≡ class_of w z
   wrapped_fits z f = ap (class_of w) (int_wrap_fits w z f)
 
-  -- ---- reading back
+  -- ---- the representative of a class
 
   pub number_of-class : (z : ℤ) → FitsSigned w z → number_of w (class_of w z) ≡ z
   number_of-class z f = ap (cast_signed w) (mod-eq_of_lt (unsigned_below w z f)) ∙ to_z-of_z w z f
@@ -51,7 +51,7 @@ module _ (w : Width) where
       ∙ same_residue (class_of w (number_of w c)) c
       (ap (λ n. n % 2 ^ bits w) (of_z-to_z w c.number c.below) ∙ mod-eq_of_lt c.below)
 
-  -- ---- wrapping keeps sums and products
+  -- ---- wrapping preserves sums and products
 
   wrapped-add : (a b : ℤ) → wrapped w (a +ℤ b) ≡ (wrapping_ring w).add (wrapped w a) (wrapped w b)
   wrapped-add a b =
@@ -112,7 +112,7 @@ module _ (w : Width) where
       (plain_wrapped w a) (plain_wrapped w b)
   wrapped-product = map-product whole_ring (wrapping_ring w) (wrapped w) wrapped-IsRingMap
 
-  -- triplets of scalars that mean the classes of numbers that fit
+  -- triplets of scalars, each represented by a number in the signed range
   pub wrapped-triplets : {T : Type 0} (number : T → ℤ) (rows cols : ℕ) (ts : List (ℕ × ℕ × T))
       → ((x : T) → FitsSigned w (number x))
       → plain_wrapped w (plain_of_triplets whole_ring number rows cols ts) ≡ plain_of_triplets
@@ -127,9 +127,9 @@ module _ (w : Width) where
   plain_wrapped-numbers a = same_plain (plain_wrapped w (plain_numbers w a)) a refl refl
       (λ i j. refl) (λ i j. wrapped-number_of (a.value i j))
 
-  -- ---- entries
+  -- ---- values that fit the signed range
 
-  -- what is wrapped from whole numbers shows those that fit
+  -- a matrix wrapped from an integer matrix is exact wherever the integer fits
   pub wrapped_shows : (a : Plain (wrapping_ring w)) (z : Plain whole_ring) → plain_wrapped w z ≡ a
       → Shows w a z
   wrapped_shows a z e i j f = ap (λ b. number_of w (b.value i j)) (sym e)

@@ -1,4 +1,4 @@
--- The ring elements that integers mean, in any commutative ring.
+-- The images of the integers in a commutative ring.
 use Rattle.std.specs.Prelude.{ℕ, zero, suc, ℤ, pos, negsuc}
 use Rattle.sparse_algebra.specs.Algebra.{CommRing}
 

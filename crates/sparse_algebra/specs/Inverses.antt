@@ -2,6 +2,6 @@
 use Rattle.std.specs.Prelude.{◌≡◌}
 use Rattle.sparse_algebra.specs.Algebra.{CommRing}
 
--- some scalar stands for the inverse of c, where f says what a scalar stands for
+-- some scalar y represents the inverse of c; f maps a scalar to the ring element that it represents
 abbrev pub HasInverse : (R : CommRing) {T : Type 0} → (T → R.Carrier) → R.Carrier → Type 0
 HasInverse R {T} f c = (y : T) × (R.mul c (f y) ≡ R.one)

@@ -21,7 +21,7 @@ mod_ring m = residues (modulus m) (modulus_pos m)
 abbrev pub mod_class : (m : ℕ) → ℕ → Residue (modulus m)
 mod_class m n = residue (modulus m) (modulus_pos m) n
 
--- numbers below the modulus are equal exactly where their residues are
+-- numbers below the modulus are equal if and only if their residues are
 pub mod_decides : (m x y : ℕ) → x < modulus m → y < modulus m
     → (nat_eq x y ≡ true) ↔ (mod_class m x ≡ mod_class m y)
 mod_decides m x y f g = (

@@ -1,4 +1,4 @@
--- The integer that represents a wrapping integer.
+-- The integers that represent the scalars `W32` and `W64`.
 use Rattle.std.specs.Prelude.{ℤ}
 use Rattle.sparse_algebra.specs.declared.scalar.wrapping.W32.{W32}
 use Rattle.sparse_algebra.specs.declared.scalar.wrapping.W64.{W64}

@@ -5,7 +5,8 @@ use Rattle.std.specs.List.{list_any, flat_map}
 use Rattle.sparse_algebra.specs.Algebra.{CommRing}
 use Rattle.sparse_algebra.specs.Sums.{sum_by, sum_below, where_true}
 
--- the shape, the test whether a pair is a place, and the value at each pair
+-- a plain matrix: its shape, the test whether a pair (row, column) is a place, that is, in the structure
+-- of the matrix, and the value at each pair
 pub record Plain (R : CommRing) : Type 0 where
   pub rows : ℕ
   pub cols : ℕ
@@ -63,8 +64,8 @@ module _ (R : CommRing) where
         λ i j. R.mul s (a.value i j);
   }
 
-  -- (i, j) is a place if for some k, (i, k) is one of a and (k, j) one of b; the value is the sum
-  -- over all k below the inner dimension
+  -- (i, j) is a place if, for some k, (i, k) is a place of a and (k, j) a place of b; the value is the
+  -- sum over all k below the inner dimension
   abbrev pub plain_product : Plain R → Plain R → Plain R
   plain_product a b = record {
     rows = a.rows;

@@ -1,4 +1,4 @@
--- What an operation into a given matrix leaves there.
+-- Updates of a matrix C whose structure stays as it is, such as C = beta C + alpha A B.
 use Rattle.std.specs.Prelude.{◌≡◌, ℕ, Bool, true, false}
 use Rattle.sparse_algebra.specs.Algebra.{CommRing}
 use Rattle.sparse_algebra.specs.Plain.{Plain, plain_transpose}
@@ -12,7 +12,7 @@ plain_update R beta c alpha x = record {
   value = λ i j. R.add (R.mul beta (c.value i j)) (R.mul alpha (x.value i j));
 }
 
--- each place of x is one of c
+-- each place of x is a place of c
 abbrev pub IsCovered : {R : CommRing} → Plain R → Plain R → Type 0
 IsCovered x c = (i j : ℕ) → x.has i j ≡ true → c.has i j ≡ true
 

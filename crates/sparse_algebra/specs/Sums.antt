@@ -17,7 +17,7 @@ abbrev pub where_true : (R : CommRing) → Bool → R.Carrier → R.Carrier
 where_true R true c = c
 where_true R false c = R.zero
 
--- the sum of the values, each times x at its index
+-- the dot product of the sparse vector with these indices and values, and the dense vector x
 abbrev pub dot_of : (R : CommRing) {T : Type 0} → (T → R.Carrier) → List ℕ → List T
     → (ℕ → R.Carrier) → R.Carrier
 dot_of R f indices values x = sum_by R (λ t. R.mul (f t.1) (x t.0)) (zip indices values)

@@ -89,15 +89,15 @@ wrapped w z = class_of w (int_wrap w z)
 abbrev pub number_of : (w : Width) → Residue (2 ^ bits w) → ℤ
 number_of w c = cast_signed w c.number
 
--- each entry reduced to its class
+-- each value reduced to its class
 abbrev pub plain_wrapped : (w : Width) → Plain whole_ring → Plain (wrapping_ring w)
 plain_wrapped w a = plain_map (wrapped w) a
 
--- the signed representative of each entry
+-- the signed representative of each value
 abbrev pub plain_numbers : (w : Width) → Plain (wrapping_ring w) → Plain whole_ring
 plain_numbers w a = plain_map (number_of w) a
 
--- if the integer at a pair fits the signed range, it is the signed representative of the entry
--- there
+-- a has the integers of z wherever they fit: if the integer of z at a pair is in the signed range, it
+-- is the signed representative of the value of a there
 abbrev pub Shows : (w : Width) → Plain (wrapping_ring w) → Plain whole_ring → Type 0
 Shows w a z = (i j : ℕ) → FitsSigned w (z.value i j) → number_of w (a.value i j) ≡ z.value i j

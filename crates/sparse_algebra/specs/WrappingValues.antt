@@ -1,4 +1,4 @@
--- The whole numbers that wrapping integers show, and the classes that they mean.
+-- The residue classes of the scalars `W32`, `W64` and `W128`, and the integers that represent them.
 use Rattle.std.specs.Prelude.{◌≡◌, ℤ, ◌%◌, ◌^◌}
 use Rattle.std.specs.Int.{Width, w32, w64, w128, cast_unsigned}
 use mir.Val.{bits}

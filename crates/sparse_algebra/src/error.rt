@@ -12,7 +12,7 @@ use thiserror::Error;
 /// The kind of an [`OperationError`].
 #[derive(Debug, Clone, Copy, PartialEq, Eq)]
 pub enum OperationErrorKind {
-    /// The result has a place that the output matrix does not store.
+    /// The result has an entry at a row and column where the output matrix stores none.
     InvalidPattern,
     /// A value that must have an inverse has none.
     Singular,
@@ -20,7 +20,7 @@ pub enum OperationErrorKind {
     OutOfMemory,
 }
 
-/// The error of an operation on matrices. It has a kind and a message; contracts see the kind.
+/// The error of an operation on matrices. It has a kind and a message; in contracts its value is the kind.
 #[derive(Debug, Drop, Error)]
 #[error("Sparse matrix operation error: {kind:?} Message: {message}")]
 pub struct OperationError {
@@ -37,7 +37,7 @@ impl Model for OperationError {
 }
 
 impl OperationError {
-    /// Returns the error of a sum whose target lacks a place.
+    /// Returns the error of a sum into a matrix `c` that does not store every entry of `op(a)`.
     pub fn of_sum_pattern() -> Self
         ensures { result ≡ InvalidPattern }
     {
@@ -47,7 +47,7 @@ impl OperationError {
         }
     }
 
-    /// Returns the error of a product whose target lacks a place.
+    /// Returns the error of a product into a matrix `c` that does not store every entry of the product.
     pub fn of_product_pattern() -> Self
         ensures { result ≡ InvalidPattern }
     {
@@ -57,7 +57,7 @@ impl OperationError {
         }
     }
 
-    /// Returns the error of a matrix whose diagonal isn't stored or has an entry without an inverse.
+    /// Returns the error of a matrix with a diagonal entry that is not stored or has no inverse.
     pub fn of_singular_diagonal() -> Self
         ensures { result ≡ Singular }
     {

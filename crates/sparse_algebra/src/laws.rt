@@ -51,7 +51,7 @@ pub fn transpose_twice_law<T: Ring>()
     ensures { (a : Plain T.ring) → plain_transpose T.ring (plain_transpose T.ring a) ≡ a }
 {}
 
-/// A product with the identity of the matching size is the other factor, in places and values.
+/// A product with the identity of the matching size is the other operand, in places and values.
 pub fn identity_product_law<T: Ring>()
     ensures left { (a : Plain T.ring)
         → IsProper a → IsWithin a → plain_product T.ring (plain_identity T.ring a.rows) a ≡ a }
@@ -59,7 +59,7 @@ pub fn identity_product_law<T: Ring>()
         → IsProper a → IsWithin a → plain_product T.ring a (plain_identity T.ring a.cols) ≡ a }
 {}
 
-/// Every operation on plain matrices gives a matrix whose value is zero at each pair that is not a place.
+/// Every operation on proper plain matrices gives a proper one: its value is zero at each pair that is not a place.
 pub fn proper_law<T: Ring>()
     ensures triplets { (rows cols : ℕ) (ts : List (ℕ × ℕ × T))
         → IsProper (plain_of_triplets T.ring T.value rows cols ts) }
@@ -76,7 +76,7 @@ pub fn proper_law<T: Ring>()
     ensures kept { (test : ℕ → ℕ → Bool) (a : Plain T.ring) → IsProper (plain_kept T.ring test a) }
 {}
 
-/// Every operation on plain matrices gives a matrix whose places all lie within its shape.
+/// Every operation on plain matrices whose places lie within their shapes gives one whose places lie within its shape.
 pub fn within_law<T: Ring>()
     ensures triplets { (rows cols : ℕ) (ts : List (ℕ × ℕ × T))
         → All (λ t. (t.0 < rows) × (t.1 < cols)) ts

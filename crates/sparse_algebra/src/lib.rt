@@ -6,8 +6,8 @@ pub mod laws;
 pub mod operand;
 pub mod scalar;
 
-/// Takes what a call returns that is made for its contract alone.
+/// Discards the result of a call. The call only tells the prover its postcondition.
 ///
-/// The contract tells the prover a fact, as that the arrays of a matrix are sound. Such a call returns a reference that
-/// nobody reads, so the compiler removes both: it costs nothing when the program runs.
-pub fn learn<T: Copy>(_lent: T) {}
+/// In `recall(c.values())` the postcondition of `values` says that the arrays of `c` are sound. The result is a
+/// reference that nobody reads, so the compiler removes both calls: they cost nothing when the program runs.
+pub fn recall<T: Copy>(_result: T) {}

@@ -9,7 +9,7 @@ ghost use Rattle.sparse_algebra.specs.Operands.{IsNoOpAnd, IsTransposeAnd};
 
 use crate::scalar::Ring;
 
-/// A matrix, as it is or transposed, in an operation.
+/// An operand of an operation: a matrix, used as it is or transposed.
 #[derive(Clone, Copy, Debug, PartialEq, Eq, Drop)]
 pub enum Op<T> {
     /// The matrix as it is.
@@ -29,7 +29,7 @@ impl<T> Op<T> {
         }
     }
 
-    /// Returns a reference to the matrix, as it is or transposed as here.
+    /// Returns an operand that borrows the matrix, transposed if and only if this operand is.
     pub fn as_ref(&self) -> Op<&T>
         ensures { op_map (λ x. x.now) result ≡ self.now }
     {
@@ -39,7 +39,7 @@ impl<T> Op<T> {
         }
     }
 
-    /// Applies `f` to the matrix. The result is transposed exactly where the operand is.
+    /// Applies `f` to the matrix. The result is transposed if and only if the operand is.
     pub fn map_same_op<U, F: FnOnce(T) -> U>(self, f: F) -> Op<U>
         requires { F.pre f (inner_of self) }
         ensures { MatchOp self (λ x. IsNoOpAnd result (F.post f x))
@@ -61,7 +61,7 @@ impl<T> Op<T> {
         }
     }
 
-    /// Returns the transposed operand, of the same matrix.
+    /// Returns the transposed operand: the same matrix, as `Transpose` if this is a `NoOp`, and as `NoOp` otherwise.
     pub fn transposed(self) -> Self
         ensures { result ≡ op_transposed self }
     {
@@ -72,7 +72,7 @@ impl<T> Op<T> {
     }
 }
 
-/// Takes the matrix as it is.
+/// A matrix converts to the operand that uses it as it is.
 impl<T> From<T> for Op<T> {
     ghost from_gives = { λ x op. op ≡ NoOp x };
 
@@ -86,7 +86,7 @@ pub fn transposed_twice_law<T>()
     ensures { (x : Op T) → op_transposed (op_transposed x) ≡ x }
 {}
 
-/// What a transposed operand stands for is the transpose of what the operand stands for.
+/// The plain matrix of the transposed operand is the transpose of the plain matrix of the operand.
 pub fn transposed_plain_law<T: Ring, X>()
     ensures { (see : X → Plain T.ring) (x : Op X)
         → plain_op T.ring see (op_transposed x) ≡ plain_transpose T.ring (plain_op T.ring see x) }

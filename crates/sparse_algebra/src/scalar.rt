@@ -16,9 +16,9 @@ pub use residues::Mod;
 pub use wide::W128;
 pub use wrapping::{W32, W64};
 
-/// A type with a zero, the value of every place that is not stored.
+/// A type with a zero: the value of a matrix at every row and column where no entry is stored.
 pub trait Zero: PartialEq {
-    // The value that `zero` gives.
+    // The value that `zero` returns.
     ghost zero_value: { Self };
 
     /// Returns zero.
@@ -43,7 +43,7 @@ pub trait Ring: Zero + Copy {
     // The commutative ring, with its laws.
     ghost ring: { CommRing };
 
-    // The element that a scalar means.
+    // The ring element that a scalar represents.
     ghost value: { Self → ring.Carrier };
 
     /// Returns one.

@@ -1,4 +1,4 @@
-mod Accepting
+mod ValidOperands
 mod Combined
 mod Factoring
 mod Quotients

@@ -1,4 +1,4 @@
--- Solutions in arrays.
+-- The contract of calls that solve a system and write the solution to an array.
 use Rattle.std.proofs.Common.{◌≡◌, ◌≢◌, ◌≤◌, ℕ, ℤ, pos, ◌<◌, ◌*◌, length, take, ap, sym}
 use Rattle.std.proofs.Common.{Result, subst, ◌∙◌}
 use Rattle.std.specs.Prelude.{IfOk, IfErr, MatchResult, OnOk}
@@ -8,22 +8,22 @@ use Rattle.sparse_algebra.specs.Sums.{sum_below}
 use Rattle.sparse_algebra.proofs.SumLemmas.{sum_below-same}
 use Rattle.sparse_coo_dense.specs.Dense.{Dense}
 use Rattle.sparse_coo_dense.specs.DensePlain.{plain_of_dense}
-use Rattle.sparse_with_dense.specs.Solutions.{HasSameValues, IsSolution}
+use Rattle.sparse_dense_ops.specs.Solutions.{HasSameValues, IsSolution}
 use Rattle.sparse_c.specs.Dense.{WritesNumbers}
 use Rattle.sparse_c.specs.Scalars.{scalars}
 use Rattle.sparse_c.specs.Solved.{HoldsMatrix, IsMatrixTooLong}
 use Rattle.sparse_c.specs.declared.arguments.Numbers.{Numbers}
-use Rattle.sparse_c_arrays.proofs.Faultless.{accepted}
-use Rattle.sparse_c_arrays.specs.Arrays.{plain_by_values, HoldsDense}
-use Rattle.sparse_c_arrays.specs.Reduced.{FirstAre}
-use Rattle.sparse_c_arrays.specs.Refused.{IsMemoryOr}
-use Rattle.sparse_c_arrays.specs.Rests.{KeepsBehind}
-use Rattle.sparse_c_arrays.specs.Statuses.{number_of, FindsNoFault}
-use Rattle.sparse_c_arrays.specs.declared.refusal.Refusal.{Refusal}
-use Rattle.sparse_c_arrays.specs.declared.refusal.Refusal.TheVariants.{TooSmall}
-use Rattle.sparse_c_arrays.proofs.Joining.{both, found, refused}
+use Rattle.c_arrays.proofs.ValidStatuses.{FindsNoFault-sound}
+use Rattle.c_arrays.specs.Arrays.{plain_by_values, HoldsDense}
+use Rattle.c_arrays.specs.Reduced.{FirstAre}
+use Rattle.c_arrays.specs.Refused.{IsOutOfMemoryOr}
+use Rattle.c_arrays.specs.Rests.{KeepsBehind}
+use Rattle.c_arrays.specs.Statuses.{number_of, FindsNoFault}
+use Rattle.c_arrays.specs.declared.refusal.Refusal.{Refusal}
+use Rattle.c_arrays.specs.declared.refusal.Refusal.TheVariants.{TooSmall}
+use Rattle.c_arrays.proofs.Joining.{both, found, refused}
 
--- ---- a dense answer of a known shape, as it was written
+-- ---- a dense result of a known shape, as it is written to an array
 
 module _ {T : Type 0} (answer : Result (Dense T) Refusal) (n m : ℕ)
     (rows : IfOk answer (λ x. x.nrows ≡ n)) (cols : IfOk answer (λ x. x.ncols ≡ m))
@@ -34,12 +34,12 @@ module _ {T : Type 0} (answer : Result (Dense T) Refusal) (n m : ℕ)
       (λ (x : Dense T). P (plain_of_dense R f x)) answer
       (both (λ (x : Dense T). x.nrows ≡ n) (λ (x : Dense T). x.ncols ≡ m) answer rows cols) is
 
-  -- what holds of the answer holds of the numbers that were written; the caller sees the status as
-  -- `seen`
+  -- if the result satisfies P, so does the matrix in the array; `seen` is the status at the caller, which equals
+  -- `status`
   pub numbers_answered : {Shown : ℤ → Type 0} {Sound : Type 0} {Fault : Refusal → Type 0}
       (before after : Numbers) (status seen : ℤ) → seen ≡ status
       → after.values.ghost_name ≡ before.values.ghost_name
-      → OnOk answer Sound → IfErr answer (IsMemoryOr Fault)
+      → OnOk answer Sound → IfErr answer (IsOutOfMemoryOr Fault)
       → ((e : Refusal) → Fault e → FindsNoFault (number_of e) → Sound)
       → (status ≡ pos 0
       → MatchResult answer (λ x. HoldsDense (plain_of_dense R f x) after.values.now) (λ _. ⊥))
@@ -67,7 +67,7 @@ module _ {T : Type 0} (answer : Result (Dense T) Refusal) (n m : ℕ)
               let p = found answer known (rest (sym same ∙ h)) in
               subst (λ (s : ℕ × ℕ). KeepsBehind (s.0 * s.1) before.values.now after.values.now)
               (λ k. (p.1.0.0.0 k, p.1.0.0.1 k)) p.1.1;
-          sound = accepted _ _ answer status seen same sound fault told written why;
+          sound = FindsNoFault-sound _ _ answer status seen same sound fault told written why;
           untouched = λ h. untouched (λ e. h (same ∙ e));
           refused = λ h. refused answer known status seen same fault (λ e given. given)
               (λ x p small. (
@@ -87,7 +87,7 @@ module _ {T : Type 0} (answer : Result (Dense T) Refusal) (n m : ℕ)
       }
 
 module _ (R : CommRing) where
-  -- what solves the system of a matrix with the same values solves that of the matrix
+  -- a solution with a matrix s is a solution with any matrix a that has the values of s
   pub solved_as : (a s x b : Plain R) (n m : ℕ) → a.cols ≡ n → s.cols ≡ n
       → HasSameValues R n n s a → IsSolution R s x b → HasSameValues R n m (plain_product R a x) b
   solved_as a s x b n m cols same equation solved i j row _ =

@@ -2,7 +2,7 @@ pub mod Combinations
 pub mod Dense
 pub mod Factors
 pub mod Fills
-pub mod InnerListed
+pub mod InnerModulusLaws
 pub mod Moduli
 pub mod Orders
 pub mod Patterns

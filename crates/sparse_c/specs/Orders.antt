@@ -1,4 +1,4 @@
--- A matrix by rows or by columns.
+-- Assembly of a CSR or a CSC matrix from triplets.
 use Rattle.std.specs.Prelude.{ℤ}
 use Rattle.sparse_algebra.specs.Algebra.{CommRing}
 use Rattle.sparse_algebra.specs.Plain.{Plain, plain_transpose}
@@ -7,24 +7,24 @@ use Rattle.sparse_c.specs.Rooms.{WritesIn}
 use Rattle.sparse_c.specs.Scalars.{Scalars}
 use Rattle.sparse_c.specs.declared.arguments.Order.{Order}
 use Rattle.sparse_c.specs.declared.arguments.Order.TheVariants.{Rows, Columns}
-use Rattle.sparse_c.specs.declared.arguments.Room.{Room}
+use Rattle.sparse_c.specs.declared.arguments.OutputArrays.{OutputArrays}
 use Rattle.sparse_c.specs.declared.arguments.Triplets.{Triplets}
-use Rattle.sparse_c_arrays.specs.Arrays.{plain_of_lists}
-use Rattle.sparse_c_arrays.specs.Refused.{IsFaultOfList}
+use Rattle.c_arrays.specs.Arrays.{plain_of_lists}
+use Rattle.c_arrays.specs.Refused.{IsFaultOfList}
 
 module _ (R : CommRing) where
-  -- the plain matrix of the rows that have the arrays of the matrix in this order
+  -- the plain matrix of the CSR matrix that has the same arrays as the CSR or the CSC matrix of a
   abbrev pub in_order : Order → Plain R → Plain R
   in_order Rows a = a
   in_order Columns a = plain_transpose R a
 
-  -- that of the matrix of triplets
+  -- the same for the matrix of triplets
   abbrev pub assembly_of : Triplets → Plain R
   assembly_of t = in_order t.order
       (plain_of_lists R t.rows t.cols t.row_indices.now t.col_indices.now t.values.now)
 
--- a call that assembles triplets, with the arrays before it and after it, and its status
-abbrev pub Assembles : Scalars → Triplets → Room → Room → ℤ → Type 0
+-- the contract of a call that assembles triplets: its ring, the arrays before and after the call, and its status
+abbrev pub Assembles : Scalars → Triplets → OutputArrays → OutputArrays → ℤ → Type 0
 Assembles S t =
     WritesIn S (AreParts t.rows t.cols t.row_indices.now t.col_indices.now t.values.now)
     (IsFaultOfList t.rows t.cols t.row_indices.now t.col_indices.now t.values.now)

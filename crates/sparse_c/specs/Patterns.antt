@@ -1,12 +1,12 @@
--- Patterns as arrays, and the number of places of a product.
+-- The number of entries of a product of two CSR patterns.
 use Rattle.std.specs.Prelude.{◌≡◌, ◌⊎◌, ℕ, ℤ}
 use Rattle.sparse_products.specs.Products.{IsProductOf}
 use Rattle.sparse_pattern.specs.Raw.{Raw, IsValid, nnz_of}
-use Rattle.sparse_c_arrays.specs.Refused.{IsFaultOfPattern, IsMemoryOr}
-use Rattle.sparse_c_arrays.specs.Statuses.{number_of}
-use Rattle.sparse_c_arrays.specs.declared.refusal.Refusal.{Refusal}
+use Rattle.c_arrays.specs.Refused.{IsFaultOfPattern, IsOutOfMemoryOr}
+use Rattle.c_arrays.specs.Statuses.{number_of}
+use Rattle.c_arrays.specs.declared.refusal.Refusal.{Refusal}
 
--- n is the number of places of a pattern, which are those of the product
+-- n is the number of entries of the pattern of the product of a and b
 pub record CountsProduct (a b : Raw) (n : ℕ) : Type 0 where
   pub product : Raw
   pub valid : IsValid product
@@ -15,8 +15,8 @@ pub record CountsProduct (a b : Raw) (n : ℕ) : Type 0 where
   pub places : IsProductOf product a b
   pub count : n ≡ nnz_of product
 
--- the status of a call that reads two patterns: memory was refused, the first pattern has a fault,
--- or it has none and the second has one
+-- the status of a call that reads two patterns and fails: that of OutOfMemory, or of the first fault of a, or of the
+-- first fault of b if a has none
 abbrev pub IsPatternPairRefused : Raw → Raw → ℤ → Type 0
 IsPatternPairRefused a b status = (refusal : Refusal) × (status ≡ number_of refusal)
-    × IsMemoryOr (λ r. IsFaultOfPattern a r ⊎ (IsValid a × IsFaultOfPattern b r)) refusal
+    × IsOutOfMemoryOr (λ r. IsFaultOfPattern a r ⊎ (IsValid a × IsFaultOfPattern b r)) refusal

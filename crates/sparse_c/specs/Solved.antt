@@ -1,89 +1,89 @@
--- Systems of equations and quotients, as C has them.
+-- Calls that solve a triangular system, or divide a matrix by an integer, over arrays.
 use Rattle.std.specs.Prelude.{◌≡◌, ◌≢◌, ◌≤◌, ◌⊎◌, ℕ, ℤ, ◌*◌, ◌<◌, Bool, true, false, List, length}
 use Rattle.std.specs.Prelude.{pos, take}
 use Rattle.sparse_algebra.specs.Algebra.{CommRing}
 use Rattle.sparse_algebra.specs.Inverses.{HasInverse}
 use Rattle.sparse_algebra.specs.Plain.{Plain, plain_scaled, plain_transpose}
 use Rattle.sparse_compressed.specs.Compressed.{Compressed, IsSound}
-use Rattle.sparse_with_dense.specs.Solutions.{plain_lower, IsSingular, IsSolution}
+use Rattle.sparse_dense_ops.specs.Solutions.{plain_lower, IsSingular, IsSolution}
 use Rattle.sparse_c.specs.Rooms.{AnswersIn}
 use Rattle.sparse_c.specs.Scalars.{Scalars}
 use Rattle.sparse_c.specs.declared.arguments.Quotient.{Quotient}
-use Rattle.sparse_c.specs.declared.arguments.Room as borrowed
-use Rattle.sparse_c_arrays.specs.Arrays.{plain_by_cols, plain_by_rows, plain_by_values}
-use Rattle.sparse_c_arrays.specs.Arrays.{places_of, Room, HoldsRows}
+use Rattle.sparse_c.specs.declared.arguments.OutputArrays as borrowed
+use Rattle.c_arrays.specs.Arrays.{plain_by_cols, plain_by_rows, plain_by_values}
+use Rattle.c_arrays.specs.Arrays.{place_count, OutputArrays, HoldsRows}
 use Rattle.sparse_algebra.specs.Integers.{element_of}
-use Rattle.sparse_c_arrays.specs.Refused.{IsFaultOf, IsFaultOfSystem, IsRefusedFor, IsSystemSound}
-use Rattle.sparse_c_arrays.specs.Refused.{IsTooSmall}
-use Rattle.sparse_c_arrays.specs.Rests.{KeepsRest}
-use Rattle.sparse_c_arrays.specs.Statuses.{number_of, FindsNoFault}
-use Rattle.sparse_c_arrays.specs.Untouched.{IsUntouched}
-use Rattle.sparse_c_arrays.specs.declared.refusal.Refusal.{Refusal}
-use Rattle.sparse_c_arrays.specs.declared.refusal.Refusal.TheVariants.{Singular, TooSmall}
+use Rattle.c_arrays.specs.Refused.{IsFaultOf, IsFaultOfSystem, IsRefusedFor, IsSystemSound}
+use Rattle.c_arrays.specs.Refused.{IsTooSmall}
+use Rattle.c_arrays.specs.Rests.{KeepsRest}
+use Rattle.c_arrays.specs.Statuses.{number_of, FindsNoFault}
+use Rattle.c_arrays.specs.Untouched.{IsUntouched}
+use Rattle.c_arrays.specs.declared.refusal.Refusal.{Refusal}
+use Rattle.c_arrays.specs.declared.refusal.Refusal.TheVariants.{Singular, TooSmall}
 
 module _ (R : CommRing) where
-  -- the matrix, or its transpose
+  -- a, or its transpose if the flag is set
   abbrev pub transposed_if : Bool → Plain R → Plain R
   transposed_if false a = a
   transposed_if true a = plain_transpose R a
 
-  -- the part of the matrix by columns on and below its diagonal, or the transpose of this part
+  -- the lower triangle of a CSC matrix, with the diagonal, or the transpose of this triangle
   abbrev pub lower_of : Bool → Compressed ℤ → Plain R
   lower_of transposed m = transposed_if transposed (plain_lower R (plain_by_cols R m))
 
-  -- the array begins with the values of a matrix with n rows and m columns, and P holds of it
+  -- the array starts with the values of a dense matrix with n rows and m columns that satisfies P
   pub record HoldsMatrix (P : Plain R → Type 0) (n m : ℕ) (values : List ℤ) : Type 0 where
     pub room : n * m ≤ length values
     pub holds : P (plain_by_values R n m (take (n * m) values))
 
-  -- the array begins with the values of X, with n rows and m columns, where t X = b
+  -- the array starts with the values of an X with n rows and m columns, where t X = b
   abbrev pub HoldsSolution : Plain R → Plain R → ℕ → ℕ → List ℤ → Type 0
   HoldsSolution t b = HoldsMatrix (λ x. IsSolution R t x b)
 
-  -- P holds of some matrix with n rows and m columns, for which the array has no room
+  -- some matrix satisfies P, and the array is too short for n rows and m columns
   abbrev pub IsMatrixTooLong : (Plain R → Type 0) → ℕ → ℕ → List ℤ → Type 0
   IsMatrixTooLong P n m values = (x : Plain R) × P x × (length values < n * m)
 
-  -- some X with n rows and m columns satisfies t X = b, and the array has no room for it
+  -- some X satisfies t X = b, and the array is too short for n rows and m columns
   abbrev pub IsSolutionTooLong : Plain R → Plain R → ℕ → ℕ → List ℤ → Type 0
   IsSolutionTooLong t b = IsMatrixTooLong (λ x. IsSolution R t x b)
 
-  -- q is a, times the inverse of s
+  -- q is the inverse of s, times a
   abbrev pub IsQuotientBy : R.Carrier → Plain R → Plain R → Type 0
   IsQuotientBy s q a = (y : R.Carrier) × (R.mul s y ≡ R.one) × (q ≡ plain_scaled R y a)
 
-  -- the arrays begin with the quotient of the matrix by rows and the integer
-  unfoldable pub WritesQuotient : Compressed ℤ → ℤ → Room → Type 0
+  -- the arrays start with the quotient of the CSR matrix and the integer
+  unfoldable pub WritesQuotient : Compressed ℤ → ℤ → OutputArrays → Type 0
   WritesQuotient a divisor room = (q : Plain R)
       × IsQuotientBy (element_of R divisor) q (plain_by_rows R a) × HoldsRows q room
 
-  -- n is the number of places of the quotient
+  -- n is the number of places of a quotient
   abbrev pub CountsQuotient : Compressed ℤ → ℤ → ℕ → Type 0
   CountsQuotient a divisor n = (q : Plain R)
-      × IsQuotientBy (element_of R divisor) q (plain_by_rows R a) × (n ≡ places_of q)
+      × IsQuotientBy (element_of R divisor) q (plain_by_rows R a) × (n ≡ place_count q)
 
-  -- an array has no room for the quotient
-  abbrev pub IsQuotientTooSmall : Compressed ℤ → ℤ → Room → Type 0
+  -- there is a quotient for which an array is too short
+  abbrev pub IsQuotientTooSmall : Compressed ℤ → ℤ → OutputArrays → Type 0
   IsQuotientTooSmall a divisor room = (q : Plain R)
       × IsQuotientBy (element_of R divisor) q (plain_by_rows R a) × IsTooSmall q room
 
 module _ (R : CommRing) {T : Type 0} (f : T → R.Carrier) where
-  -- the matrix by columns has a fault, or the right side has one, or neither has, there is a column
-  -- to solve for, and some entry of the diagonal is not stored or has no inverse
+  -- the error of the first fault of the CSC matrix or of the right-hand side; or Singular if they have none, there is a
+  -- column to solve for, and some diagonal entry is missing or has no inverse
   abbrev pub IsFaultOfLower : Compressed ℤ → ℕ → ℕ → List ℤ → Refusal → Type 0
   IsFaultOfLower m size cols b refusal = IsFaultOfSystem m size cols b refusal
       ⊎ (IsSystemSound m size cols b × (refusal ≡ Singular) × (0 < cols)
       × IsSingular R f (plain_lower R (plain_by_cols R m)))
 
-  -- the matrix has a fault, or it has none and the divisor has no inverse
+  -- the error of the first fault of the matrix, or Singular if it has none and the divisor has no inverse
   abbrev pub IsFaultOfQuotient : Compressed ℤ → ℤ → Refusal → Type 0
   IsFaultOfQuotient m divisor refusal = IsFaultOf m refusal
       ⊎ (IsSound m × (refusal ≡ Singular) × (HasInverse R f (element_of R divisor) → ⊥))
 
--- the status of a call that divides the matrix by rows by the integer, where Fault is the first
--- fault, and the arrays before it and after it
+-- the contract of a call that divides a CSR matrix by an integer, with the arrays before and after the call, and its
+-- status. Fault: the error of the call
 pub record Divides (R : CommRing) (Fault : Refusal → Type 0) (a : Compressed ℤ) (divisor : ℤ)
-    (before after : Room) (status : ℤ) : Type 0 where
+    (before after : OutputArrays) (status : ℤ) : Type 0 where
   pub written : status ≡ pos 0 → WritesQuotient R a divisor after
   pub rest : status ≡ pos 0 → KeepsRest a.pattern.major_dim before after
   pub sound : FindsNoFault status → IsSound a
@@ -91,7 +91,7 @@ pub record Divides (R : CommRing) (Fault : Refusal → Type 0) (a : Compressed �
   pub needed : status ≡ number_of TooSmall → CountsQuotient R a divisor after.places
   pub refused : status ≢ pos 0 → IsRefusedFor Fault (IsQuotientTooSmall R a divisor before) status
 
--- the same of a call over a ring, and what it shows
-abbrev pub DividesIn : Scalars → Quotient → borrowed.Room → borrowed.Room → ℤ → Type 0
+-- the same for a call over a ring, which writes only numbers that satisfy S.IsShown
+abbrev pub DividesIn : Scalars → Quotient → borrowed.OutputArrays → borrowed.OutputArrays → ℤ → Type 0
 DividesIn S q = AnswersIn S (Divides S.ring
     (S.IsFault (IsFaultOfQuotient S.ring S.value q.a q.divisor)) q.a q.divisor)

@@ -1,41 +1,42 @@
--- Symmetric systems, as C has them.
+-- Calls that solve a system with a symmetric matrix A, whose entries on and above the diagonal are those of a CSC
+-- matrix a.
 use Rattle.std.specs.Prelude.{◌≡◌, ◌⊎◌, ℕ, ℤ, List}
 use Rattle.sparse_algebra.specs.Algebra.{CommRing}
 use Rattle.sparse_algebra.specs.Plain.{Plain, plain_product}
 use Rattle.sparse_compressed.specs.Compressed.{Compressed}
 use Rattle.sparse_factor.specs.Factorisations.{plain_symmetric, IsFactorisation}
-use Rattle.sparse_with_dense.specs.Solutions.{HasSameValues}
+use Rattle.sparse_dense_ops.specs.Solutions.{HasSameValues}
 use Rattle.sparse_c.specs.Solved.{HoldsMatrix, IsMatrixTooLong}
-use Rattle.sparse_c_arrays.specs.Arrays.{plain_by_cols}
-use Rattle.sparse_c_arrays.specs.Refused.{IsFaultOfSystem, IsSystemSound}
-use Rattle.sparse_c_arrays.specs.declared.refusal.Refusal.{Refusal}
-use Rattle.sparse_c_arrays.specs.declared.refusal.Refusal.TheVariants.{Singular}
+use Rattle.c_arrays.specs.Arrays.{plain_by_cols}
+use Rattle.c_arrays.specs.Refused.{IsFaultOfSystem, IsSystemSound}
+use Rattle.c_arrays.specs.declared.refusal.Refusal.{Refusal}
+use Rattle.c_arrays.specs.declared.refusal.Refusal.TheVariants.{Singular}
 
 module _ (R : CommRing) where
-  -- the symmetric matrix with the entries of the matrix by columns on and above the diagonal
+  -- A: the symmetric matrix whose entries on and above the diagonal are those of the CSC matrix
   abbrev pub symmetric_by_cols : Compressed ℤ → Plain R
   symmetric_by_cols a = plain_symmetric R (plain_by_cols R a)
 
-  -- A x has the values of b, which has n rows and m columns
+  -- A x and b have the same values in the first n rows and m columns
   abbrev pub SolvesSymmetric : Compressed ℤ → Plain R → Plain R → ℕ → ℕ → Type 0
   SolvesSymmetric a x b n m = HasSameValues R n m (plain_product R (symmetric_by_cols a) x) b
 
-  -- the array begins with the values of X, with n rows and m columns, where A X = b
+  -- the array starts with the values of an X with n rows and m columns, where A X = b
   abbrev pub HoldsSymmetricSolution : Compressed ℤ → Plain R → ℕ → ℕ → List ℤ → Type 0
   HoldsSymmetricSolution a b n m = HoldsMatrix R (λ x. SolvesSymmetric a x b n m) n m
 
-  -- some X with n rows and m columns satisfies A X = b, and the array has no room for it
+  -- some X satisfies A X = b, and the array is too short for n rows and m columns
   abbrev pub IsSymmetricSolutionTooLong : Compressed ℤ → Plain R → ℕ → ℕ → List ℤ → Type 0
   IsSymmetricSolutionTooLong a b n m = IsMatrixTooLong R (λ x. SolvesSymmetric a x b n m) n m
 
 module _ (R : CommRing) {T : Type 0} (f : T → R.Carrier) where
-  -- no L and D are a factorisation L D Lᵀ of the symmetric matrix
+  -- A has no factorisation L D Lᵀ
   abbrev pub HasNoFactors : Compressed ℤ → Type 0
   HasNoFactors a = (l : Plain R) (d : ℕ → R.Carrier)
       → IsFactorisation R f (symmetric_by_cols R a) l d → ⊥
 
-  -- the matrix by columns has a fault, or the right side has one, or neither has, and there is no
-  -- factorisation
+  -- the error of the first fault of the CSC matrix or of the right-hand side, or Singular if they have none and A has
+  -- no factorisation
   abbrev pub IsFaultOfSymmetric : Compressed ℤ → ℕ → ℕ → List ℤ → Refusal → Type 0
   IsFaultOfSymmetric a size cols b refusal =
       IsFaultOfSystem a size cols b refusal

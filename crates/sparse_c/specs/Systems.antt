@@ -1,9 +1,9 @@
--- Equations with a square matrix, as C has them.
+-- Calls that solve an equation with a square CSC matrix: a triangular or a symmetric system.
 use Rattle.std.specs.Prelude.{◌*◌, ℕ, ℤ, List}
 use Rattle.sparse_algebra.specs.Algebra.{CommRing}
 use Rattle.sparse_algebra.specs.Plain.{Plain}
 use Rattle.sparse_compressed.specs.Compressed.{Compressed}
-use Rattle.sparse_with_dense.specs.Solutions.{IsSolution}
+use Rattle.sparse_dense_ops.specs.Solutions.{IsSolution}
 use Rattle.sparse_c.specs.Dense.{WritesNumbers}
 use Rattle.sparse_c.specs.Scalars.{Scalars}
 use Rattle.sparse_c.specs.Solved.{lower_of, HoldsMatrix, IsFaultOfLower, IsMatrixTooLong}
@@ -12,27 +12,27 @@ use Rattle.sparse_c.specs.declared.arguments.Equation.{Equation}
 use Rattle.sparse_c.specs.declared.arguments.Equation.TheVariants.{Lower, Symmetric}
 use Rattle.sparse_c.specs.declared.arguments.Numbers.{Numbers}
 use Rattle.sparse_c.specs.declared.arguments.System.{System}
-use Rattle.sparse_c_arrays.specs.Arrays.{plain_by_values}
-use Rattle.sparse_c_arrays.specs.Refused.{IsSystemSound}
-use Rattle.sparse_c_arrays.specs.declared.refusal.Refusal.{Refusal}
+use Rattle.c_arrays.specs.Arrays.{plain_by_values}
+use Rattle.c_arrays.specs.Refused.{IsSystemSound}
+use Rattle.c_arrays.specs.declared.refusal.Refusal.{Refusal}
 
--- x solves the equation with the matrix by columns and b, which has n rows and m columns
+-- x solves the equation with the CSC matrix a and the right-hand side b, which has n rows and m columns
 abbrev pub Solves : (R : CommRing) → Equation → Compressed ℤ → Plain R → Plain R → ℕ → ℕ → Type 0
 Solves R (Lower transposed) a x b n m = IsSolution R (lower_of R transposed a) x b
 Solves R Symmetric a x b n m = SolvesSymmetric R a x b n m
 
 module _ (R : CommRing) {T : Type 0} (f : T → R.Carrier) where
-  -- the data has a fault, or elimination finds no solution
+  -- the error of the equation: a fault of the operands, or Singular
   abbrev pub IsFaultOfEquation : Equation → Compressed ℤ → ℕ → ℕ → List ℤ → Refusal → Type 0
   IsFaultOfEquation (Lower transposed) = IsFaultOfLower R f
   IsFaultOfEquation Symmetric = IsFaultOfSymmetric R f
 
--- x solves the system over a ring
+-- x solves the system over the ring R
 abbrev pub IsSolved : (R : CommRing) → System → Plain R → Type 0
 IsSolved R s x =
     Solves R s.equation s.matrix x (plain_by_values R s.size s.cols s.b.now) s.size s.cols
 
--- a call that solves a system, with the array before it and after it, and its status
+-- the contract of a call that solves a system: its ring, the array before and after the call, and its status
 abbrev pub SolvesSystem : Scalars → System → Numbers → Numbers → ℤ → Type 0
 SolvesSystem S s = WritesNumbers S (IsSystemSound s.matrix s.size s.cols s.b.now)
     (IsFaultOfEquation S.ring S.value s.equation s.matrix s.size s.cols s.b.now)

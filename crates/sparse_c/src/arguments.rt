@@ -1,24 +1,26 @@
-//! The arguments that C gives one by one, as structs.
+//! Structs for the arguments that belong together, which C passes one by one.
 //!
-//! The macros write struct literals, of which a proof sees the fields: of a function's result it knows only the contract.
+//! Macros build them, and not functions: a proof sees the fields of a struct literal, but of the result of a function
+//! only what its contract says.
 
 ghost use Rattle.std.specs.Int.{w64};
 ghost use Rattle.std.specs.Int.RustNames.{FitsSigned};
 
-use sparse_c_arrays::lanes::Lanes;
+use c_arrays::lanes::Lanes;
 
-/// The borrowed arrays of a matrix by rows, and the variable for its number of places.
+/// The output arrays for a CSR matrix, and the variable for its number of entries, borrowed from C.
 #[derive(Drop)]
-pub(crate) struct Room<'a> {
+pub(crate) struct OutputArrays<'a> {
     pub(crate) offsets: &'a mut [usize],
     pub(crate) indices: &'a mut [usize],
     pub(crate) values: &'a mut [i64],
     pub(crate) places: &'a mut usize,
 }
 
-/// The borrowed arrays of the factors of a symmetric matrix.
+/// The output arrays for the columns of L and the diagonal of D, and the variable for the number of entries of L,
+/// borrowed from C.
 #[derive(Drop)]
-pub(crate) struct FactorRoom<'a> {
+pub(crate) struct FactorOutputArrays<'a> {
     pub(crate) offsets: &'a mut [usize],
     pub(crate) indices: &'a mut [usize],
     pub(crate) values: &'a mut [i64],
@@ -26,7 +28,7 @@ pub(crate) struct FactorRoom<'a> {
     pub(crate) places: &'a mut usize,
 }
 
-/// The borrowed array of a dense matrix.
+/// The output array for the values of a dense matrix, borrowed from C.
 #[derive(Drop)]
 pub(crate) struct Numbers<'a> {
     pub(crate) values: &'a mut [i64],
@@ -37,12 +39,12 @@ pub(crate) struct Numbers<'a> {
 pub(crate) enum Combination {
     Sum,
     Difference,
-    /// The sum of a multiple of each.
+    /// The sum of multiples `alpha * a + beta * b`.
     Multiples,
     Product,
 }
 
-/// Two matrices by rows, and how they are combined. The numbers are the factors of `Multiples`.
+/// Two CSR matrices, and how they are combined. `alpha` and `beta` are the scales of `Multiples`.
 #[derive(Drop)]
 pub(crate) struct Pair<'a> {
     pub(crate) how: Combination,
@@ -61,7 +63,7 @@ pub(crate) enum Order {
     Columns,
 }
 
-/// Triplets of a matrix, and whether it is wanted by rows or by columns.
+/// The triplets of a matrix, and whether the result is a CSR or a CSC matrix.
 #[derive(Drop)]
 pub(crate) struct Triplets<'a> {
     pub(crate) order: Order,
@@ -72,7 +74,7 @@ pub(crate) struct Triplets<'a> {
     pub(crate) values: &'a [i64],
 }
 
-/// A matrix by rows, and the integer that it is divided by.
+/// A CSR matrix, and the integer that it is divided by.
 #[derive(Drop)]
 pub(crate) struct Quotient<'a> {
     pub(crate) a: Lanes<'a>,
@@ -80,31 +82,32 @@ pub(crate) struct Quotient<'a> {
     ghost in_range: { FitsSigned w64 divisor },
 }
 
-/// A square matrix by columns. The symmetric matrix with its entries on and above the diagonal is factored.
+/// A square CSC matrix. Its entries on and above the diagonal are those of the symmetric matrix to be factored.
 #[derive(Drop)]
 pub(crate) struct Factored<'a> {
     pub(crate) a: Lanes<'a>,
 }
 
-/// A matrix by rows, and the values of a dense matrix with `inner` rows and `cols` columns.
+/// The operands of a product with a dense matrix: a CSR matrix, and the values of a dense matrix with `inner` rows and
+/// `cols` columns.
 #[derive(Drop)]
-pub(crate) struct Factors<'a> {
+pub(crate) struct DenseOperands<'a> {
     pub(crate) a: Lanes<'a>,
     pub(crate) inner: usize,
     pub(crate) cols: usize,
     pub(crate) b: &'a [i64],
 }
 
-/// The equation that is solved.
+/// Which equation a call solves.
 #[derive(Clone, Copy)]
 pub(crate) enum Equation {
-    /// `L X = B`, or `Lᵀ X = B` where the flag is set: L is the part of the matrix on and below its diagonal.
+    /// `L X = B`, or `Lᵀ X = B` if the flag is set: L is the lower triangle of the matrix, with the diagonal.
     Lower(bool),
-    /// `A X = B`: A is the symmetric matrix with the entries of the matrix on and above its diagonal.
+    /// `A X = B`: A is the symmetric matrix whose entries on and above the diagonal are those of the matrix.
     Symmetric,
 }
 
-/// A square matrix by columns, and the columns of the right side of the equation, one after the other.
+/// A square CSC matrix, and the values of the right-hand side, a dense matrix that is stored column by column.
 #[derive(Drop)]
 pub(crate) struct System<'a> {
     pub(crate) equation: Equation,
@@ -114,10 +117,10 @@ pub(crate) struct System<'a> {
     pub(crate) b: &'a [i64],
 }
 
-// The room for a matrix by rows.
+// Builds a `OutputArrays`.
 macro_rules! room {
     ($offsets:expr, $indices:expr, $values:expr, $places:expr) => {
-        crate::arguments::Room {
+        crate::arguments::OutputArrays {
             offsets: $offsets,
             indices: $indices,
             values: $values,
@@ -126,10 +129,10 @@ macro_rules! room {
     };
 }
 
-// The arrays of a matrix by rows or by columns.
+// Builds the `Lanes` of a CSR or a CSC matrix.
 macro_rules! lanes {
     ($major_dim:expr, $minor_dim:expr, $offsets:expr, $indices:expr, $values:expr) => {
-        sparse_c_arrays::lanes::Lanes {
+        c_arrays::lanes::Lanes {
             major_dim: $major_dim,
             minor_dim: $minor_dim,
             offsets: $offsets,
@@ -139,7 +142,7 @@ macro_rules! lanes {
     };
 }
 
-// Two matrices, and how they are combined.
+// Builds a `Pair`; `alpha` and `beta` are 1 if they are not given.
 macro_rules! pair {
     ($how:ident, $a:expr, $b:expr) => {
         crate::arguments::Pair {
@@ -161,7 +164,7 @@ macro_rules! pair {
     };
 }
 
-// The triplets of a matrix that is wanted by rows or by columns.
+// Builds `Triplets`.
 macro_rules! triplets {
     ($order:ident, $rows:expr, $cols:expr, $row_indices:expr, $col_indices:expr, $values:expr) => {
         crate::arguments::Triplets {

@@ -1,27 +1,31 @@
-//! Matrices behind handles: made, read, copied and freed.
+//! Handles of matrices: construction, reading, sharing and freeing.
 
 ghost use Rattle.std.specs.Prelude.{◌≡◌, None, pos};
 ghost use Rattle.sparse_compressed.specs.Compressed.{arrays_of, IsSound};
 ghost use Rattle.sparse_coo_dense.specs.Coo.{AreParts};
-ghost use Rattle.sparse_c_arrays.specs.Arrays.{places_of, plain_by_rows, plain_of_lists};
-ghost use Rattle.sparse_c_arrays.specs.Arrays.{ring64, room_of, HoldsRows};
-ghost use Rattle.sparse_c_arrays.specs.Refused.{IsFaultOf, IsFaultOfList};
-ghost use Rattle.sparse_c_arrays.specs.Rests.{KeepsRest};
-ghost use Rattle.sparse_c_arrays.specs.Statuses.{number_of};
-ghost use Rattle.sparse_c_arrays.specs.declared.refusal.Refusal.TheVariants.{EmptyHandle};
-ghost use Rattle.sparse_handles.specs.Behind.{plain_behind, Answers, Holds, IsEmpty, IsUnwritten};
+ghost use Rattle.c_arrays.specs.Arrays.{place_count, plain_by_rows, plain_of_lists};
+ghost use Rattle.c_arrays.specs.Arrays.{ring64, output_arrays, HoldsRows};
+ghost use Rattle.c_arrays.specs.Refused.{IsFaultOf, IsFaultOfList};
+ghost use Rattle.c_arrays.specs.Rests.{KeepsRest};
+ghost use Rattle.c_arrays.specs.Statuses.{number_of};
+ghost use Rattle.c_arrays.specs.declared.refusal.Refusal.TheVariants.{EmptyHandle};
+ghost use Rattle.c_handles.specs.Held.{plain_held, Answers, Holds, IsEmpty, IsUnwritten};
+
+pub(crate) mod operations;
+pub(crate) mod systems;
+pub(crate) mod texts;
 
 use crate::arguments::lanes;
 use crate::status::status;
-use sparse_c_arrays::lanes::Lanes;
-use sparse_handles::handle::MatrixHandle;
-use sparse_handles::making::{put_rows, put_triplets};
-use sparse_handles::operations::share;
-use sparse_handles::reading::{read, sizes};
-use sparse_handles::sharing::clear;
+use c_arrays::lanes::Lanes;
+use c_handles::from_arrays::{put_rows, put_triplets};
+use c_handles::handle::MatrixHandle;
+use c_handles::held_matrix::clear;
+use c_handles::operations::share;
+use c_handles::reading::{read, sizes};
 use std::alloc::Global;
 
-/// Puts the matrix with these arrays by rows behind a handle.
+/// Stores the matrix with these CSR arrays in a handle.
 #[unsafe(no_mangle)]
 pub extern "C" fn nalgebra_sparse_matrix_from_rows(
     alloc: Global,
@@ -41,7 +45,7 @@ pub extern "C" fn nalgebra_sparse_matrix_from_rows(
     status!(put_rows(alloc, lanes!(rows, cols, offsets, indices, values), out))
 }
 
-/// Puts the matrix of triplets behind a handle.
+/// Stores the matrix of a list of triplets in a handle. The values of triplets with the same row and column are added.
 #[unsafe(no_mangle)]
 pub extern "C" fn nalgebra_sparse_matrix_from_triplets(
     alloc: Global,
@@ -62,7 +66,7 @@ pub extern "C" fn nalgebra_sparse_matrix_from_triplets(
     status!(put_triplets(alloc, (rows, cols), row_indices, col_indices, values, out))
 }
 
-/// Writes the numbers of rows, columns and places of a matrix behind a handle.
+/// Writes the numbers of rows, columns and entries of the matrix that a handle holds.
 #[unsafe(no_mangle)]
 pub extern "C" fn nalgebra_sparse_matrix_sizes(
     alloc: Global,
@@ -73,11 +77,11 @@ pub extern "C" fn nalgebra_sparse_matrix_sizes(
 ) -> i32
     ensures kept { a.new.value ≡ a.old.value }
     ensures missing { a.old.value ≡ None → result ≡ number_of EmptyHandle }
-    ensures answer { let m = plain_behind a.old.value in
+    ensures answer { let m = plain_held a.old.value in
         Answers result (IsEmpty a.old.value)
         ((out_rows.new ≡ out_rows.old) × (out_cols.new ≡ out_cols.old)
         × (out_places.new ≡ out_places.old))
-        ((out_rows.new ≡ m.rows) × (out_cols.new ≡ m.cols) × (out_places.new ≡ places_of m)) }
+        ((out_rows.new ≡ m.rows) × (out_cols.new ≡ m.cols) × (out_places.new ≡ place_count m)) }
 {
     match sizes(alloc, a) {
         Ok((rows, cols, places)) => {
@@ -90,7 +94,7 @@ pub extern "C" fn nalgebra_sparse_matrix_sizes(
     }
 }
 
-/// Writes the matrix behind a handle into arrays by rows.
+/// Writes the CSR arrays of the matrix that a handle holds, and its number of entries.
 #[unsafe(no_mangle)]
 pub extern "C" fn nalgebra_sparse_matrix_read(
     alloc: Global,
@@ -103,16 +107,16 @@ pub extern "C" fn nalgebra_sparse_matrix_read(
     ensures kept { a.new.value ≡ a.old.value }
     ensures missing { a.old.value ≡ None → result ≡ number_of EmptyHandle }
     ensures answer { let before =
-        room_of out_offsets.old out_indices.old out_values.old out_places.old in
-        let after = room_of out_offsets.new out_indices.new out_values.new out_places.new in
+        output_arrays out_offsets.old out_indices.old out_values.old out_places.old in
+        let after = output_arrays out_offsets.new out_indices.new out_values.new out_places.new in
         Answers result (IsUnwritten a.old.value before) (after ≡ before)
-        (HoldsRows (plain_behind a.old.value) after
-        × KeepsRest (plain_behind a.old.value).rows before after) }
+        (HoldsRows (plain_held a.old.value) after
+        × KeepsRest (plain_held a.old.value).rows before after) }
 {
     status!(read(alloc, a, out_offsets, out_indices, out_values, out_places))
 }
 
-/// Makes a second handle of a matrix, which both share.
+/// Stores in `out` the matrix that `a` holds: both handles share it.
 #[unsafe(no_mangle)]
 pub extern "C" fn nalgebra_sparse_matrix_clone(
     alloc: Global,
@@ -122,12 +126,12 @@ pub extern "C" fn nalgebra_sparse_matrix_clone(
     ensures kept { a.new.value ≡ a.old.value }
     ensures missing { a.old.value ≡ None → result ≡ number_of EmptyHandle }
     ensures answer { Answers result (IsEmpty a.old.value) (out.new.value ≡ out.old.value)
-        (Holds out.new.value (plain_behind a.old.value)) }
+        (Holds out.new.value (plain_held a.old.value)) }
 {
     status!(share(alloc, a, out))
 }
 
-/// Drops the matrix behind a handle, which has none from then on.
+/// Empties a handle, and drops the matrix that it holds, if it holds one.
 #[unsafe(no_mangle)]
 pub extern "C" fn nalgebra_sparse_matrix_free(alloc: Global, a: &mut MatrixHandle)
     ensures { a.new.value ≡ None }

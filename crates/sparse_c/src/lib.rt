@@ -2,24 +2,10 @@
 #![tactic(auto)]
 
 mod arguments;
-mod assembling;
 mod assembly;
-mod combining;
-mod dense;
-mod division;
-mod factors;
-mod fill;
-mod handle_operations;
-mod handle_systems;
-mod handle_texts;
 mod handles;
 mod moduli;
-mod products;
-mod reading;
-mod solve;
+mod operations;
 mod status;
-mod sums;
-mod symmetric;
 mod systems;
-mod transpose;
-mod writing;
+mod texts;

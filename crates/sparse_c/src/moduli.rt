@@ -1,41 +1,42 @@
-//! Calls over a ring that is chosen when they run.
+//! Calls over a ring that is chosen at run time: the residues modulo a listed number.
 
 ghost use Rattle.std.specs.Prelude.{◌≡◌, ◌≤◌, ℕ, ℤ};
 ghost use Rattle.sparse_c.specs.Moduli.{moduli, IsNoneOf};
 ghost use Rattle.sparse_c.specs.Scalars.{modulo, residues_of, scalars, Scalars};
-ghost use Rattle.sparse_c_arrays.specs.Statuses.{number_of};
-ghost use Rattle.sparse_c_arrays.specs.declared.refusal.Refusal.TheVariants.{UnknownChoice};
+ghost use Rattle.c_arrays.specs.Statuses.{number_of};
+ghost use Rattle.c_arrays.specs.declared.refusal.Refusal.TheVariants.{UnknownChoice};
 
+use c_arrays::number::Number;
+use c_arrays::refusal::Refusal;
 use sparse_algebra::scalar::Mod;
-use sparse_c_arrays::number::Number;
-use sparse_c_arrays::refusal::Refusal;
 use std::alloc::Global;
 
-/// The operands of a call that writes into `O`, the arrays that it borrows from C.
+/// The operands of a call that writes its result to `O`, arrays that are borrowed from C.
 pub(crate) trait Call<O>: Drop {
-    // What the operands must satisfy.
+    // The precondition on the operands.
     ghost fits: { Self → Type 0 } = { λ _. Unit {0} };
 
-    // What the call does: its operands, the arrays before it and after it, and its status.
+    // The postcondition: of the ring, the operands, the arrays before the call and after it, and the status.
     ghost does: { Scalars → Self → O → O → ℤ → Type 0 };
 
-    /// Makes the call over the ring of a scalar, and returns its status.
+    /// Executes the call over the ring of the scalar type `T`, and returns its status.
     fn run<T: Number>(self, alloc: Global, out: &mut O) -> i32
         requires { fits self }
         ensures { does (scalars T.ring T.value T.is_shown) self out.old out.new result };
 
-    // What it does over the residues modulo m it does modulo m.
+    // A call over the type of residues modulo m satisfies the postcondition of a call with the modulus m.
     ghost listed: { (m : ℕ) (call : Self) (old new : O) (status : ℤ) → m ≤ 9223372036854775808
         → does (residues_of m) call old new status → does (modulo m) call old new status };
 
-    // Where m is not listed, it leaves the arrays.
+    // If m is not listed, a call that returns `UnknownChoice` and changes no array satisfies it too.
     ghost unlisted: { (m : ℕ) (call : Self) (old : O) → IsNoneOf moduli m
         → does (modulo m) call old old (number_of UnknownChoice) };
 }
 
-/// Makes a call over the residues modulo a listed number, and returns its status.
+/// Executes a call over the residues modulo `modulus`, and returns its status: that of `UnknownChoice` if the modulus
+/// is not listed.
 ///
-/// The ring of a scalar is fixed when the library is built, so the call is built once for each modulus of the list.
+/// The modulus of a scalar type is a constant, so each call is compiled once for each modulus of the list.
 pub(crate) fn by_modulus<O, C: Call<O>>(alloc: Global, modulus: u64, call: C, out: &mut O) -> i32
     requires { C.fits call }
     ensures does { C.does (modulo modulus) call out.old out.new result }
@@ -57,7 +58,7 @@ pub(crate) fn by_modulus<O, C: Call<O>>(alloc: Global, modulus: u64, call: C, ou
     }
 }
 
-// Makes a call over the residues modulo `M`, which is the modulus.
+// Executes a call over the type of residues modulo `M`, which equals `modulus`.
 fn run_modulo<const M: u64, O, C: Call<O>>(alloc: Global, modulus: u64, call: C, out: &mut O) -> i32
     requires is { modulus ≡ M }
     requires short { M ≤ 9223372036854775808 }

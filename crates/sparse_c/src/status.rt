@@ -1,6 +1,7 @@
-//! The status of a call over handles.
+//! The status of a call with handles.
 
-// The status of a result: 0, or that of its refusal. A proof sees the arms of the match, as it would not of a function.
+// Returns the status of a result: 0 for `Ok`, and otherwise the number of the error. It is a macro, since a proof sees
+// the arms of its match, but of a function only the contract.
 macro_rules! status {
     ($result:expr) => {
         match $result {

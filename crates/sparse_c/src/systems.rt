@@ -1,30 +1,35 @@
-//! Systems of equations from outside.
+//! Solves of systems of equations over any ring.
 
 ghost use Rattle.std.specs.Prelude.{◌≡◌, ◌<◌, IfOk, IfErr, OnOk, OnErr};
 ghost use Rattle.sparse_algebra.specs.declared.error.OperationErrorKind.TheVariants.{Singular};
 ghost use Rattle.sparse_coo_dense.specs.DensePlain.{plain_of_dense};
 ghost use Rattle.sparse_compressed.specs.PlainOfLanes.{plain_of_cols};
-ghost use Rattle.sparse_with_dense.specs.Solutions.{plain_lower, IsSingular, IsSolution};
-ghost use Rattle.sparse_c.specs.InnerListed.{numbers_listed, numbers_unlisted};
+ghost use Rattle.sparse_dense_ops.specs.Solutions.{plain_lower, IsSingular, IsSolution};
+ghost use Rattle.sparse_c.specs.InnerModulusLaws.{numbers_listed, numbers_unlisted};
 ghost use Rattle.sparse_c.specs.Solved.{lower_of, transposed_if, IsFaultOfLower};
 ghost use Rattle.sparse_c.specs.Symmetric.{IsFaultOfSymmetric, SolvesSymmetric};
 ghost use Rattle.sparse_c.specs.Systems.{IsFaultOfEquation, Solves, SolvesSystem};
-ghost use Rattle.sparse_c_arrays.specs.Arrays.{plain_by_values};
-ghost use Rattle.sparse_c_arrays.specs.Refused.{IsMemoryOr, IsSystemSound};
+ghost use Rattle.c_arrays.specs.Arrays.{plain_by_values};
+ghost use Rattle.c_arrays.specs.Refused.{IsOutOfMemoryOr, IsSystemSound};
+
+pub(crate) mod factors;
+pub(crate) mod fill;
+pub(crate) mod solve;
+pub(crate) mod symmetric;
 
 use crate::arguments::{Equation, Numbers, System};
 use crate::moduli::Call;
+use c_arrays::dense::dense_matrix_of;
+use c_arrays::lanes::Lanes;
+use c_arrays::number::Number;
+use c_arrays::refusal::Refusal;
+use c_arrays::writing::finish_dense;
 use sparse_algebra::error::OperationError;
 use sparse_algebra::operand::Op;
-use sparse_c_arrays::dense::dense_matrix_of;
-use sparse_c_arrays::lanes::Lanes;
-use sparse_c_arrays::number::Number;
-use sparse_c_arrays::refusal::Refusal;
-use sparse_c_arrays::writing::finish_dense;
 use sparse_coo_dense::dense::DMatrix;
 use sparse_csr_csc::csc::CscMatrix;
+use sparse_dense_ops::spsolve_csc_lower_triangular;
 use sparse_factor::ldl::Ldl;
-use sparse_with_dense::spsolve_csc_lower_triangular;
 use std::alloc::Global;
 
 impl<'a> Call<Numbers<'a>> for System<'_> {
@@ -43,7 +48,7 @@ impl<'a> Call<Numbers<'a>> for System<'_> {
     ghost unlisted = { λ m _. numbers_unlisted m };
 }
 
-// The solution of a system.
+// Returns the solution of a system.
 fn solution<T: Number>(alloc: Global, system: System<'_>) -> Result<DMatrix<T>, Refusal>
     requires rows { system.matrix.pattern.minor_dim ≡ system.size }
     requires cols { system.matrix.pattern.major_dim ≡ system.size }
@@ -54,7 +59,7 @@ fn solution<T: Number>(alloc: Global, system: System<'_>) -> Result<DMatrix<T>, 
         s.size s.cols) }
     ensures sound { let s = system.entry in
         OnOk result (IsSystemSound s.matrix s.size s.cols s.b.now) }
-    ensures fault { let s = system.entry in IfErr result (IsMemoryOr (IsFaultOfEquation T.ring
+    ensures fault { let s = system.entry in IfErr result (IsOutOfMemoryOr (IsFaultOfEquation T.ring
         T.value s.equation s.matrix s.size s.cols s.b.now)) }
 {
     let System {
@@ -70,7 +75,7 @@ fn solution<T: Number>(alloc: Global, system: System<'_>) -> Result<DMatrix<T>, 
     }
 }
 
-// The solution of the system with the lower triangle of a matrix by columns, or with its transpose.
+// Returns the solution of the system with the lower triangle of a CSC matrix, or with the transpose of this triangle.
 fn lower_solution<T: Number>(
     alloc: Global,
     l: Lanes<'_>,
@@ -86,7 +91,7 @@ fn lower_solution<T: Number>(
         (plain_of_dense T.ring T.value x)
         (plain_by_values T.ring shape.0 shape.1 b.now)) }
     ensures sound { OnOk result (IsSystemSound l.entry shape.0 shape.1 b.now) }
-    ensures fault { IfErr result (IsMemoryOr
+    ensures fault { IfErr result (IsOutOfMemoryOr
         (IsFaultOfLower T.ring T.value l.entry shape.0 shape.1 b.now)) }
 {
     let l = l.columns::<T>(alloc)?;
@@ -96,7 +101,7 @@ fn lower_solution<T: Number>(
     Ok(x)
 }
 
-// Replaces B by the solution of the system with the lower triangle of a matrix, or with its transpose.
+// Solves in place with the lower triangle of `l`, or with its transpose if `transposed` is set.
 fn solve_triangle<T: Number>(
     l: &CscMatrix<T>,
     transposed: bool,
@@ -121,7 +126,8 @@ fn solve_triangle<T: Number>(
     }
 }
 
-// The solution of the symmetric system with the entries of a matrix by columns on and above its diagonal.
+// Returns the solution of the system with the symmetric matrix whose entries on and above the diagonal are those of a
+// CSC matrix.
 fn symmetric_solution<T: Number>(
     alloc: Global,
     a: Lanes<'_>,
@@ -136,7 +142,7 @@ fn symmetric_solution<T: Number>(
         (plain_of_dense T.ring T.value x)
         (plain_by_values T.ring shape.0 shape.1 b.now) shape.0 shape.1) }
     ensures sound { OnOk result (IsSystemSound a.entry shape.0 shape.1 b.now) }
-    ensures fault { IfErr result (IsMemoryOr
+    ensures fault { IfErr result (IsOutOfMemoryOr
         (IsFaultOfSymmetric T.ring T.value a.entry shape.0 shape.1 b.now)) }
 {
     let a = a.columns::<T>(alloc)?;

@@ -1,4 +1,5 @@
--- Compressed matrices as plain matrices, and when two are the same.
+-- The places and values of the plain matrix of compressed arrays; `==` decides whether two plain
+-- matrices are the same.
 use Rattle.std.proofs.Common.{◌≡◌, ℕ, suc, zero, ◌<◌, inl, inr, ◌↔◌, Bool, true, List, [], ◌∷◌}
 use Rattle.std.proofs.Common.{length, get_or, Contains, slice_index, ap, sym, subst, ◌∙◌, refl}
 use Rattle.std.proofs.Common.{arith}
@@ -8,50 +9,50 @@ use Rattle.sparse_algebra.proofs.Cases.{and_both, and_parts, true_or_false}
 use Rattle.sparse_algebra.specs.Algebra.{CommRing}
 use Rattle.sparse_algebra.specs.Plain.{Plain, IsProper, is_at}
 use Rattle.sparse_algebra.proofs.PlainLemmas.{same_plain, same_bool}
-use Rattle.sparse_pattern.specs.Raw.{Raw, IsValid, IsPlace, HasSamePlaces, entries_of, raw_eq}
-use Rattle.sparse_pattern.proofs.Positions.{one_position, lane_of_position}
-use Rattle.sparse_pattern.proofs.LaneOrder.{length-entries, entries_are_places}
-use Rattle.sparse_pattern.proofs.SamePlaces.{places_decide, same_from_places}
-use Rattle.sparse_compressed.specs.Compressed.{Compressed, IsSound, IsPosition, zip_values}
+use Rattle.sparse_pattern.specs.Raw.{Raw, IsValid, IsEntry, HasSameEntries, entries_of, raw_eq}
+use Rattle.sparse_pattern.proofs.OffsetsInLanes.{one_offset, lane_of_offset}
+use Rattle.sparse_pattern.proofs.LaneOrder.{length-entries, Contains-entries_of}
+use Rattle.sparse_pattern.proofs.SameEntries.{raw_eq-HasSameEntries, equal_from_entries}
+use Rattle.sparse_compressed.specs.Compressed.{Compressed, IsSound, IsOffset, zip_values}
 use Rattle.sparse_compressed.specs.Compressed.{compressed_eq}
 use Rattle.sparse_compressed.specs.PlainOfLanes.{plain_of_rows}
-pub use Rattle.sparse_compressed.proofs.EntryPositions.{position_within, entry_at}
-pub use Rattle.sparse_compressed.proofs.EntryPositions.{position_of_entry}
+pub use Rattle.sparse_compressed.proofs.EntryOffsets.{offset_within, entry_at}
+pub use Rattle.sparse_compressed.proofs.EntryOffsets.{offset_of_entry}
 pub use Rattle.sparse_compressed.proofs.TripletSums.{pair_is, test_yes, pairs_of, named}
-pub use Rattle.sparse_compressed.proofs.TripletSums.{pairs_of-triplets, value_at, unnamed}
-pub use Rattle.sparse_compressed.proofs.TripletSums.{one_named}
+pub use Rattle.sparse_compressed.proofs.TripletSums.{pairs_of-triplets, value_at, value_at-none}
+pub use Rattle.sparse_compressed.proofs.TripletSums.{value_at-one}
 
 module _ (R : CommRing) {T : Type 0} (f : T → R.Carrier) (d : Raw) (valid : IsValid d) (vs : List T)
     (count : length vs ≡ length d.indices) where
-  pub value_at_position : (z : T) (i j p : ℕ) → IsPosition d i j p
+  pub value_at_offset : (z : T) (i j p : ℕ) → IsOffset d i j p
       → value_at R f (zip_values (entries_of d) vs) i j ≡ f (get_or vs p z)
-  value_at_position z i j p h =
+  value_at_offset z i j p h =
       let long = length-entries d valid in
-      one_named R f i j p z (entries_of d) vs (long ∙ sym count)
-      (omega (arith, long, position_within d valid i j p h))
+      value_at-one R f i j p z (entries_of d) vs (long ∙ sym count)
+      (omega (arith, long, offset_within d valid i j p h))
       (entry_at d valid i p h.0 ∙ ap (λ x. (i, x)) h.1)
-      (λ q lt is. let there = position_of_entry d valid i j q (omega (arith, long, lt)) is in sym
-      (one_position d valid i p q h.0 there.0 (h.1 ∙ sym there.1)))
+      (λ q lt is. let there = offset_of_entry d valid i j q (omega (arith, long, lt)) is in sym
+      (one_offset d valid i p q h.0 there.0 (h.1 ∙ sym there.1)))
 
   pub has_is_place : (i j : ℕ)
-      → (list_any (is_at i j) (zip_values (entries_of d) vs) ≡ true) ↔ IsPlace d i j
+      → (list_any (is_at i j) (zip_values (entries_of d) vs) ≡ true) ↔ IsEntry d i j
   has_is_place i j =
       let pairs = pairs_of-triplets (entries_of d) vs (length-entries d valid ∙ sym count) in
-      let places = entries_are_places d valid i j in
+      let places = Contains-entries_of d valid i j in
       let names = named i j (zip_values (entries_of d) vs) in (
         λ h. places.0 (subst (λ l. Contains l (i, j)) pairs (names.0 h)),
         λ h. names.1 (subst (λ l. Contains l (i, j)) (sym pairs) (places.1 h)),
       )
 
--- what makes a matrix by rows stand for a plain matrix: the sizes, the places, and the values at
--- their positions
-pub stands : (R : CommRing) {T : Type 0} (f : T → R.Carrier) (z : T) (m : Compressed T)
+-- a compressed matrix by rows that has the shape, the places and the values of a plain matrix
+-- represents it
+pub plain_of_rows-from_places : (R : CommRing) {T : Type 0} (f : T → R.Carrier) (z : T) (m : Compressed T)
     (a : Plain R)
     → IsSound m → IsProper a → m.pattern.major_dim ≡ a.rows → m.pattern.minor_dim ≡ a.cols
-    → ((i j : ℕ) → IsPlace m.pattern i j ↔ (a.has i j ≡ true))
-    → ((i j p : ℕ) → IsPosition m.pattern i j p → f (get_or m.values p z) ≡ a.value i j)
+    → ((i j : ℕ) → IsEntry m.pattern i j ↔ (a.has i j ≡ true))
+    → ((i j p : ℕ) → IsOffset m.pattern i j p → f (get_or m.values p z) ≡ a.value i j)
     → plain_of_rows R f m ≡ a
-stands R {T} f z m a sound proper rows cols places values = same_plain (plain_of_rows R f m) a rows
+plain_of_rows-from_places R {T} f z m a sound proper rows cols places values = same_plain (plain_of_rows R f m) a rows
     cols has_same value_same
   where
     d : Raw
@@ -66,16 +67,16 @@ stands R {T} f z m a sound proper rows cols places values = same_plain (plain_of
     value_same i j = elim (true_or_false (a.has i j)) [
       | inl hit ↦
           let place = (places i j).1 hit in
-          let position : IsPosition m.pattern i j place.at = (place.in_lane, place.index) in
-          value_at_position R f m.pattern sound.valid m.values sound.count z i j place.at position
-          ∙ values i j place.at position
-      | inr miss ↦ unnamed R f i j (zip_values (entries_of m.pattern) m.values)
+          let offset : IsOffset m.pattern i j place.at = (place.in_lane, place.index) in
+          value_at_offset R f m.pattern sound.valid m.values sound.count z i j place.at offset
+          ∙ values i j place.at offset
+      | inr miss ↦ value_at-none R f i j (zip_values (entries_of m.pattern) m.values)
           (has_same i j ∙ miss) ∙ sym (proper i j miss)
     ]
 
 pub proper_rows : (R : CommRing) {T : Type 0} (f : T → R.Carrier) (m : Compressed T)
     → IsProper (plain_of_rows R f m)
-proper_rows R f m i j = unnamed R f i j (zip_values (entries_of m.pattern) m.values)
+proper_rows R f m i j = value_at-none R f i j (zip_values (entries_of m.pattern) m.values)
 
 -- ---- `==` decides whether the plain matrices are the same
 
@@ -102,7 +103,7 @@ module _ (R : CommRing) {T : Type 0} (f : T → R.Carrier) (E : T → T → Bool
     (sm : IsSound m) (sn : IsSound n) where
   equal_from_plain : plain_of_rows R f m ≡ plain_of_rows R f n → compressed_eq E m n ≡ true
   equal_from_plain e =
-      let same : HasSamePlaces m.pattern n.pattern = record {
+      let same : HasSameEntries m.pattern n.pattern = record {
         major_dim = ap (λ a. a.rows) e;
         minor_dim = ap (λ a. a.cols) e;
         places = λ i j.
@@ -111,44 +112,44 @@ module _ (R : CommRing) {T : Type 0} (f : T → R.Carrier) (E : T → T → Bool
             let h = ap (λ a. a.has i j) e in
             (λ x. hn.0 (sym h ∙ hm.1 x), λ x. hm.0 (h ∙ hn.1 x));
       } in
-      let patterns : m.pattern ≡ n.pattern = same_from_places m.pattern n.pattern sm.valid sn.valid
+      let patterns : m.pattern ≡ n.pattern = equal_from_entries m.pattern n.pattern sm.valid sn.valid
       same in
       let long : length m.values ≡ length n.values = sm.count ∙ ap (λ d. length d.indices) patterns
       ∙ sym sn.count in
       and_both (raw_eq m.pattern n.pattern) (pointwise E m.values n.values)
-      ((places_decide m.pattern n.pattern sm.valid sn.valid (raw_eq m.pattern n.pattern) refl).1
+      ((raw_eq-HasSameEntries m.pattern n.pattern sm.valid sn.valid (raw_eq m.pattern n.pattern) refl).1
       same)
       (pointwise_from E z m.values n.values long (λ p lt.
-      let lane = lane_of_position m.pattern sm.valid p (omega (arith, sm.count)) in
+      let lane = lane_of_offset m.pattern sm.valid p (omega (arith, sm.count)) in
       let j = slice_index m.pattern.indices p in
-      let at : IsPosition m.pattern lane.0 j p = (lane.1, refl) in
-      let at' : IsPosition n.pattern lane.0 j p = subst (λ d. IsPosition d lane.0 j p) patterns
+      let at : IsOffset m.pattern lane.0 j p = (lane.1, refl) in
+      let at' : IsOffset n.pattern lane.0 j p = subst (λ d. IsOffset d lane.0 j p) patterns
       at in
       (decides _ _).1
-      (sym (value_at_position R f m.pattern sm.valid m.values sm.count z lane.0 j p at)
-      ∙ ap (λ a. a.value lane.0 j) e ∙ value_at_position R f n.pattern sn.valid n.values sn.count
+      (sym (value_at_offset R f m.pattern sm.valid m.values sm.count z lane.0 j p at)
+      ∙ ap (λ a. a.value lane.0 j) e ∙ value_at_offset R f n.pattern sn.valid n.values sn.count
       z lane.0 j p at')))
 
   plain_from_equal : compressed_eq E m n ≡ true → plain_of_rows R f m ≡ plain_of_rows R f n
   plain_from_equal h =
       let parts = and_parts (raw_eq m.pattern n.pattern) (pointwise E m.values n.values) h in
-      let same = (places_decide m.pattern n.pattern sm.valid sn.valid (raw_eq m.pattern n.pattern)
+      let same = (raw_eq-HasSameEntries m.pattern n.pattern sm.valid sn.valid (raw_eq m.pattern n.pattern)
       refl).0 parts.0 in
-      let patterns : m.pattern ≡ n.pattern = same_from_places m.pattern n.pattern sm.valid sn.valid
+      let patterns : m.pattern ≡ n.pattern = equal_from_entries m.pattern n.pattern sm.valid sn.valid
       same in
-      stands R f z m (plain_of_rows R f n) sm (proper_rows R f n) same.major_dim same.minor_dim
+      plain_of_rows-from_places R f z m (plain_of_rows R f n) sm (proper_rows R f n) same.major_dim same.minor_dim
       (λ i j. let hn = has_is_place R f n.pattern sn.valid n.values sn.count i
       j in (λ x. hn.1 ((same.places i j).0 x), λ x. (same.places i j).1 (hn.0 x)))
       (λ i j p at.
-      let at' : IsPosition n.pattern i j p = subst (λ d. IsPosition d i j p) patterns at in
+      let at' : IsOffset n.pattern i j p = subst (λ d. IsOffset d i j p) patterns at in
       let lt : p < length m.values = omega (
         arith,
         sm.count,
-        position_within m.pattern sm.valid i j
+        offset_within m.pattern sm.valid i j
             p at,
       ) in
       (decides _ _).0 (pointwise_at E z m.values n.values parts.1 p lt)
-      ∙ sym (value_at_position R f n.pattern sn.valid n.values sn.count z i j p at'))
+      ∙ sym (value_at_offset R f n.pattern sn.valid n.values sn.count z i j p at'))
 
   pub equal_decides : (compressed_eq E m n ≡ true) ↔ (plain_of_rows R f m ≡ plain_of_rows R f n)
   equal_decides = (plain_from_equal, equal_from_plain)

@@ -1,4 +1,4 @@
--- A matrix that is built lane after lane, for given places and values.
+-- A compressed matrix that is built lane by lane has the given places and values.
 use Rattle.std.proofs.Common.{◌≡◌, ℕ, ◌+◌, ◌<◌, inl, inr, ◌↔◌, true, List, [], ◌∷◌, ◌++◌, length}
 use Rattle.std.proofs.Common.{get_or, slice_range, Contains, length-append, ap, sym, subst, ◌∙◌}
 use Rattle.std.proofs.Common.{refl, arith}
@@ -11,9 +11,9 @@ use Rattle.sparse_pattern.proofs.BuiltLanes.{IsBuilt, lane_built, all_built}
 use Rattle.sparse_pattern.proofs.PushedLanes.{offset_kept, offset_last}
 use Rattle.sparse_compressed.specs.Compressed.{Compressed, arrays_of, IsSound}
 use Rattle.sparse_compressed.specs.PlainOfLanes.{plain_of_rows}
-use Rattle.sparse_compressed.specs.InnerRows.{lane_value}
+use Rattle.sparse_compressed.specs.InnerLaneValue.{lane_value}
 use Rattle.sparse_compressed.proofs.Arrays.{has_is_place, proper_rows}
-use Rattle.sparse_compressed.proofs.KeptLanes.{between_front, between_end}
+use Rattle.sparse_compressed.proofs.KeptLanes.{slice_range-prefix, between_end}
 use Rattle.sparse_compressed.proofs.LaneValues.{lane_value_is}
 
 module _ (R : CommRing) {T : Type 0} (f : T → R.Carrier) where
@@ -24,7 +24,7 @@ module _ (R : CommRing) {T : Type 0} (f : T → R.Carrier) where
       let e = get_or offsets (i + 1) 0 in
       lane_value R f (slice_range indices s e) (slice_range values s e) j
 
-  -- the first n lanes have the places for which P holds, with the values V
+  -- the first n lanes have the entries at which P holds, with the values V
   pub record IsBuiltMatrix (minor_dim : ℕ) (P : ℕ → ℕ → Type 0) (V : ℕ → ℕ → R.Carrier) (n : ℕ)
       (offsets indices : List ℕ) (values : List T) : Type 0 where
     pub built : IsBuilt minor_dim P n offsets indices
@@ -51,8 +51,8 @@ module _ (R : CommRing) {T : Type 0} (f : T → R.Carrier) where
         rw (
           kept i (omega arith),
           kept (i + 1) (omega arith),
-          between_front indices lane s e v.ordered v.inside,
-          between_front values lane_values s e
+          slice_range-prefix indices lane s e v.ordered v.inside,
+          slice_range-prefix values lane_values s e
               v.ordered (omega (arith, v.inside, was.count)),
         ) (was.values_are i j lt)
 
@@ -74,7 +74,7 @@ module _ (R : CommRing) {T : Type 0} (f : T → R.Carrier) where
         (sym count) ∙ between_end values lane_values in
         rw (start, end, between_end indices lane, values_end) refl
 
-    -- one lane more
+    -- appending a lane
     pub matrix_lane_built : ((j : ℕ) → lane_value R f lane lane_values j ≡ V n j)
         → IsBuiltMatrix m P V (n + 1) longer (indices ++ lane) (values ++ lane_values)
     matrix_lane_built is = record {
@@ -94,7 +94,7 @@ module _ (R : CommRing) {T : Type 0} (f : T → R.Carrier) where
       ];
     }
 
-  -- all lanes are built
+  -- once all lanes are built, the arrays represent the plain matrix a
   module _ (z : T) (a : Plain R) (proper : IsProper a) (P : ℕ → ℕ → Type 0)
       (places : (i j : ℕ) → P i j ↔ (a.has i j ≡ true)) (offsets indices : List ℕ) (values : List T)
       (done : IsBuiltMatrix a.cols P a.value a.rows offsets indices values)

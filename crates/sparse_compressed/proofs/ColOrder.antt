@@ -1,4 +1,4 @@
--- The transposed triplets in lane order are the places of the plain matrix, column after column.
+-- The triplets of a matrix by columns are the places of its plain matrix, column by column.
 use Rattle.std.proofs.Common.{◌≡◌, ℕ, Bool, true, false, List, [], ◌∷◌, ◌++◌, map, ap, sym, ◌∙◌}
 use Rattle.std.proofs.Common.{refl}
 use Rattle.std.specs.Prelude.{if◌then◌else◌}
@@ -11,7 +11,7 @@ use Rattle.sparse_compressed.specs.Compressed.{Compressed, IsSound, lane_triplet
 use Rattle.sparse_compressed.specs.PlainOfLanes.{meant, plain_of_rows, plain_of_cols}
 use Rattle.sparse_compressed.proofs.RowOrder.{row_order-rows}
 
--- the images of lists that are joined end to end
+-- `map` over `flat_map`
 map-flat_map : {X A B : Type 0} (h : A → B) (f : X → List A) (g : X → List B)
     → ((x : X) → map h (f x) ≡ g x) → (xs : List X) → map h (flat_map f xs) ≡ flat_map g xs
 map-flat_map h f g same [] = refl
@@ -29,7 +29,8 @@ module _ (R : CommRing) (a : Plain R) where
   transposed-one i j true = refl
   transposed-one i j false = refl
 
-  -- the places of the transpose by columns are those of the matrix by rows, transposed
+  -- the places of a transpose, column by column, are the transposed places of the matrix, row by
+  -- row
   col_order-transpose : col_order R (plain_transpose R a)
       ≡ map {B = Triplet} transposed (row_order R a)
   col_order-transpose = sym (map-flat_map transposed _ _

@@ -1,48 +1,49 @@
--- The first fault of arrays whose lanes needn't be sorted.
+-- Which fault of arrays whose lanes need not be sorted is the first.
 use Rattle.std.proofs.Common.{◌≡◌, ℕ, ◌+◌, ◌<◌, ◌≤◌, inl, inr, List, length, All, Any, arith}
 use Rattle.sparse_algebra.proofs.Cases.{le_cases}
 use Rattle.sparse_pattern.specs.Raw.{start_of, end_of, lane_of}
 use Rattle.sparse_pattern.specs.FirstFault.{IsBefore}
 use Rattle.sparse_compressed.specs.Compressed.{Compressed}
 use Rattle.sparse_compressed.specs.InnerUnsortedFaults.{IsFirstAt}
-use Rattle.sparse_compressed.specs.UnsortedFaults.{HasFineCounts, UnsortedSpot}
+use Rattle.sparse_compressed.specs.UnsortedFaults.{HasValidCounts, UnsortedRule}
 use Rattle.sparse_compressed.specs.UnsortedFaults.{ValueCount, NoOffsets}
 use Rattle.sparse_compressed.specs.UnsortedFaults.{OffsetCount, FirstLast, LaneFall}
 use Rattle.sparse_compressed.specs.UnsortedFaults.{LaneEnd, LaneBounds}
 use Rattle.sparse_compressed.specs.UnsortedFaults.{LaneRepeat, unsorted_rank}
 use Rattle.sparse_compressed.specs.UnsortedFaults.{HasRepeat, HasUnsortedFault}
-use Rattle.sparse_compressed.specs.UnsortedFaults.{IsFaultless}
+use Rattle.sparse_compressed.specs.UnsortedFaults.{HasNoFault}
 
 -- lane k has no fault
-pub record IsFineLane {T : Type 0} (m : Compressed T) (k : ℕ) : Type 0 where
+pub record HasNoLaneFault {T : Type 0} (m : Compressed T) (k : ℕ) : Type 0 where
   pub ordered : start_of m.pattern k ≤ end_of m.pattern k
   pub inside : end_of m.pattern k ≤ length m.pattern.indices
   pub bounded : All (λ j. j < m.pattern.minor_dim) (lane_of m.pattern k)
   pub distinct : HasRepeat (lane_of m.pattern k) → ⊥
 
--- not both all below and some past the bound
+-- if all are below the bound, none is past it
 not_past : (bound : ℕ) (xs : List ℕ) → All (λ j. j < bound) xs → Any (λ j. bound ≤ j) xs → ⊥
 not_past bound xs below past = omega (arith, below past.0 past.1 past.2, past.3, past.4)
 
 module _ {T : Type 0} (m : Compressed T) where
-  -- no spot has a fault where all lanes are fine
-  pub faultless : HasFineCounts m → ((k : ℕ) → k < m.pattern.major_dim → IsFineLane m k)
-      → IsFaultless m
-  faultless counts lanes ValueCount h = h counts.values
-  faultless counts lanes NoOffsets h = absurd (omega (arith, counts.offsets))
-  faultless counts lanes OffsetCount h = h counts.offsets
-  faultless counts lanes FirstLast h = elim h [ inl x ↦ x counts.first | inr x ↦ x counts.last ]
-  faultless counts lanes (LaneFall k) h = omega (arith, (lanes k h.0).ordered, h.1)
-  faultless counts lanes (LaneEnd k) h = omega (arith, (lanes k h.0).inside, h.1)
-  faultless counts lanes (LaneBounds k) h = not_past _ _ (lanes k h.0).bounded h.1
-  faultless counts lanes (LaneRepeat k) h = (lanes k h.0).distinct h.1
+  -- arrays with valid counts and lanes without a fault have no fault
+  pub no_fault : HasValidCounts m → ((k : ℕ) → k < m.pattern.major_dim → HasNoLaneFault m k)
+      → HasNoFault m
+  no_fault counts lanes ValueCount h = h counts.values
+  no_fault counts lanes NoOffsets h = absurd (omega (arith, counts.offsets))
+  no_fault counts lanes OffsetCount h = h counts.offsets
+  no_fault counts lanes FirstLast h = elim h [ inl x ↦ x counts.first | inr x ↦ x counts.last ]
+  no_fault counts lanes (LaneFall k) h = omega (arith, (lanes k h.0).ordered, h.1)
+  no_fault counts lanes (LaneEnd k) h = omega (arith, (lanes k h.0).inside, h.1)
+  no_fault counts lanes (LaneBounds k) h = not_past _ _ (lanes k h.0).bounded h.1
+  no_fault counts lanes (LaneRepeat k) h = (lanes k h.0).distinct h.1
 
-  module _ (counts : HasFineCounts m) (i : ℕ) (lane : i < m.pattern.major_dim)
-      (fine : (k : ℕ) → k < i → IsFineLane m k) where
-    -- no spot before the n-th of lane i has a fault, where those of that lane before it have none
+  module _ (counts : HasValidCounts m) (i : ℕ) (lane : i < m.pattern.major_dim)
+      (fine : (k : ℕ) → k < i → HasNoLaneFault m k) where
+    -- no fault comes before the n-th kind of fault of lane i, if the lanes before i have no fault
+    -- and lane i has none of the kinds before n
     none_before : (n : ℕ) → n ≤ 3 → (0 < n → start_of m.pattern i ≤ end_of m.pattern i)
         → (1 < n → end_of m.pattern i ≤ length m.pattern.indices)
-        → (2 < n → All (λ j. j < m.pattern.minor_dim) (lane_of m.pattern i)) → (t : UnsortedSpot)
+        → (2 < n → All (λ j. j < m.pattern.minor_dim) (lane_of m.pattern i)) → (t : UnsortedRule)
         → IsBefore (unsorted_rank t) (i + 4, n, 0) → HasUnsortedFault m t → ⊥
     none_before n top ordered inside bounded ValueCount b h = h counts.values
     none_before n top ordered inside bounded NoOffsets b h = absurd (omega (arith, counts.offsets))
@@ -105,7 +106,7 @@ module _ {T : Type 0} (m : Compressed T) where
           (λ _. below);
     }
 
-  -- the faults of the arrays as a whole
+  -- the faults of the counts and of the first and last offset
   pub first_value_count : (length m.values ≡ length m.pattern.indices → ⊥)
       → IsFirstAt m ValueCount
   first_value_count bad = record {
@@ -114,14 +115,14 @@ module _ {T : Type 0} (m : Compressed T) where
         λ s b h. absurd (before_value_count s b);
   }
     where
-      before_value_count : (s : UnsortedSpot) → IsBefore (unsorted_rank s) (0, 0, 0) → ⊥
+      before_value_count : (s : UnsortedRule) → IsBefore (unsorted_rank s) (0, 0, 0) → ⊥
       before_value_count s b = grind arith
 
   pub first_no_offsets : length m.values ≡ length m.pattern.indices → length m.pattern.offsets ≡ 0
       → IsFirstAt m NoOffsets
   first_no_offsets values bad = record { here = bad; none_before = before }
     where
-      before : (s : UnsortedSpot) → IsBefore (unsorted_rank s) (1, 0, 0) → HasUnsortedFault m s → ⊥
+      before : (s : UnsortedRule) → IsBefore (unsorted_rank s) (1, 0, 0) → HasUnsortedFault m s → ⊥
       before ValueCount b h = h values
       before NoOffsets b h = absurd (grind arith)
       before OffsetCount b h = absurd (grind arith)
@@ -136,7 +137,7 @@ module _ {T : Type 0} (m : Compressed T) where
       → IsFirstAt m OffsetCount
   first_offset_count values some bad = record { here = bad; none_before = before }
     where
-      before : (s : UnsortedSpot) → IsBefore (unsorted_rank s) (2, 0, 0) → HasUnsortedFault m s → ⊥
+      before : (s : UnsortedRule) → IsBefore (unsorted_rank s) (2, 0, 0) → HasUnsortedFault m s → ⊥
       before ValueCount b h = h values
       before NoOffsets b h = absurd (omega arith)
       before OffsetCount b h = absurd (grind arith)
@@ -151,7 +152,7 @@ module _ {T : Type 0} (m : Compressed T) where
       → IsFirstAt m FirstLast
   first_first_last values count bad = record { here = bad; none_before = before }
     where
-      before : (s : UnsortedSpot) → IsBefore (unsorted_rank s) (3, 0, 0) → HasUnsortedFault m s → ⊥
+      before : (s : UnsortedRule) → IsBefore (unsorted_rank s) (3, 0, 0) → HasUnsortedFault m s → ⊥
       before ValueCount b h = h values
       before NoOffsets b h = absurd (omega arith)
       before OffsetCount b h = h count

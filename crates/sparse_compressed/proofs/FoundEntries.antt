@@ -1,5 +1,5 @@
--- What a look-up finds, as an entry; and facts beside an assertion, for the walks over calls that
--- lend an entry.
+-- A look-up (`Found`) as an entry; adding a fact to an assertion of the separation logic. For
+-- proofs by hand of functions that return an entry borrowed mutably.
 use mathlib.Core.Path.{◌≡◌, refl}
 use Prim.Native.Nat.{ℕ}
 use seplogic.Ra.Ura.{Ura}
@@ -14,24 +14,24 @@ use Rattle.sparse_compressed.specs.Lanes.{Lane}
 use Rattle.sparse_compressed.specs.Writing.{IsFoundAt, IsEntryMutOf}
 use Rattle.sparse_compressed.specs.Writing.{IsLaneFoundAt, IsLaneEntryMutOf}
 
-pub name_is : {X : Type 0} (r : Found X) → found_name r ≡ entry_name (entry_of_found r)
-name_is (Value r) = refl
-name_is (Nothing OutOfBounds) = refl
-name_is (Nothing NotStored) = refl
+pub entry_name-found : {X : Type 0} (r : Found X) → found_name r ≡ entry_name (entry_of_found r)
+entry_name-found (Value r) = refl
+entry_name-found (Nothing OutOfBounds) = refl
+entry_name-found (Nothing NotStored) = refl
 
-pub entry_is : {X : Type 0} (m : Compressed X) (i j : ℕ) (r : Found X) → IsFoundAt m i j r
+pub IsEntryMutOf-found : {X : Type 0} (m : Compressed X) (i j : ℕ) (r : Found X) → IsFoundAt m i j r
     → IsEntryMutOf m i j (entry_of_found r)
-entry_is m i j (Value r) is = is
-entry_is m i j (Nothing OutOfBounds) is = is
-entry_is m i j (Nothing NotStored) is = is
+IsEntryMutOf-found m i j (Value r) is = is
+IsEntryMutOf-found m i j (Nothing OutOfBounds) is = is
+IsEntryMutOf-found m i j (Nothing NotStored) is = is
 
-pub lane_entry_is : {X : Type 0} (l : Lane X) (j : ℕ) (r : Found X) → IsLaneFoundAt l j r
+pub IsLaneEntryMutOf-found : {X : Type 0} (l : Lane X) (j : ℕ) (r : Found X) → IsLaneFoundAt l j r
     → IsLaneEntryMutOf l j (entry_of_found r)
-lane_entry_is l j (Value r) is = is
-lane_entry_is l j (Nothing OutOfBounds) is = is
-lane_entry_is l j (Nothing NotStored) is = is
+IsLaneEntryMutOf-found l j (Value r) is = is
+IsLaneEntryMutOf-found l j (Nothing OutOfBounds) is = is
+IsLaneEntryMutOf-found l j (Nothing NotStored) is = is
 
--- a fact that holds may stand beside what is there
+-- a fact that holds can be added to an assertion
 pub with_fact : {M : Type 1} (𝓤 : Ura M) (φ : Type 0) (P : SProp 𝓤) → φ
     → ent 𝓤 P (sep 𝓤 P (sep 𝓤 (fact 𝓤 φ) (emp 𝓤)))
 with_fact 𝓤 φ P x = via 𝓤 (sep 𝓤 (emp 𝓤) P) (emp∗ 𝓤 P)

@@ -1,16 +1,16 @@
--- Arrays whose offsets and indices count up and whose values are ones stand for the identity.
+-- Offsets 0, 1, .., n, indices 0, 1, .., n - 1 and values 1 represent the identity.
 use Rattle.std.proofs.Common.{◌≡◌, ℕ, ◌+◌, ◌<◌, ◌↔◌, true, ◌&&◌, List, get_or, ap, sym, ◌∙◌, refl}
 use Rattle.std.proofs.Common.{arith}
 use Rattle.std.specs.Prelude.{nat_eq, nat_lt}
 use Rattle.std.proofs.lemmas.Bool.Decides.{nat_tests}
 use Rattle.sparse_algebra.specs.Algebra.{CommRing}
-use Rattle.sparse_pattern.specs.Raw.{raw_of, IsInLane, IsPlace}
+use Rattle.sparse_pattern.specs.Raw.{raw_of, IsInLane, IsEntry}
 use Rattle.sparse_algebra.specs.Plain.{plain_identity}
 use Rattle.sparse_algebra.proofs.PlainLaws.{proper_identity}
 use Rattle.sparse_compressed.specs.Compressed.{arrays_of, IsSound}
 use Rattle.sparse_compressed.specs.PlainOfLanes.{plain_of_rows}
 use Rattle.sparse_algebra.proofs.SumLemmas.{where_yes}
-use Rattle.sparse_compressed.proofs.Arrays.{stands}
+use Rattle.sparse_compressed.proofs.Arrays.{plain_of_rows-from_places}
 
 on_diagonal : (i j n : ℕ) → ((nat_eq i j && nat_lt i n) ≡ true) ↔ ((i ≡ j) × (i < n))
 on_diagonal i j n = (
@@ -20,9 +20,9 @@ on_diagonal i j n = (
 
 module _ (n : ℕ) (offsets indices : List ℕ) (starts : (k : ℕ) → k < n + 1 → get_or offsets k 0 ≡ k)
     (own : (k : ℕ) → k < n → get_or indices k 0 ≡ k) where
-  -- lane i has the position i alone
-  position_is : (i p : ℕ) → IsInLane (raw_of n n offsets indices) i p → p ≡ i
-  position_is i p h = omega (
+  -- lane i has the one offset i
+  offset_is : (i p : ℕ) → IsInLane (raw_of n n offsets indices) i p → p ≡ i
+  offset_is i p h = omega (
     arith,
     starts i (omega (arith, h.lane)),
     starts (i + 1) (omega (arith, h.lane)),
@@ -39,9 +39,9 @@ module _ (n : ℕ) (offsets indices : List ℕ) (starts : (k : ℕ) → k < n + 
   }
 
   diagonal_places : (i j : ℕ)
-      → IsPlace (raw_of n n offsets indices) i j ↔ ((nat_eq i j && nat_lt i n) ≡ true)
+      → IsEntry (raw_of n n offsets indices) i j ↔ ((nat_eq i j && nat_lt i n) ≡ true)
   diagonal_places i j = (
-    λ h. let same = position_is i h.at h.in_lane in (on_diagonal i j n).1 (
+    λ h. let same = offset_is i h.at h.in_lane in (on_diagonal i j n).1 (
       sym (own i h.in_lane.lane) ∙ ap (λ p. get_or indices p 0) (sym same) ∙ h.index,
       h.in_lane.lane,
     ),
@@ -55,10 +55,10 @@ module _ (n : ℕ) (offsets indices : List ℕ) (starts : (k : ℕ) → k < n + 
       → ((k : ℕ) → k < n → f (get_or values k z) ≡ R.one)
       → plain_of_rows R f (arrays_of n n offsets indices values) ≡ plain_identity R n
   counting_is_identity R f z values sound ones =
-      stands R f z (arrays_of n n offsets indices values) (plain_identity R n) sound
+      plain_of_rows-from_places R f z (arrays_of n n offsets indices values) (plain_identity R n) sound
       (proper_identity R n) refl refl diagonal_places
       (λ i j p at.
-      let same = position_is i p at.0 in
+      let same = offset_is i p at.0 in
       let place = (diagonal_places i j).0 (record { at = p; in_lane = at.0; index = at.1 }) in
       ap (λ q. f (get_or values q z)) same ∙ ones i at.0.lane
       ∙ sym (where_yes R (nat_eq i j && nat_lt i n) R.one place))

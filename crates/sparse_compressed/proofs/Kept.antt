@@ -1,4 +1,4 @@
--- What a test keeps of a list.
+-- The elements of a list that a predicate keeps (`IsKept`).
 use Rattle.std.proofs.Common.{◌≡◌, ℕ, suc, ◌+◌, ◌<◌, Bool, true, false, cond, List, [], ◌∷◌, ◌++◌}
 use Rattle.std.proofs.Common.{length, All, take, map, get_or, refl, ap, sym, subst, ◌∙◌, arith}
 use Rattle.std.proofs.Common.{length-append}
@@ -18,7 +18,7 @@ module _ {X : Type 0} (R : X → Bool → Type 0) where
   cond-append true x ys zs = refl
   cond-append false x ys zs = refl
 
-  -- what is kept of one list and then of another
+  -- the kept elements of an appended list
   pub IsKept-append : (xs us ys vs : List X) → IsKept R xs ys → IsKept R us vs
       → IsKept R (xs ++ us) (ys ++ vs)
   IsKept-append [] us ys vs h k = subst (λ zs. IsKept R us (zs ++ vs)) (sym h) k
@@ -31,12 +31,12 @@ module _ {X : Type 0} (R : X → Bool → Type 0) where
         ∙ cond-append h.0 x h.2 vs,
   )
 
-  -- one more element is kept or left
+  -- one more element is kept or not
   pub IsKept-push : (xs ys : List X) (x : X) (b : Bool) → IsKept R xs ys → R x b
       → IsKept R (xs ++ x ∷ []) (ys ++ cond b (x ∷ []) [])
   IsKept-push xs ys x b h r = IsKept-append xs (x ∷ []) ys _ h (b, r, [], refl, refl)
 
-  -- where each answer is a test's, what is kept is what the test passes
+  -- if the results are those of a test, the kept elements are those of `filter`
   module _ (test : X → Bool) (says : (x : X) (b : Bool) → R x b → b ≡ test x) where
     pub filter_from_kept : (xs ys : List X) → IsKept R xs ys → ys ≡ filter test xs
     filter_from_kept [] ys h = h
@@ -44,7 +44,7 @@ module _ {X : Type 0} (R : X → Bool → Type 0) where
         h.4 ∙ ap (λ zs. cond h.0 (x ∷ zs) zs) (filter_from_kept xs h.2 h.3)
         ∙ ap (λ b. cond b (x ∷ filter test xs) (filter test xs)) (says x h.0 h.1)
 
--- what is kept of the images
+-- the kept elements of a mapped list
 pub IsKept-map : {X Y : Type 0} (R : X → Bool → Type 0) (S : Y → Bool → Type 0) (f : X → Y)
     → ((x : X) (b : Bool) → R x b → S (f x) b) → (xs ys : List X) → IsKept R xs ys
     → IsKept S (map f xs) (map f ys)
@@ -61,7 +61,7 @@ IsKept-map R S f says (x ∷ xs) ys h = (
     chosen true = refl
     chosen false = refl
 
--- what holds of the elements, or of each and each later one, holds of those that are kept
+-- what holds of all elements, or of all pairs of elements in order, holds of the kept ones
 module _ {X : Type 0} (R : X → Bool → Type 0) (P : X → Type 0) where
   pub All-kept : (xs ys : List X) → IsKept R xs ys → All P xs → All P ys
   All-kept [] ys h all = subst (All P) (sym h) all
@@ -85,7 +85,7 @@ module _ {X : Type 0} (R : X → Bool → Type 0) (S : X → X → Type 0) where
       chosen false rest = rest
 
 module _ {T : Type 0} (R : ℕ × T → Bool → Type 0) where
-  -- one more pair is kept, or left
+  -- one more pair is kept or not
   module _ (indices : List ℕ) (values : List T) (k : ℕ) {x : ℕ} {v : T}
       (e : length values ≡ length indices) (lt : k < length indices) (is_x : x ≡ get_or indices k 0)
       (is_v : v ≡ get_or values k v) {xs ys : List ℕ} {vs ws : List T}
@@ -124,7 +124,7 @@ module _ {T : Type 0} (R : ℕ × T → Bool → Type 0) where
           (subst (IsKept R _) (append-nil _) (IsKept-push R _ _ (x, v) false grown.kept answer));
     }
 
--- what a call answers
+-- a result that a call of the predicate returned is one of its answers
 pub answered : {F T : Type 0} (g : Shared F (ℕ × (ℕ × (Bor T × Unit {0}))) Bool) {f : F} {i j : ℕ}
     {y : Bor T} {r b : Bool}
     → g.post f (i, (j, (y, tt))) r → r ≡ b → Answers g f (i, j, y.now) b

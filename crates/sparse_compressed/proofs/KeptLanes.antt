@@ -1,4 +1,4 @@
--- Keeping places lane by lane.
+-- Filtering lane by lane gives sound arrays with the kept triplets.
 use Rattle.std.proofs.Common.{◌≡◌, ℕ, zero, suc, ◌+◌, ◌-◌, ◌<◌, ◌≤◌, inl, inr, Bool, List, [], ◌∷◌}
 use Rattle.std.proofs.Common.{◌++◌, length, take, drop, map, get_or, slice_range, All, refl, ap}
 use Rattle.std.proofs.Common.{sym, subst, ◌∙◌, arith, length-append}
@@ -22,14 +22,14 @@ use Rattle.sparse_compressed.proofs.SortedForm.{in_lane, split_lane}
 use Rattle.sparse_compressed.proofs.LaneValues.{values_of}
 
 module _ {X : Type 0} where
-  -- a part of the prefix
-  pub between_front : (xs ys : List X) (a b : ℕ) → a ≤ b → b ≤ length xs
+  -- a range within a prefix
+  pub slice_range-prefix : (xs ys : List X) (a b : ℕ) → a ≤ b → b ≤ length xs
       → slice_range (xs ++ ys) a b ≡ slice_range xs a b
-  between_front xs ys a b le within =
+  slice_range-prefix xs ys a b le within =
       ap (take (b - a)) (drop-append-le a xs ys (omega arith))
       ∙ take-append-le (b - a) (drop a xs) ys (omega (arith, length-drop a xs))
 
-  -- the part that was appended
+  -- the range that was appended
   pub between_end : (xs ys : List X) → slice_range (xs ++ ys) (length xs) (length xs + length ys)
       ≡ ys
   between_end xs ys =
@@ -62,9 +62,9 @@ module _ {T : Type 0} (R : ℕ × ℕ × T → Bool → Type 0) (m : Compressed 
           kept = rw (
             earlier k (omega arith),
             earlier (k + 1) (omega arith),
-            between_front indices more (get_or offsets k 0) (get_or offsets (k + 1) 0) l.ordered
+            slice_range-prefix indices more (get_or offsets k 0) (get_or offsets (k + 1) 0) l.ordered
                 l.inside,
-            between_front values more_values (get_or offsets k 0)
+            slice_range-prefix values more_values (get_or offsets k 0)
                 (get_or offsets (k + 1) 0) l.ordered (omega (arith, l.inside, h.value_count)),
           ) l.kept;
         }
@@ -106,7 +106,7 @@ module _ {T : Type 0} (R : ℕ × ℕ × T → Bool → Type 0) (m : Compressed 
       ];
     }
 
-  -- no lane is traversed
+  -- before the first lane
   pub none_kept : AreKeptLanes R m (0 ∷ []) [] [] 0
   none_kept = record {
     offset_count = refl;
@@ -116,7 +116,7 @@ module _ {T : Type 0} (R : ℕ × ℕ × T → Bool → Type 0) (m : Compressed 
     lanes = λ k lt. absurd (omega arith);
   }
 
-  -- one more lane is traversed
+  -- after one more lane
   pub kept_step : {offsets indices indices' : List ℕ} {values values' : List T} {i e : ℕ}
       {js : List ℕ} {us : List T}
       → AreKeptLanes R m offsets indices values i → js ≡ lane_of m.pattern i → us ≡ values_of m i
@@ -129,13 +129,13 @@ module _ {T : Type 0} (R : ℕ × ℕ × T → Bool → Type 0) (m : Compressed 
       rw (grown.index_end, grown.value_end, long)
       (one_more offsets indices grown.indices values grown.values i h grown.count kept)
 
-  -- all lanes are traversed
+  -- after all lanes
   module _ (sound : IsSound m) (offsets indices : List ℕ) (values : List T)
       (done : AreKeptLanes R m offsets indices values m.pattern.major_dim) where
     abbrev now : Compressed T
     now = arrays_of m.pattern.major_dim m.pattern.minor_dim offsets indices values
 
-    -- the indices of a lane are some of those that it had
+    -- the indices of a lane are some of its indices before the filter, in order
     indices_kept : (i : ℕ) → i < m.pattern.major_dim
         → IsKept (λ _ _. ⊤) (lane_of m.pattern i) (lane_of now.pattern i)
     indices_kept i lt =

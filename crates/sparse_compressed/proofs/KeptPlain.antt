@@ -1,4 +1,4 @@
--- Keeping triplets by a test of their pair, in plain matrices.
+-- Filtering triplets by a test of row and column filters the plain matrix.
 use Rattle.std.proofs.Common.{◌≡◌, ℕ, inl, inr, Bool, true, false, ◌&&◌, cond, List, [], ◌∷◌, map}
 use Rattle.std.proofs.Common.{ap, sym, ◌∙◌, refl}
 use Rattle.std.specs.List.{filter, list_any}
@@ -12,11 +12,11 @@ use Rattle.sparse_algebra.proofs.RingLemmas.{zero_add}
 use Rattle.sparse_algebra.proofs.SumLemmas.{where_no, where_yes}
 use Rattle.sparse_algebra.proofs.PlainLemmas.{same_plain, and_comm}
 use Rattle.sparse_compressed.specs.Compressed.{Compressed, lane_triplets, transposed}
-use Rattle.sparse_compressed.specs.Filter.{HasSizesOf}
+use Rattle.sparse_compressed.specs.Filter.{HasShapeOf}
 use Rattle.sparse_compressed.specs.PlainOfLanes.{plain_of_rows, plain_of_cols}
-use Rattle.sparse_compressed.proofs.Arrays.{pair_is, value_at, unnamed}
+use Rattle.sparse_compressed.proofs.Arrays.{pair_is, value_at, value_at-none}
 
--- a filter of triplets whose first two parts have changed places
+-- filtering transposed triplets
 filter-transposed : {T : Type 0} (test : ℕ × ℕ × T → Bool) (ts : List (ℕ × ℕ × T))
     → map transposed (filter test (map transposed ts)) ≡ filter (λ t. test (transposed t)) ts
 filter-transposed test [] = refl
@@ -48,7 +48,7 @@ module _ (R : CommRing) {T : Type 0} (f : T → R.Carrier) (test : ℕ → ℕ �
   has_kept i j ts = any-filter_same (is_at i j) passes (test i j) (passes_at i j) ts
       ∙ and_comm (test i j) (list_any (is_at i j) ts)
 
-  -- at a pair that passes, nothing that is added is dropped
+  -- the sum at a pair that passes the test is unchanged
   sum_kept : (i j : ℕ) (ts : List (ℕ × ℕ × T)) → test i j ≡ true
       → value_at R f (filter passes ts) i j ≡ value_at R f ts i j
   sum_kept i j [] pass = refl
@@ -73,33 +73,33 @@ module _ (R : CommRing) {T : Type 0} (f : T → R.Carrier) (test : ℕ → ℕ �
     | inl pass ↦ elim (true_or_false (list_any (is_at i j) ts)) [
       | inl some ↦ sum_kept i j ts pass
           ∙ sym (where_yes R _ _ (and_both (list_any (is_at i j) ts) (test i j) some pass))
-      | inr none ↦ sum_kept i j ts pass ∙ unnamed R f i j ts none
+      | inr none ↦ sum_kept i j ts pass ∙ value_at-none R f i j ts none
           ∙ sym (where_no R _ _ (and_left (list_any (is_at i j) ts) (test i j) none))
     ]
     | inr fails ↦
         let outside = and_right (list_any (is_at i j) ts) (test i j) fails in
-        unnamed R f i j (filter passes ts) (has_kept i j ts ∙ outside)
+        value_at-none R f i j (filter passes ts) (has_kept i j ts ∙ outside)
         ∙ sym (where_no R _ _ outside)
   ]
 
-  -- the rows that are kept
-  pub kept_rows : (m n : Compressed T) → HasSizesOf m n
+  -- by rows
+  pub kept_rows : (m n : Compressed T) → HasShapeOf m n
       → lane_triplets n ≡ filter passes (lane_triplets m)
       → plain_of_rows R f n ≡ plain_kept R test (plain_of_rows R f m)
-  kept_rows m n sizes kept = same_plain (plain_of_rows R f n)
-      (plain_kept R test (plain_of_rows R f m)) sizes.major_dim sizes.minor_dim
+  kept_rows m n same_shape kept = same_plain (plain_of_rows R f n)
+      (plain_kept R test (plain_of_rows R f m)) same_shape.major_dim same_shape.minor_dim
       (λ i j. ap (λ ts. list_any (is_at i j) ts) kept ∙ has_kept i j (lane_triplets m))
       (λ i j. ap (λ ts. value_at R f ts i j) kept ∙ value_kept i j (lane_triplets m))
 
--- the columns that are kept
+-- by columns
 pub kept_cols : (R : CommRing) {T : Type 0} (f : T → R.Carrier) (test : ℕ → ℕ → Bool)
     (m n : Compressed T)
-    → HasSizesOf m n
+    → HasShapeOf m n
     → map transposed (lane_triplets n) ≡ filter (λ t. test t.0 t.1)
     (map transposed (lane_triplets m))
     → plain_of_cols R f n ≡ plain_kept R test (plain_of_cols R f m)
-kept_cols R f test m n sizes kept =
+kept_cols R f test m n same_shape kept =
     let lanes : lane_triplets n ≡ filter (λ t. test t.1 t.0) (lane_triplets m) =
     sym (transposed_twice (lane_triplets n)) ∙ ap (map transposed) kept
     ∙ filter-transposed (λ t. test t.0 t.1) (lane_triplets m) in
-    ap (plain_transpose R) (kept_rows R f (λ i j. test j i) m n sizes lanes)
+    ap (plain_transpose R) (kept_rows R f (λ i j. test j i) m n same_shape lanes)

@@ -1,4 +1,4 @@
--- The values of a lane, and sums over a lane.
+-- The value of a lane at an index, and sums over a lane.
 use Rattle.std.proofs.Common.{◌≡◌, ◌≢◌, ℕ, zero, suc, ◌+◌, ◌-◌, ◌<◌, inl, inr, Bool, true, false}
 use Rattle.std.proofs.Common.{List, [], ◌∷◌, length, get_or, slice_range, All, Contains, ap}
 use Rattle.std.proofs.Common.{sym, subst, ◌∙◌, refl, arith}
@@ -19,10 +19,10 @@ use Rattle.sparse_algebra.proofs.SumLemmas.{where_yes, where_no}
 use Rattle.sparse_pattern.proofs.PatternLanes.{length-lane, get_or-lane, lane_rises}
 use Rattle.sparse_compressed.specs.Compressed.{Compressed, IsSound, zip_values}
 use Rattle.sparse_compressed.specs.PlainOfLanes.{plain_of_rows}
-use Rattle.sparse_compressed.proofs.Arrays.{unnamed, value_at_position, has_is_place}
-use Rattle.sparse_compressed.specs.InnerRows.{lane_value}
+use Rattle.sparse_compressed.proofs.Arrays.{value_at-none, value_at_offset, has_is_place}
+use Rattle.sparse_compressed.specs.InnerLaneValue.{lane_value}
 use Rattle.sparse_pattern.proofs.LaneLists.{lane_has}
-use Rattle.sparse_compressed.proofs.RowSums.{eq_refl}
+use Rattle.sparse_compressed.proofs.AddedLanes.{eq_refl}
 
 module _ (R : CommRing) {T : Type 0} (f : T → R.Carrier) where
   yes : (k j : ℕ) (c : R.Carrier) → k ≡ j → where_true R (nat_eq k j) c ≡ c
@@ -31,7 +31,7 @@ module _ (R : CommRing) {T : Type 0} (f : T → R.Carrier) where
   no : (k j : ℕ) (c : R.Carrier) → k ≢ j → where_true R (nat_eq k j) c ≡ R.zero
   no k j c ne = where_no R (nat_eq k j) c (nat_eq_no k j ne)
 
-  -- where the index is not in the lane
+  -- the value at an index that the lane does not have is zero
   pub lane_value_none : (j : ℕ) (ks : List ℕ) (vs : List T)
       → ((q : ℕ) → q < length ks → get_or ks q 0 ≢ j) → lane_value R f ks vs j ≡ R.zero
   lane_value_none j [] vs none = refl
@@ -40,7 +40,7 @@ module _ (R : CommRing) {T : Type 0} (f : T → R.Carrier) where
       ap (λ c. R.add c (lane_value R f ks vs j)) (no k j (f v) (none 0 (omega arith)))
       ∙ zero_add R _ ∙ lane_value_none j ks vs (λ q lt. none (suc q) (omega arith))
 
-  -- at the index of a position of a rising lane
+  -- the value at an index of a strictly increasing lane is the value stored there
   pub lane_value_at : (z : T) (j q : ℕ) (ks : List ℕ) (vs : List T) → length vs ≡ length ks
       → ((r s : ℕ) → r < s → s < length ks → get_or ks r 0 < get_or ks s 0) → q < length ks
       → get_or ks q 0 ≡ j → lane_value R f ks vs j ≡ f (get_or vs q z)
@@ -71,7 +71,7 @@ module _ (R : CommRing) {T : Type 0} (f : T → R.Carrier) (z : T) (m : Compress
       length-between _ _ _ (omega (arith, (sound.valid.lanes i lane).inside, sound.count))
       ∙ sym (length-lane m.pattern i (sound.valid.lanes i lane))
 
-  -- the value of a lane given as lists is the matrix's
+  -- the value of lane i at the index j is the value of the plain matrix at (i, j)
   pub lane_value_is : (j : ℕ)
       → lane_value R f (lane_of m.pattern i) (values_of m i) j ≡ (plain_of_rows R f m).value i j
   lane_value_is j =
@@ -91,7 +91,7 @@ module _ (R : CommRing) {T : Type 0} (f : T → R.Carrier) (z : T) (m : Compress
             (omega (arith, place.in_lane.to)) ∙ ap (λ p. get_or m.values p z) back in
             lane_value_at R f z j q (lane_of m.pattern i) (values_of m i) length-values
             (lane_rises m.pattern i valid) within there ∙ ap f value
-            ∙ sym (value_at_position R f m.pattern sound.valid m.values sound.count z i j place.at
+            ∙ sym (value_at_offset R f m.pattern sound.valid m.values sound.count z i j place.at
             (place.in_lane, place.index))
         | inr miss ↦
             let none : (q : ℕ) → q < length (lane_of m.pattern i)
@@ -102,7 +102,7 @@ module _ (R : CommRing) {T : Type 0} (f : T → R.Carrier) (z : T) (m : Compress
             let hit = (has_is_place R f m.pattern sound.valid m.values sound.count i j).1 place in
             cc in
             lane_value_none R f j (lane_of m.pattern i) (values_of m i) none
-            ∙ sym (unnamed R f i j (zip_values (entries_of m.pattern) m.values) miss)
+            ∙ sym (value_at-none R f i j (zip_values (entries_of m.pattern) m.values) miss)
       ]
 
 module _ (R : CommRing) {T : Type 0} (f : T → R.Carrier) where
@@ -122,7 +122,7 @@ module _ (R : CommRing) {T : Type 0} (f : T → R.Carrier) where
   scaled true c x = refl
   scaled false c x = zero_mul R x
 
-  -- the sum over all k below n is the sum over the lane
+  -- a dot product over all k < n is the sum over the entries of the lane
   pub product_by_lane : (n : ℕ) (g : ℕ → R.Carrier) (ks : List ℕ) (vs : List T)
       → All (λ k. k < n) ks
       → sum_below R n (λ k. R.mul (lane_value R f ks vs k) (g k)) ≡ sum_by R
@@ -143,7 +143,7 @@ module _ (R : CommRing) {T : Type 0} (f : T → R.Carrier) where
       (λ q d lt. within (suc q) d (omega arith)))
 
 module _ (R : CommRing) {T : Type 0} (f : T → R.Carrier) (z : T) where
-  -- the sum over row i of a matrix is the sum over all k below its width
+  -- the sum over the entries of row i is the dot product over all columns
   pub row_sum : (a : Compressed T) → IsSound a → (i : ℕ) → i < a.pattern.major_dim
       → (b : ℕ → R.Carrier)
       → sum_by R (λ t. R.mul (f t.1) (b t.0)) (zip (lane_of a.pattern i) (values_of a i))

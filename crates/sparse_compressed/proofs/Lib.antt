@@ -1,10 +1,10 @@
-mod EntryPositions
+mod EntryOffsets
 mod TripletSums
 pub mod Arrays
-pub mod Inside
-pub mod Standing
+pub mod TripletBounds
+pub mod ArraysDeterminePlain
 pub mod ChangedPlain
-pub mod RowSums
+pub mod AddedLanes
 pub mod LaneValues
 pub mod BuiltMatrices
 pub mod Updates
@@ -14,7 +14,7 @@ pub mod FoundEntries
 mod IdentityArrays
 mod Repeats
 pub mod LaneSearch
-mod LanesLeft
+mod MutIteratorLanes
 mod NextLane
 mod LaneSortingLemmas
 mod UnsortedLanes

@@ -1,4 +1,4 @@
--- What is left of the lanes when one is taken.
+-- The lanes that an iterator has not yielded: the next one and the others.
 use Rattle.std.proofs.Common.{◌≡◌, ℕ, suc, ◌+◌, ◌-◌, ◌<◌, ◌≤◌, [], ◌∷◌, ap, arith}
 use Rattle.sparse_compressed.specs.Compressed.{Compressed}
 use Rattle.sparse_compressed.specs.Lanes.{lane_at, lanes_from}
@@ -11,7 +11,7 @@ next_lane m i inside =
     let e : m.pattern.major_dim - i ≡ suc (m.pattern.major_dim - (i + 1)) = omega arith in
     ap (lanes_from m i) e
 
--- none are left past the last
+-- past the last lane none is left
 pub no_lane : {T : Type 0} (m : Compressed T) (i : ℕ) → m.pattern.major_dim ≤ i
     → lanes_from m i (m.pattern.major_dim - i) ≡ []
 no_lane m i past =

@@ -1,4 +1,4 @@
--- The triplets in lane order are the places of the plain matrix, row after row.
+-- The triplets of a matrix by rows are the places of its plain matrix, row by row.
 use Rattle.std.proofs.Common.{◌≡◌, ℕ, zero, suc, ◌+◌, ◌<◌, ◌⊎◌, inl, inr, ◌↔◌, Bool, true, false}
 use Rattle.std.proofs.Common.{List, [], ◌∷◌, ◌++◌, length, get_or, map, slice_index, slice_range}
 use Rattle.std.proofs.Common.{ap, sym, subst, ◌∙◌, refl, arith, length-append}
@@ -10,16 +10,16 @@ use Rattle.std.proofs.lemmas.Grind.{common_steps}
 use Rattle.sparse_algebra.proofs.Cases.{lt_add_one_cases}
 use Rattle.sparse_algebra.specs.Algebra.{CommRing}
 use Rattle.sparse_algebra.specs.Plain.{below, row_order}
-use Rattle.sparse_pattern.specs.Raw.{Raw, lane_of, IsValid, IsPlace, entries_from, entries_of}
+use Rattle.sparse_pattern.specs.Raw.{Raw, lane_of, IsValid, IsEntry, entries_from, entries_of}
 use Rattle.sparse_pattern.specs.Raw.{paired}
-use Rattle.sparse_pattern.proofs.SamePlaces.{Has, Rises, rising_same, has_from_place}
-use Rattle.sparse_pattern.proofs.SamePlaces.{place_from_has}
+use Rattle.sparse_pattern.proofs.SameEntries.{Has, Rises, rising_same, has_from_entry}
+use Rattle.sparse_pattern.proofs.SameEntries.{entry_from_has}
 use Rattle.sparse_pattern.proofs.PatternLanes.{lane_rises}
 use Rattle.sparse_pattern.proofs.LaneOrder.{length-entries}
 use Rattle.sparse_compressed.specs.Compressed.{Compressed, IsSound, zip_values, lane_triplets}
 use Rattle.sparse_compressed.specs.PlainOfLanes.{meant, plain_of_rows}
-use Rattle.sparse_pattern.proofs.Positions.{lane_of_position}
-use Rattle.sparse_compressed.proofs.Arrays.{has_is_place, value_at_position, entry_at}
+use Rattle.sparse_pattern.proofs.OffsetsInLanes.{lane_of_offset}
+use Rattle.sparse_compressed.proofs.Arrays.{has_is_place, value_at_offset, entry_at}
 
 -- ---- the numbers below n that pass a test
 
@@ -27,7 +27,7 @@ abbrev passing : ℕ → (ℕ → Bool) → List ℕ
 passing zero test = []
 passing (suc n) test = passing n test ++ (if test n then n ∷ [] else [])
 
--- a list of a place or none, for each number below n
+-- joining a list of one or no element for each number below n
 passing_is : {X : Type 0} (n : ℕ) (test : ℕ → Bool) (f : ℕ → X)
     → flat_map (λ j. if test j then f j ∷ [] else []) (below n) ≡ map f (passing n test)
 passing_is zero test f = refl
@@ -115,18 +115,18 @@ module _ (test : ℕ → Bool) where
 -- ---- lanes
 
 module _ (d : Raw) (valid : IsValid d) (test : ℕ → ℕ → Bool)
-    (places : (i j : ℕ) → (test i j ≡ true) ↔ IsPlace d i j) where
+    (places : (i j : ℕ) → (test i j ≡ true) ↔ IsEntry d i j) where
   lane_is_passing : (i : ℕ) → i < d.major_dim → passing d.minor_dim (test i) ≡ lane_of d i
   lane_is_passing i lane =
       let v = valid.lanes i lane in
       rising_same _ _ (rises-passing (test i) d.minor_dim) (lane_rises d i v)
-      (λ j h. has_from_place d i j v ((places i j).0 (has_passing (test i) d.minor_dim j h).1))
+      (λ j h. has_from_entry d i j v ((places i j).0 (has_passing (test i) d.minor_dim j h).1))
       (λ j h.
-      let place = place_from_has d i j lane v h in
+      let place = entry_from_has d i j lane v h in
       passing_has (test i) d.minor_dim j (subst (λ k. k < d.minor_dim) place.index
       (v.bounded place.at place.in_lane.from place.in_lane.to)) ((places i j).1 place))
 
--- the pairs of n lanes, with the last lane at the end
+-- the entries of n + 1 lanes are those of n lanes and then those of the last
 entries_from-suc : (offsets indices : List ℕ) (i n : ℕ)
     → entries_from offsets indices i (suc n) ≡ entries_from offsets indices i n ++ paired (i + n)
     (slice_range indices (slice_index offsets (i + n)) (slice_index offsets (i + n + 1)))
@@ -134,13 +134,13 @@ entries_from-suc offsets indices i zero = append-nil _
     ∙ ap (λ k. paired k (slice_range indices (slice_index offsets k) (slice_index offsets (k + 1))))
     (omega arith)
 entries_from-suc offsets indices i (suc n) =
-    let front = paired i (slice_range indices (slice_index offsets i)
+    let prefix = paired i (slice_range indices (slice_index offsets i)
     (slice_index offsets (i + 1))) in
     let at : i + 1 + n ≡ i + suc n = omega arith in
-    ap (λ l. front ++ l) (entries_from-suc offsets indices (i + 1) n
+    ap (λ l. prefix ++ l) (entries_from-suc offsets indices (i + 1) n
     ∙ ap (λ k. entries_from offsets indices (i + 1) n ++ paired k
     (slice_range indices (slice_index offsets k) (slice_index offsets (k + 1)))) at)
-    ∙ sym (append_assoc front (entries_from offsets indices (i + 1) n) _)
+    ∙ sym (append_assoc prefix (entries_from offsets indices (i + 1) n) _)
 
 entries_from_below : (d : Raw) (n : ℕ)
     → entries_from d.offsets d.indices 0 n ≡ flat_map (λ i. paired i (lane_of d i)) (below n)
@@ -177,7 +177,7 @@ map-paired h i [] = refl
 map-paired h i (j ∷ js) = ap (λ l. h (i, j) ∷ l) (map-paired h i js)
 
 module _ {T C : Type 0} (f : T → C) (value : ℕ → ℕ → C) where
-  -- a value at each pair, which is the one that stands beside it
+  -- if each value represents the value of its pair, the triplets are the pairs with those values
   map-zip_values : (ps : List (ℕ × ℕ)) (vs : List T) → length ps ≡ length vs
       → ((z : T) (k : ℕ) → k < length ps → f (get_or vs k z) ≡ value (get_or ps k (0, 0)).0
       (get_or ps k (0, 0)).1)
@@ -203,9 +203,9 @@ module _ (R : CommRing) {T : Type 0} (f : T → R.Carrier) (m : Compressed T)
       m.values long (λ z k lt.
       let within : k < length m.pattern.indices =
       omega (arith, length-entries m.pattern sound.valid) in
-      let lane = lane_of_position m.pattern sound.valid k within in
+      let lane = lane_of_offset m.pattern sound.valid k within in
       let at = entry_at m.pattern sound.valid lane.0 k lane.1 in
-      sym (value_at_position R f m.pattern sound.valid m.values sound.count z lane.0
+      sym (value_at_offset R f m.pattern sound.valid m.values sound.count z lane.0
       (slice_index m.pattern.indices k) k (lane.1, refl))
       ∙ ap (λ p. (plain_of_rows R f m).value p.0 p.1) (sym at))
 

@@ -1,4 +1,4 @@
--- Sums over the triplets that name a pair: none gives zero, and one alone its value.
+-- The sum of the triplets at a pair: zero if there is none, and the value if there is one.
 use Rattle.std.proofs.Common.{◌≡◌, ℕ, zero, suc, ◌<◌, inl, inr, ◌↔◌, true, false, ◌&&◌, List}
 use Rattle.std.proofs.Common.{[], ◌∷◌, length, get_or, map, Contains, ap, subst, ◌∙◌, refl}
 use Rattle.std.proofs.Common.{arith}
@@ -27,7 +27,7 @@ pair_is (a, b) i j h =
 pub test_yes : (i j : ℕ) → (nat_eq i i && nat_eq j j) ≡ true
 test_yes i j = grind (arith, nat_tests)
 
--- the pairs of triplets
+-- the pairs (row, column) of triplets
 abbrev pub pairs_of : {T : Type 0} → List (ℕ × ℕ × T) → List (ℕ × ℕ)
 pairs_of ts = map (λ t. (t.0, t.1)) ts
 
@@ -65,19 +65,19 @@ module _ (R : CommRing) {T : Type 0} (f : T → R.Carrier) where
   abbrev pub value_at : List (ℕ × ℕ × T) → ℕ → ℕ → R.Carrier
   value_at ts i j = sum_by R (λ t. where_true R (is_at i j t) (f t.2)) ts
 
-  -- nothing is added where no triplet names the pair
-  pub unnamed : (i j : ℕ) (ts : List (ℕ × ℕ × T)) → list_any (is_at i j) ts ≡ false
+  -- the sum is zero if no triplet is at the pair
+  pub value_at-none : (i j : ℕ) (ts : List (ℕ × ℕ × T)) → list_any (is_at i j) ts ≡ false
       → value_at ts i j ≡ R.zero
-  unnamed i j ts = proper_plain_of_triplets R f 0 0 ts i j
+  value_at-none i j ts = proper_plain_of_triplets R f 0 0 ts i j
 
-  -- one triplet alone names the pair
-  pub one_named : (i j p : ℕ) (z : T) (ps : List (ℕ × ℕ)) (vs : List T) → length ps ≡ length vs
+  -- the sum is the value of the triplet if only one is at the pair
+  pub value_at-one : (i j p : ℕ) (z : T) (ps : List (ℕ × ℕ)) (vs : List T) → length ps ≡ length vs
       → p < length ps → get_or ps p (0, 0) ≡ (i, j)
       → ((q : ℕ) → q < length ps → get_or ps q (0, 0) ≡ (i, j) → q ≡ p)
       → value_at (zip_values ps vs) i j ≡ f (get_or vs p z)
-  one_named i j p z [] vs e lt is only = absurd (omega arith)
-  one_named i j p z (x ∷ ps) [] e lt is only = absurd (omega arith)
-  one_named i j zero z (x ∷ ps) (v ∷ vs) e lt is only =
+  value_at-one i j p z [] vs e lt is only = absurd (omega arith)
+  value_at-one i j p z (x ∷ ps) [] e lt is only = absurd (omega arith)
+  value_at-one i j zero z (x ∷ ps) (v ∷ vs) e lt is only =
       let e' : length ps ≡ length vs = omega arith in
       let hit : is_at i j (x.0, x.1, v) ≡ true = rw (ap (λ y. y.0) is, ap (λ y. y.1) is)
       (test_yes i j) in
@@ -92,13 +92,13 @@ module _ (R : CommRing) {T : Type 0} (f : T → R.Carrier) where
       ] in
       ap (λ c. R.add c (value_at (zip_values ps vs) i j))
       (where_yes R (is_at i j (x.0, x.1, v)) (f v) hit)
-      ∙ ap (R.add (f v)) (unnamed i j (zip_values ps vs) none) ∙ R.laws.add_zero (f v)
-  one_named i j (suc p) z (x ∷ ps) (v ∷ vs) e lt is only =
+      ∙ ap (R.add (f v)) (value_at-none i j (zip_values ps vs) none) ∙ R.laws.add_zero (f v)
+  value_at-one i j (suc p) z (x ∷ ps) (v ∷ vs) e lt is only =
       let miss : is_at i j (x.0, x.1, v) ≡ false = elim (true_or_false (is_at i j (x.0, x.1, v))) [
         | inl hit ↦ absurd (omega (arith, only 0 (omega arith) (pair_is x i j hit)))
         | inr miss ↦ miss
       ] in
       ap (λ c. R.add c (value_at (zip_values ps vs) i j))
       (where_no R (is_at i j (x.0, x.1, v)) (f v) miss) ∙ zero_add R _
-      ∙ one_named i j p z ps vs (omega arith) (omega arith) is
+      ∙ value_at-one i j p z ps vs (omega arith) (omega arith) is
       (λ q l h. omega (arith, only (suc q) (omega arith) h))

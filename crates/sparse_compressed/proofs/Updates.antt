@@ -1,18 +1,19 @@
--- A matrix whose values are replaced, position by position.
+-- The plain matrix of a compressed matrix whose values are replaced.
 use Rattle.std.proofs.Common.{◌≡◌, ℕ, false, List, length, get_or, ap, ◌∙◌, refl, arith}
 use Rattle.std.proofs.lemmas.List.{get_or_default}
 use Rattle.sparse_algebra.specs.Algebra.{CommRing}
-use Rattle.sparse_compressed.specs.Compressed.{Compressed, compressed_of, IsPosition, IsSound}
+use Rattle.sparse_compressed.specs.Compressed.{Compressed, compressed_of, IsOffset, IsSound}
 use Rattle.sparse_compressed.specs.PlainOfLanes.{plain_of_rows}
-use Rattle.sparse_compressed.proofs.Arrays.{position_within}
-use Rattle.sparse_compressed.proofs.Standing.{rows_have, rows_are}
+use Rattle.sparse_compressed.proofs.Arrays.{offset_within}
+use Rattle.sparse_compressed.proofs.ArraysDeterminePlain.{plain_of_rows-has_lanes, plain_of_rows-unique}
 
--- what the matrix stands for where its positions have the values of `value`
+-- if each new value represents `value i j` at its entry (i, j), the plain matrix has the values
+-- `value`
 pub updated : (R : CommRing) {T : Type 0} (f : T → R.Carrier) (z : T) (m : Compressed T)
     (ws : List T) (value : ℕ → ℕ → R.Carrier)
     → IsSound m → length ws ≡ length m.values
     → ((i j : ℕ) → (plain_of_rows R f m).has i j ≡ false → value i j ≡ R.zero)
-    → ((i j p : ℕ) → IsPosition m.pattern i j p → f (get_or ws p z) ≡ value i j)
+    → ((i j p : ℕ) → IsOffset m.pattern i j p → f (get_or ws p z) ≡ value i j)
     → plain_of_rows R f (compressed_of m.pattern ws) ≡ record {
       rows = m.pattern.major_dim;
       cols = m.pattern.minor_dim;
@@ -20,8 +21,8 @@ pub updated : (R : CommRing) {T : Type 0} (f : T → R.Carrier) (z : T) (m : Com
       value = value;
     }
 updated R f z m ws value sound long proper values =
-    let was = rows_have R f m sound in
-    rows_are R f (compressed_of m.pattern ws)
+    let was = plain_of_rows-has_lanes R f m sound in
+    plain_of_rows-unique R f (compressed_of m.pattern ws)
     (record { valid = sound.valid; count = long ∙ sound.count }) z
     (record {
       rows = m.pattern.major_dim;
@@ -34,7 +35,7 @@ updated R f z m ws value sound long proper values =
       cols = refl;
       places = was.places;
       values = λ i j p y at. ap f (get_or_default ws p y z
-          (omega (arith, long, position_within m.pattern sound.valid i j p at, sound.count)))
+          (omega (arith, long, offset_within m.pattern sound.valid i j p at, sound.count)))
           ∙ values i j p at;
       within = was.within;
       proper = proper;

@@ -1,4 +1,4 @@
--- Values changed in place.
+-- Values changed in place, one by one.
 use Rattle.std.specs.Prelude.{◌≡◌, ℕ, ◌<◌, List, length, slice_index_or}
 
 -- each new value represents `change` of what the old one represented

@@ -6,7 +6,7 @@ use Rattle.std.specs.Ordering.{on, eq_of_both}
 use Rattle.std.specs.Coded.{Coded, code_by, coded×, coded_ℕ, coded_list}
 use Rattle.sparse_pattern.specs.Raw.{Raw, raw_of, IsInLane, IsValid, entries_of, raw_eq}
 
--- a pattern, and the value at each of its positions
+-- shape, offsets, indices and values; nothing is required of them
 pub record Compressed (T : Type 0) : Type 0 where
   pub pattern : Raw
   pub values : List T
@@ -31,18 +31,18 @@ module _ {T : Type 0} where
   arrays_of major_dim minor_dim offsets indices values =
       compressed_of (raw_of major_dim minor_dim offsets indices) values
 
-  -- a valid pattern with one value for each place
+  -- a valid pattern, and one value for each of its entries
   pub record IsSound (m : Compressed T) : Type 0 where
     pub valid : IsValid m.pattern
     pub count : length m.values ≡ length m.pattern.indices
 
-  -- pairs with values, in order
+  -- pairs and values as triplets, up to the end of the shorter list
   abbrev pub zip_values : List (ℕ × ℕ) → List T → List (ℕ × ℕ × T)
   zip_values [] vs = []
   zip_values (p ∷ ps) [] = []
   zip_values (p ∷ ps) (v ∷ vs) = (p.0, p.1, v) ∷ zip_values ps vs
 
-  -- (lane, index, value) of each place, lane by lane
+  -- the triplets (lane, index, value), lane by lane
   abbrev pub lane_triplets : Compressed T → List (ℕ × ℕ × T)
   lane_triplets m = zip_values (entries_of m.pattern) m.values
 
@@ -54,6 +54,6 @@ module _ {T : Type 0} where
   abbrev pub compressed_eq : (T → T → Bool) → Compressed T → Compressed T → Bool
   compressed_eq E = eq_of_both (on (λ m. m.pattern) raw_eq) (on (λ m. m.values) (pointwise E))
 
--- p is the position of the place (i, j)
-abbrev pub IsPosition : Raw → ℕ → ℕ → ℕ → Type 0
-IsPosition d i j p = IsInLane d i p × (slice_index d.indices p ≡ j)
+-- p is the offset of the entry (i, j)
+abbrev pub IsOffset : Raw → ℕ → ℕ → ℕ → Type 0
+IsOffset d i j p = IsInLane d i p × (slice_index d.indices p ≡ j)

@@ -1,4 +1,4 @@
--- What the filter of one lane appends, and what is kept of the lanes that it has passed.
+-- The state of a filter after some pairs of one lane, and after some lanes.
 use Rattle.std.specs.Prelude.{◌≡◌, ℕ, ◌+◌, ◌<◌, ◌≤◌, Bool, List, ◌++◌, length, slice_index}
 use Rattle.std.specs.Prelude.{slice_range}
 use Rattle.std.specs.List.{zip}
@@ -6,7 +6,7 @@ use Rattle.sparse_pattern.specs.Raw.{start_of, end_of, lane_of}
 use Rattle.sparse_compressed.specs.Compressed.{Compressed}
 use Rattle.sparse_compressed.specs.Filter.{IsKept}
 
--- two lists have grown by the kept ones of the pairs
+-- ys and ws are xs and vs with the indices and the values of the kept pairs appended
 pub record IsGrown {T : Type 0} (R : ℕ × T → Bool → Type 0) (pairs : List (ℕ × T)) (xs : List ℕ)
     (vs : List T) (ys : List ℕ) (ws : List T) : Type 0 where
   pub indices : List ℕ
@@ -17,7 +17,7 @@ pub record IsGrown {T : Type 0} (R : ℕ × T → Bool → Type 0) (pairs : List
   pub kept : IsKept R pairs (zip indices values)
 
 module _ {T : Type 0} (R : ℕ × ℕ × T → Bool → Type 0) (m : Compressed T) where
-  -- lane k of the arrays is what is kept of lane k of the matrix
+  -- lane k of the arrays has the kept entries of lane k of the matrix
   pub record IsKeptLane (offsets indices : List ℕ) (values : List T) (k : ℕ) : Type 0 where
     pub ordered : slice_index offsets k ≤ slice_index offsets (k + 1)
     pub inside : slice_index offsets (k + 1) ≤ length indices
@@ -27,7 +27,7 @@ module _ {T : Type 0} (R : ℕ × ℕ × T → Bool → Type 0) (m : Compressed 
         (zip (slice_range indices (slice_index offsets k) (slice_index offsets (k + 1)))
         (slice_range values (slice_index offsets k) (slice_index offsets (k + 1))))
 
-  -- the arrays hold what is kept of the lanes below i
+  -- the arrays have the kept entries of the lanes below i
   pub record AreKeptLanes (offsets indices : List ℕ) (values : List T) (i : ℕ) : Type 0 where
     pub offset_count : length offsets ≡ i + 1
     pub first : slice_index offsets 0 ≡ 0

@@ -1,11 +1,11 @@
--- The private enum of faults of unsorted arrays, and what each says.
+-- What each variant of the private enum `UnsortedFault` says of the arrays.
 use Rattle.std.specs.Prelude.{◌≡◌, ℕ, ◌<◌, ◌≤◌, List, All, Any}
 use Rattle.sparse_pattern.specs.FirstFault.{IsFirst}
 use Rattle.sparse_pattern.specs.declared.error.SparseFormatErrorKind.{SparseFormatErrorKind}
 use Rattle.sparse_pattern.specs.declared.error.SparseFormatErrorKind.TheVariants as kind
 use Rattle.sparse_compressed.specs.Compressed.{Compressed}
 use Rattle.sparse_compressed.specs.InnerLaneSorting.{HasFall}
-use Rattle.sparse_compressed.specs.UnsortedFaults.{UnsortedSpot, HasRepeat}
+use Rattle.sparse_compressed.specs.UnsortedFaults.{UnsortedRule, HasRepeat}
 use Rattle.sparse_compressed.specs.UnsortedFaults.{HasUnsortedFault, NeedsSorting}
 use Rattle.sparse_compressed.specs.UnsortedFaults.{unsorted_kind, unsorted_rank}
 use Rattle.sparse_compressed.specs.UnsortedFaults as at
@@ -32,8 +32,8 @@ fault_kind (LaneBounds i) = unsorted_kind (at.LaneBounds i)
 fault_kind (LaneRepeat i) = unsorted_kind (at.LaneRepeat i)
 fault_kind Memory = kind.OutOfMemory
 
--- the fault of lane i with these indices: one past the bound, or all below it and one twice; memory
--- is asked for where one falls
+-- the fault of lane i with these indices: one out of bounds, or all within bounds and one twice;
+-- allocation can fail only if the indices are not strictly increasing
 abbrev pub IsLaneFault : ℕ → ℕ → List ℕ → UnsortedFault → Type 0
 IsLaneFault i bound xs (LaneBounds k) = (k ≡ i) × Any (λ j. bound ≤ j) xs
 IsLaneFault i bound xs (LaneRepeat k) = (k ≡ i) × All (λ j. j < bound) xs × HasRepeat xs
@@ -46,11 +46,11 @@ IsLaneFault i bound xs (LaneFall k) = ⊥
 IsLaneFault i bound xs (LaneEnd k) = ⊥
 
 module _ {T : Type 0} (m : Compressed T) where
-  -- the first fault of the arrays stands at this spot
-  abbrev pub IsFirstAt : UnsortedSpot → Type 0
-  IsFirstAt spot = IsFirst unsorted_rank (HasUnsortedFault m) spot
+  -- this is the first rule that the arrays violate
+  abbrev pub IsFirstAt : UnsortedRule → Type 0
+  IsFirstAt rule = IsFirst unsorted_rank (HasUnsortedFault m) rule
 
-  -- the fault is the first of the arrays, or memory is refused where a lane must be sorted
+  -- the fault is the first of the arrays, or an allocation failed and some lane must be sorted
   abbrev pub IsReported : UnsortedFault → Type 0
   IsReported ValueCount = IsFirstAt at.ValueCount
   IsReported NoOffsets = IsFirstAt at.NoOffsets

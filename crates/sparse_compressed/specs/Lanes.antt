@@ -11,7 +11,7 @@ use Rattle.sparse_pattern.specs.declared.entry.SparseEntry.{SparseEntry}
 use Rattle.sparse_pattern.specs.declared.entry.SparseEntry.TheVariants.{NonZero, Zero}
 use Rattle.sparse_compressed.specs.Compressed.{Compressed}
 
--- a lane's minor dimension, its stored indices, and the value at each of them
+-- the number of possible indices, the stored indices, and their values
 pub record Lane (T : Type 0) : Type 0 where
   pub minor_dim : ℕ
   pub indices : List ℕ
@@ -48,25 +48,25 @@ module _ {T : Type 0} where
   lanes_from m i zero = []
   lanes_from m i (suc n) = lane_at m i ∷ lanes_from m (i + 1) n
 
-  -- all lanes in order, including those without places
+  -- all lanes in order, including those without entries
   abbrev pub lanes_of : Compressed T → List (Lane T)
   lanes_of m = lanes_from m 0 m.pattern.major_dim
 
-  -- the value stored at the index j, or Zero if j is not stored
+  -- the entry at the index j, or Zero if j is not stored
   abbrev pub IsLaneEntryAt : Lane T → ℕ → SparseEntry T → Type 0
   IsLaneEntryAt l j (NonZero x) = (k : ℕ) × (position (λ i. i == j) l.indices ≡ Some k)
       × (x.now ≡ slice_index_or l.values k x.now)
   IsLaneEntryAt l j Zero = position (λ i. i == j) l.indices ≡ None
 
-  -- the entry within bounds, and None out of bounds
+  -- the entry at an index within bounds, and None out of bounds
   abbrev pub IsLaneEntryOf : Lane T → ℕ → Option (SparseEntry T) → Type 0
   IsLaneEntryOf l j (Some entry) = (j < l.minor_dim) × IsLaneEntryAt l j entry
   IsLaneEntryOf l j None = l.minor_dim ≤ j
 
   -- the minor dimensions are equal, and so are the indices
-  abbrev pub lane_places_eq : Lane T → Lane T → Bool
-  lane_places_eq = eq_of_both (on (λ l. l.minor_dim) ◌==◌) (on (λ l. l.indices) (pointwise ◌==◌))
+  abbrev pub lane_indices_eq : Lane T → Lane T → Bool
+  lane_indices_eq = eq_of_both (on (λ l. l.minor_dim) ◌==◌) (on (λ l. l.indices) (pointwise ◌==◌))
 
   -- the result of `==`
   abbrev pub lane_eq : (T → T → Bool) → Lane T → Lane T → Bool
-  lane_eq E = eq_of_both lane_places_eq (on (λ l. l.values) (pointwise E))
+  lane_eq E = eq_of_both lane_indices_eq (on (λ l. l.values) (pointwise E))

@@ -4,14 +4,14 @@ pub mod UnsortedFaults
 pub mod InnerUnsortedFaults
 pub mod InnerLaneSorting
 pub mod PlainOfLanes
-pub mod Standing
-pub mod InnerRows
+pub mod ArraysDeterminePlain
+pub mod InnerLaneValue
 pub mod ChangedValues
 pub mod Laws
 pub mod StoredEntries
 pub mod Lanes
 pub mod Writing
-pub mod Left
+pub mod MutIterators
 pub mod LaneEquality
 pub mod Filter
 pub mod InnerFilter

@@ -9,10 +9,10 @@ module _ (R : CommRing) {T : Type 0} (f : T → R.Carrier) where
   abbrev pub meant : List (ℕ × ℕ × T) → List (ℕ × ℕ × R.Carrier)
   meant ts = map (λ t. (t.0, t.1, f t.2)) ts
 
-  -- compressed arrays with rows as lanes
+  -- the plain matrix of a compressed matrix whose lanes are rows
   abbrev pub plain_of_rows : Compressed T → Plain R
   plain_of_rows m = plain_of_triplets R f m.pattern.major_dim m.pattern.minor_dim (lane_triplets m)
 
-  -- compressed arrays with columns as lanes
+  -- the plain matrix of a compressed matrix whose lanes are columns
   abbrev pub plain_of_cols : Compressed T → Plain R
   plain_of_cols m = plain_transpose R (plain_of_rows m)

@@ -19,7 +19,7 @@ module _ {T : Type 0} where
   IsFirstSortedFault m (Pattern e) = IsFirstFault m.pattern e
   IsFirstSortedFault m ValueCount = IsValid m.pattern × (length m.values ≢ length m.pattern.indices)
 
-  -- the first fault of the arrays gives an error of this kind
+  -- the error has the kind of the first fault of the arrays
   pub record IsSortedRefusal (m : Compressed T) (kind : SparseFormatErrorKind) : Type 0 where
     pub fault : SortedFault
     pub first : IsFirstSortedFault m fault

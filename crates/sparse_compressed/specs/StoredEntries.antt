@@ -1,4 +1,4 @@
--- The position of a place, and the entry of a matrix at a pair of indices.
+-- The offset of an entry, and the entry at a pair of indices.
 use Rattle.std.specs.Prelude.{◌≡◌, ℕ, ◌+◌, ◌<◌, ◌==◌, Option, Some, None, option_map, position}
 use Rattle.std.specs.Prelude.{slice_index_or}
 use Rattle.sparse_pattern.specs.Raw.{Raw, start_of, lane_of}
@@ -6,9 +6,9 @@ use Rattle.sparse_pattern.specs.declared.entry.SparseEntry.{SparseEntry}
 use Rattle.sparse_pattern.specs.declared.entry.SparseEntry.TheVariants.{NonZero, Zero}
 use Rattle.sparse_compressed.specs.Compressed.{Compressed}
 
--- the position of the place (i, j), if it is stored
-abbrev pub place_of : Raw → ℕ → ℕ → Option ℕ
-place_of d i j = option_map (λ k. start_of d i + k) (position (λ x. x == j) (lane_of d i))
+-- the offset of the entry (i, j), or None if it is not stored
+abbrev pub find_offset : Raw → ℕ → ℕ → Option ℕ
+find_offset d i j = option_map (λ k. start_of d i + k) (position (λ x. x == j) (lane_of d i))
 
 -- both indices are within bounds
 pub record IsInBounds (d : Raw) (i j : ℕ) : Type 0 where
@@ -16,13 +16,13 @@ pub record IsInBounds (d : Raw) (i j : ℕ) : Type 0 where
   pub minor : j < d.minor_dim
 
 module _ {T : Type 0} where
-  -- the value at the position of the place, or Zero if the place is not stored
+  -- the value at the offset of the entry (i, j), or Zero if it is not stored
   abbrev pub IsEntryAt : Compressed T → ℕ → ℕ → SparseEntry T → Type 0
-  IsEntryAt m i j (NonZero x) = (p : ℕ) × (place_of m.pattern i j ≡ Some p)
+  IsEntryAt m i j (NonZero x) = (p : ℕ) × (find_offset m.pattern i j ≡ Some p)
       × (x.now ≡ slice_index_or m.values p x.now)
-  IsEntryAt m i j Zero = place_of m.pattern i j ≡ None
+  IsEntryAt m i j Zero = find_offset m.pattern i j ≡ None
 
-  -- the entry within bounds, and None out of bounds
+  -- the entry at a pair within bounds, and None out of bounds
   abbrev pub IsEntryOf : Compressed T → ℕ → ℕ → Option (SparseEntry T) → Type 0
   IsEntryOf m i j (Some entry) = IsInBounds m.pattern i j × IsEntryAt m i j entry
   IsEntryOf m i j None = ¬ IsInBounds m.pattern i j

@@ -13,11 +13,11 @@ use Rattle.sparse_pattern.specs.declared.entry.Found.{Found}
 use Rattle.sparse_pattern.specs.declared.entry.Found.TheVariants.{Value, Nothing}
 use Rattle.sparse_pattern.specs.declared.entry.Missing.TheVariants.{OutOfBounds, NotStored}
 use Rattle.sparse_compressed.specs.Compressed.{Compressed}
-use Rattle.sparse_compressed.specs.StoredEntries.{IsInBounds, place_of}
+use Rattle.sparse_compressed.specs.StoredEntries.{IsInBounds, find_offset}
 use Rattle.sparse_compressed.specs.Lanes.{Lane}
 use Rattle.sparse_compressed.specs.contracts.CsMatrix.{the_row}
 
--- the position of the index j in a lane
+-- the offset of the index j from the start of a lane, or None if it is not stored
 abbrev pub index_in : List ℕ → ℕ → Option ℕ
 index_in indices j = position (λ i. i == j) indices
 
@@ -30,64 +30,64 @@ module _ {T : Type 0} where
   abbrev pub with_lane : Compressed T → ℕ → List T → Compressed T
   with_lane m i ws = record m { values = refill_from m.values (start_of m.pattern i) ws }
 
-  -- the matrix with another value at the stored place (i, j)
+  -- the matrix with another value at the entry (i, j)
   abbrev pub with_value : Compressed T → ℕ → ℕ → T → Compressed T
   with_value m i j w = record m {
-    values = slice_set m.values (unwrap_or (place_of m.pattern i j) 0)
+    values = slice_set m.values (unwrap_or (find_offset m.pattern i j) 0)
         w;
   }
 
-  -- x has the value at the stored place (i, j)
+  -- the entry (i, j) is stored, and x has its value
   pub record IsValueAt (m : Compressed T) (i j : ℕ) (x : MutBor T) : Type 0 where
     pub position : ℕ
-    pub stored : place_of m.pattern i j ≡ Some position
+    pub stored : find_offset m.pattern i j ≡ Some position
     pub value : x.now ≡ slice_index_or m.values position x.now
 
-  -- the value at the place, or that the pair is not stored, or that it is out of bounds
+  -- the value at the pair, or that none is stored there, or that the pair is out of bounds
   abbrev pub IsFoundAt : Compressed T → ℕ → ℕ → Found T → Type 0
   IsFoundAt m i j (Value x) = IsInBounds m.pattern i j × IsValueAt m i j x
-  IsFoundAt m i j (Nothing NotStored) = IsInBounds m.pattern i j × (place_of m.pattern i j ≡ None)
+  IsFoundAt m i j (Nothing NotStored) = IsInBounds m.pattern i j × (find_offset m.pattern i j ≡ None)
   IsFoundAt m i j (Nothing OutOfBounds) = ¬ IsInBounds m.pattern i j
 
-  -- the value at the place, or Zero if the pair is not stored
+  -- the entry at the pair, or Zero if none is stored
   abbrev pub IsEntryMutAt : Compressed T → ℕ → ℕ → SparseEntryMut T → Type 0
   IsEntryMutAt m i j (NonZero x) = IsValueAt m i j x
-  IsEntryMutAt m i j Zero = place_of m.pattern i j ≡ None
+  IsEntryMutAt m i j Zero = find_offset m.pattern i j ≡ None
 
-  -- the entry within bounds, and None out of bounds
+  -- the entry at a pair within bounds, and None out of bounds
   abbrev pub IsEntryMutOf : Compressed T → ℕ → ℕ → Option (SparseEntryMut T) → Type 0
   IsEntryMutOf m i j (Some entry) = IsInBounds m.pattern i j × IsEntryMutAt m i j entry
   IsEntryMutOf m i j None = ¬ IsInBounds m.pattern i j
 
-  -- j is the index at this position of the lane, which has a value
+  -- the index j is at this offset of the lane, and there is a value at the offset
   pub record IsStoredIn (l : Lane T) (j position : ℕ) : Type 0 where
     pub index : index_in l.indices j ≡ Some position
     pub within : position < length l.values
 
-  -- x has the value stored at the index j
+  -- the index j is stored, and x has its value
   pub record IsLaneValueAt (l : Lane T) (j : ℕ) (x : MutBor T) : Type 0 where
     pub position : ℕ
     pub stored : IsStoredIn l j position
     pub value : x.now ≡ slice_index_or l.values position x.now
 
-  -- the value at the index, or that the index is not stored, or that it is out of bounds
+  -- the value at the index, or that none is stored there, or that the index is out of bounds
   abbrev pub IsLaneFoundAt : Lane T → ℕ → Found T → Type 0
   IsLaneFoundAt l j (Value x) = (j < l.minor_dim) × IsLaneValueAt l j x
   IsLaneFoundAt l j (Nothing NotStored) = (j < l.minor_dim) × ((p : ℕ) → ¬ IsStoredIn l j p)
   IsLaneFoundAt l j (Nothing OutOfBounds) = l.minor_dim ≤ j
 
-  -- the same as an entry: None if out of bounds
+  -- the entry at the index, Zero if none is stored, None if the index is out of bounds
   abbrev pub IsLaneEntryMutOf : Lane T → ℕ → Option (SparseEntryMut T) → Type 0
   IsLaneEntryMutOf l j (Some (NonZero x)) = (j < l.minor_dim) × IsLaneValueAt l j x
   IsLaneEntryMutOf l j (Some Zero) = (j < l.minor_dim) × ((p : ℕ) → ¬ IsStoredIn l j p)
   IsLaneEntryMutOf l j None = l.minor_dim ≤ j
 
-  -- the entry of a borrowed lane, for reading: None if out of bounds
-  abbrev pub IsLentEntryOf : Lane T → ℕ → Option (SparseEntry T) → Type 0
-  IsLentEntryOf l j (Some (entry.NonZero x)) = (j < l.minor_dim)
+  -- the same entry, for reading
+  abbrev pub IsMutLaneEntryOf : Lane T → ℕ → Option (SparseEntry T) → Type 0
+  IsMutLaneEntryOf l j (Some (entry.NonZero x)) = (j < l.minor_dim)
       × ((p : ℕ) × IsStoredIn l j p × (x.now ≡ slice_index_or l.values p x.now))
-  IsLentEntryOf l j (Some entry.Zero) = (j < l.minor_dim) × ((p : ℕ) → ¬ IsStoredIn l j p)
-  IsLentEntryOf l j None = l.minor_dim ≤ j
+  IsMutLaneEntryOf l j (Some entry.Zero) = (j < l.minor_dim) × ((p : ℕ) → ¬ IsStoredIn l j p)
+  IsMutLaneEntryOf l j None = l.minor_dim ≤ j
 
 module _ (T : RattleType) (s : MutBor (Compressed T.Denot)) where
   -- after the borrow the matrix has the values last written through the slice

@@ -51,7 +51,8 @@ impl<T> CsMatrix<T> {
         }
     }
 
-    /// Returns the entry at a pair of indices, both of which must be within bounds. Binary search in the lane.
+    /// Returns the entry at a pair of indices, or `Zero` if none is stored. Both indices must be within bounds. Binary
+    /// search in the lane.
     pub fn index_entry(&self, major_index: usize, minor_index: usize) -> SparseEntry<'_, T>
         requires { IsInBounds self.now.pattern major_index minor_index }
         ensures { IsEntryAt self.now major_index minor_index result }
@@ -59,7 +60,8 @@ impl<T> CsMatrix<T> {
         self.lane(major_index).index_entry(minor_index)
     }
 
-    /// Returns the entry at a pair of indices, or `None` if one is out of bounds. Binary search in the lane.
+    /// Returns the entry at a pair of indices, `Zero` if none is stored, or `None` if an index is out of bounds. Binary
+    /// search in the lane.
     pub fn get_entry(&self, major_index: usize, minor_index: usize) -> Option<SparseEntry<'_, T>>
         ensures { IsEntryOf self.now major_index minor_index result }
     {

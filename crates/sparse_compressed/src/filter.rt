@@ -1,9 +1,9 @@
-//! Selection of stored places by a predicate.
+//! Selection of entries by a predicate.
 
 ghost use Rattle.std.specs.Prelude.{◌≡◌, ℕ, Bool, OnOk, IfOk, length};
 ghost use Rattle.std.specs.List.{filter, zip};
 ghost use Rattle.sparse_compressed.specs.Compressed.{IsSound, lane_triplets};
-ghost use Rattle.sparse_compressed.specs.Filter.{Answers, AnswersAs, HasSizesOf, IsKept};
+ghost use Rattle.sparse_compressed.specs.Filter.{Answers, AnswersAs, HasShapeOf, IsKept};
 ghost use Rattle.sparse_compressed.specs.InnerFilter.{AreKeptLanes, IsGrown};
 
 use crate::CsMatrix;
@@ -11,17 +11,16 @@ use sparse_pattern::pattern::SparsityPattern;
 use std::alloc::{AllocError, Global};
 
 impl<T: Copy> CsMatrix<T> {
-    /// Returns a matrix of the same shape with the stored places (lane, index) for which `predicate` returns `true`,
-    /// and their values.
+    /// Returns a matrix of the same shape with the entries (lane, index, value) for which `predicate` returns `true`.
     ///
-    /// The predicate is called once for each stored place, including those whose value is zero, lane by lane, indices
-    /// increasing. It must be callable with any arguments. Linear in lanes and places; the memory is proportional to
-    /// the lanes and the places kept. Fails only if an allocation fails.
+    /// The predicate is called once for each entry, including those whose value is zero, lane by lane, indices
+    /// increasing. It must be callable with any arguments. Linear in lanes and entries; the memory is proportional to
+    /// the lanes and the entries kept. Fails only if an allocation fails.
     pub fn filter<P>(&self, alloc: Global, predicate: P) -> Result<Self, AllocError>
     where
         P: Fn(usize, usize, &T) -> bool,
         requires { P.IsAlwaysCallable predicate }
-        ensures sizes { IfOk result (HasSizesOf self.now) }
+        ensures same_shape { IfOk result (HasShapeOf self.now) }
         ensures kept { IfOk result
             (λ m. IsKept (Answers P.Fn predicate) (lane_triplets self.now) (lane_triplets m)) }
         ensures tested { (test : ℕ × ℕ × T → Bool) → AnswersAs P.Fn predicate test
@@ -40,7 +39,7 @@ impl<T: Copy> CsMatrix<T> {
     }
 }
 
-// Returns the offsets, the indices and the values of the places for which the predicate returns `true`.
+// Returns the offsets, the indices and the values of the entries for which the predicate returns `true`.
 fn keep_lanes<T: Copy, P: Fn(usize, usize, &T) -> bool>(
     alloc: Global,
     matrix: &CsMatrix<T>,
@@ -69,7 +68,7 @@ fn keep_lanes<T: Copy, P: Fn(usize, usize, &T) -> bool>(
     Ok((offsets, indices, values))
 }
 
-// Appends the indices and the values of a lane for which the predicate returns `true`.
+// Appends the indices and the values of the entries of a lane for which the predicate returns `true`.
 fn keep_lane<T: Copy, P: Fn(usize, usize, &T) -> bool>(
     lane: usize,
     indices: &[usize],

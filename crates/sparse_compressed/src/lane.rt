@@ -3,11 +3,11 @@
 ghost use Rattle.std.specs.Prelude.{◌≡◌, ◌<◌, ◌==◌, ⊤, length, position, IfSome};
 ghost use Rattle.std.specs.List.Sorted.{IsStrictlyIncreasing};
 ghost use Rattle.sparse_pattern.specs.Raw.{lane_of};
-ghost use Rattle.sparse_compressed.specs.StoredEntries.{place_of};
+ghost use Rattle.sparse_compressed.specs.StoredEntries.{find_offset};
 ghost use Rattle.sparse_compressed.specs.Lanes.{IsLaneEntryAt, IsLaneEntryOf};
 ghost use Rattle.sparse_compressed.specs.Lanes.{IsSoundLane, lane_parts};
 
-use sparse_algebra::learn;
+use sparse_algebra::recall;
 use sparse_pattern::entry::SparseEntry;
 use sparse_pattern::pattern::SparsityPattern;
 use std::alloc::AllocError;
@@ -45,7 +45,7 @@ impl<'a> LaneIndices<'a> {
         requires { major_index < pattern.now.major_dim }
         ensures { result ≡ lane_of pattern.now major_index }
     {
-        learn(pattern.major_offsets());
+        recall(pattern.major_offsets());
         LaneIndices::new(pattern.lane(major_index))
     }
 
@@ -64,8 +64,8 @@ impl<'a> LaneIndices<'a> {
         self.indices.len()
     }
 
-    /// Returns the position of `minor_index` in the lane, or `None` if it is not stored. Binary search.
-    pub fn position_of(&self, minor_index: usize) -> Option<usize>
+    /// Returns the offset of `minor_index` from the start of the lane, or `None` if it is not stored. Binary search.
+    pub fn offset_of(&self, minor_index: usize) -> Option<usize>
         ensures position { result ≡ position (λ x. x == minor_index) self.now }
         ensures within { IfSome result (λ at. at < length self.now) }
     {
@@ -73,16 +73,17 @@ impl<'a> LaneIndices<'a> {
     }
 }
 
-/// Returns the position of a place among those of the pattern, or `None` if it is not stored. Binary search in the lane.
+/// Returns the offset of the entry at (lane, index) in the arrays of a pattern, or `None` if it is not stored. Binary
+/// search in the lane.
 ///
 /// `lane` must be within bounds.
-pub fn position_of(pattern: &SparsityPattern, lane: usize, index: usize) -> Option<usize>
+pub fn offset_of(pattern: &SparsityPattern, lane: usize, index: usize) -> Option<usize>
     requires { lane < pattern.now.major_dim }
-    ensures position { result ≡ place_of pattern.now lane index }
+    ensures position { result ≡ find_offset pattern.now lane index }
     ensures within { IfSome result (λ p. p < length pattern.now.indices) }
 {
     let (start, _) = pattern.lane_bounds(lane);
-    match LaneIndices::of_lane(pattern, lane).position_of(index) {
+    match LaneIndices::of_lane(pattern, lane).offset_of(index) {
         Some(at) => Some(start + at),
         None => None,
     }
@@ -106,7 +107,7 @@ impl<'a> Debug for LaneIndices<'a> {
     }
 }
 
-/// One lane of a compressed matrix: the indices of its stored places, and their values.
+/// One lane of a compressed matrix: the indices of its entries, and their values.
 #[derive(Debug, Drop)]
 pub struct CsLane<'a, T> {
     minor_dim: usize,
@@ -148,14 +149,14 @@ impl<'a, T> CsLane<'a, T> {
         self.minor_dim
     }
 
-    /// Returns the number of stored places, including those whose value is zero.
+    /// Returns the number of entries, including those whose value is zero.
     pub fn nnz(&self) -> usize
         ensures { result ≡ length self.now.indices }
     {
         self.minor_indices.len()
     }
 
-    /// Returns the indices of the stored places, strictly increasing.
+    /// Returns the indices of the entries, strictly increasing.
     pub fn minor_indices(&self) -> &'a [usize]
         ensures indices { result.now ≡ self.now.indices }
         ensures sound { IsSoundLane self.now }
@@ -163,7 +164,7 @@ impl<'a, T> CsLane<'a, T> {
         self.minor_indices.as_slice()
     }
 
-    /// Returns the values of the stored places, in the order of their indices.
+    /// Returns the values of the entries, in the order of their indices.
     pub fn values(&self) -> &'a [T]
         ensures values { result.now ≡ self.now.values }
         ensures sound { IsSoundLane self.now }
@@ -171,7 +172,7 @@ impl<'a, T> CsLane<'a, T> {
         self.values
     }
 
-    /// Returns the entry at an index, or `None` if it is out of bounds. Binary search.
+    /// Returns the entry at an index, `Zero` if none is stored, or `None` if the index is out of bounds. Binary search.
     pub fn get_entry(&self, minor_index: usize) -> Option<SparseEntry<'a, T>>
         ensures { IsLaneEntryOf self.now minor_index result }
     {
@@ -182,12 +183,12 @@ impl<'a, T> CsLane<'a, T> {
         }
     }
 
-    /// Returns the entry at an index, which must be within bounds. Binary search.
+    /// Returns the entry at an index, or `Zero` if none is stored. The index must be within bounds. Binary search.
     pub fn index_entry(&self, minor_index: usize) -> SparseEntry<'a, T>
         requires { minor_index < self.now.minor_dim }
         ensures { IsLaneEntryAt self.now minor_index result }
     {
-        match self.minor_indices.position_of(minor_index) {
+        match self.minor_indices.offset_of(minor_index) {
             Some(at) => SparseEntry::NonZero(&self.values[at]),
             None => SparseEntry::Zero,
         }

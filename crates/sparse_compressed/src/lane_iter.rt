@@ -11,12 +11,12 @@ use std::alloc::AllocError;
 use std::marker::Model;
 
 impl<T> CsMatrix<T> {
-    /// Returns an iterator over the lanes, including those without stored places.
+    /// Returns an iterator over the lanes, including those without entries.
     pub fn lane_iter(&self) -> CsLaneIter<'_, T>
         ensures all { result ≡ lanes_of self.now }
         ensures sound { IsSound self.now }
     {
-        // Opens the matrix, so that its soundness can be stated.
+        // Reads a field, which tells the prover that the matrix is sound.
         let _ = &self.values;
         CsLaneIter {
             matrix: self,
@@ -25,7 +25,7 @@ impl<T> CsMatrix<T> {
     }
 }
 
-/// An iterator over the lanes of a [`CsMatrix`], including those without stored places.
+/// An iterator over the lanes of a [`CsMatrix`], including those without entries.
 #[derive(Drop)]
 pub struct CsLaneIter<'a, T> {
     matrix: &'a CsMatrix<T>,

@@ -5,7 +5,7 @@ ghost use Rattle.std.specs.Borrow.{sem};
 ghost use Rattle.std.specs.Iterator.{YieldsFirstBy, item_count};
 ghost use Rattle.sparse_compressed.specs.Compressed.{IsSound};
 ghost use Rattle.sparse_compressed.specs.Lanes.{lane_at, lanes_of};
-ghost use Rattle.sparse_compressed.specs.Left.{lent_lane, lanes_left, lane_values};
+ghost use Rattle.sparse_compressed.specs.MutIterators.{lane_of_mut, lanes_left, lane_values};
 ghost use Rattle.sparse_compressed.specs.Writing.{LendsLane, LendsValues};
 
 use crate::CsMatrix;
@@ -26,7 +26,7 @@ impl<T> CsMatrix<T> {
     pub fn lane_mut(&mut self, major_index: usize) -> CsLaneMut<'_, T>
         requires { major_index < self.old.pattern.major_dim }
         ensures* writes_back { sem 𝓛 (LendsLane T.row self.entry major_index result.values) }
-        ensures lane { lent_lane result ≡ lane_at self.old major_index }
+        ensures lane { lane_of_mut result ≡ lane_at self.old major_index }
         ensures sound { IsSound self.old }
     {
         let (start, end) = self.sparsity_pattern.lane_bounds(major_index);
@@ -37,7 +37,7 @@ impl<T> CsMatrix<T> {
         }
     }
 
-    /// Returns an iterator over the lanes, including those without stored places, that borrows their values mutably.
+    /// Returns an iterator over the lanes, including those without entries, that borrows their values mutably.
     pub fn lane_iter_mut(&mut self) -> CsLaneIterMut<'_, T>
         ensures* writes_back { sem 𝓛 (LendsValues T.row self.entry (lane_values result)) }
         ensures all { lanes_left result ≡ lanes_of self.old }
@@ -51,8 +51,7 @@ impl<T> CsMatrix<T> {
     }
 }
 
-/// An iterator over the lanes of a [`CsMatrix`], including those without stored places, that borrows their values
-/// mutably.
+/// An iterator over the lanes of a [`CsMatrix`], including those without entries, that borrows their values mutably.
 #[derive(Drop)]
 pub struct CsLaneIterMut<'a, T> {
     pattern: &'a SparsityPattern,
@@ -63,32 +62,32 @@ pub struct CsLaneIterMut<'a, T> {
 impl<'a, T> Iterator for CsLaneIterMut<'a, T> {
     type Item = CsLaneMut<'a, T>;
 
-    ghost next_gives = { YieldsFirstBy lent_lane lanes_left };
+    ghost next_gives = { YieldsFirstBy lane_of_mut lanes_left };
 
     ghost remaining = { item_count lanes_left };
 
-    #[tactic(auto, using(crate::proofs::LanesLeft::lanes_with_next, crate::proofs::LanesLeft::lanes_with_end))]
+    #[tactic(auto, using(crate::proofs::MutIteratorLanes::lanes_with_next, crate::proofs::MutIteratorLanes::lanes_with_end))]
     fn next(&mut self) -> Option<CsLaneMut<'a, T>> {
         let pattern = self.pattern;
         if self.current_lane >= pattern.major_dim() {
             return None;
         }
         let indices = LaneIndices::of_lane(pattern, self.current_lane);
-        let (front, rest) = split_front(mem::take(&mut self.values), indices.len());
+        let (prefix, rest) = split_prefix(mem::take(&mut self.values), indices.len());
         self.current_lane += 1;
         self.values = rest;
         Some(CsLaneMut {
             minor_dim: pattern.minor_dim(),
             indices,
-            values: front,
+            values: prefix,
         })
     }
 }
 
-// The first values, and the others.
+// Returns the first `count` values, or all if there are fewer, and the rest.
 #[tactic(auto, using(std::proofs::lemmas::List::take_min, std::proofs::lemmas::List::drop_min))]
-fn split_front<'a, T>(values: &'a mut [T], count: usize) -> (&'a mut [T], &'a mut [T])
-    ensures front { result.0.now ≡ take count values.old }
+fn split_prefix<'a, T>(values: &'a mut [T], count: usize) -> (&'a mut [T], &'a mut [T])
+    ensures prefix { result.0.now ≡ take count values.old }
     ensures rest { result.1.now ≡ drop count values.old }
 {
     let within = count.min(values.len());

@@ -5,13 +5,13 @@ ghost use Rattle.std.specs.List.{filter};
 ghost use Rattle.sparse_algebra.specs.Plain.{Plain, plain_kept, plain_transpose, row_order};
 ghost use Rattle.sparse_pattern.specs.Raw.{Raw, IsValid};
 ghost use Rattle.sparse_compressed.specs.ColumnOrder.{col_order};
-ghost use Rattle.sparse_compressed.specs.Compressed.{Compressed, IsPosition};
+ghost use Rattle.sparse_compressed.specs.Compressed.{Compressed, IsOffset};
 ghost use Rattle.sparse_compressed.specs.Compressed.{IsSound, lane_triplets};
 ghost use Rattle.sparse_compressed.specs.Compressed.{transposed, compressed_eq};
-ghost use Rattle.sparse_compressed.specs.StoredEntries.{place_of};
-ghost use Rattle.sparse_compressed.specs.Filter.{HasSizesOf};
+ghost use Rattle.sparse_compressed.specs.StoredEntries.{find_offset};
+ghost use Rattle.sparse_compressed.specs.Filter.{HasShapeOf};
 ghost use Rattle.sparse_compressed.specs.PlainOfLanes.{meant, plain_of_rows, plain_of_cols};
-ghost use Rattle.sparse_compressed.specs.Standing.{HasLanesAsRows, HasLanesAsCols};
+ghost use Rattle.sparse_compressed.specs.ArraysDeterminePlain.{HasLanesAsRows, HasLanesAsCols};
 ghost use Rattle.sparse_compressed.specs.TransposedMatrix.{IsTranspose};
 
 use sparse_algebra::scalar::Ring;
@@ -26,7 +26,8 @@ pub fn equal_law<T: Ring>()
         ↔ (plain_of_cols T.ring T.value m ≡ plain_of_cols T.ring T.value n) }
 {}
 
-/// The plain matrix of a sound matrix is the only one with exactly the shape, the places and the values of its arrays.
+/// The arrays of a sound matrix determine its plain matrix: it has their shape, places and values, and it is the only
+/// plain matrix that has them.
 pub fn stands_law<T: Ring>()
     ensures rows { (m : Compressed T) → IsSound m
         → HasLanesAsRows T.ring T.value m (plain_of_rows T.ring T.value m) }
@@ -54,22 +55,22 @@ pub fn col_order_law<T: Ring>()
         ≡ col_order T.ring (plain_of_cols T.ring T.value m) }
 {}
 
-/// A lookup finds the position of a place if and only if the place is stored.
+/// A look-up of an entry returns its offset if the entry is stored, and otherwise `None`.
 pub fn place_law()
-    ensures { (d : Raw) → IsValid d → (i j p : ℕ) → (place_of d i j ≡ Some p) ↔ IsPosition d i j p }
+    ensures { (d : Raw) → IsValid d → (i j p : ℕ) → (find_offset d i j ≡ Some p) ↔ IsOffset d i j p }
 {}
 
 /// Keeping the triplets by rows that pass a test keeps exactly those places of the plain matrix, with their values.
 pub fn kept_rows_law<T: Ring>()
     ensures { (test : ℕ → ℕ → Bool) (m n : Compressed T)
-        → HasSizesOf m n → lane_triplets n ≡ filter (λ t. test t.0 t.1) (lane_triplets m)
+        → HasShapeOf m n → lane_triplets n ≡ filter (λ t. test t.0 t.1) (lane_triplets m)
         → plain_of_rows T.ring T.value n ≡ plain_kept T.ring test (plain_of_rows T.ring T.value m) }
 {}
 
 /// Keeping the triplets by columns that pass a test keeps exactly those places of the plain matrix, with their values.
 pub fn kept_cols_law<T: Ring>()
     ensures { (test : ℕ → ℕ → Bool) (m n : Compressed T)
-        → HasSizesOf m n → map transposed (lane_triplets n)
+        → HasShapeOf m n → map transposed (lane_triplets n)
         ≡ filter (λ t. test t.0 t.1) (map transposed (lane_triplets m))
         → plain_of_cols T.ring T.value n ≡ plain_kept T.ring test (plain_of_cols T.ring T.value m) }
 {}

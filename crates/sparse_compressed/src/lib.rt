@@ -21,11 +21,11 @@ mod view;
 pub mod writing;
 mod zeros_identity;
 
-pub use lane::{CsLane, LaneIndices, position_of};
+pub use lane::{CsLane, LaneIndices, offset_of};
 pub use lane_iter::CsLaneIter;
 pub use lane_iter_mut::{CsLaneIterMut, CsLaneMut};
 pub use sorted::SortedFault;
-use sparse_algebra::learn;
+use sparse_algebra::recall;
 use sparse_pattern::pattern::{SparsityPattern, SparsityPatternIter};
 use std::alloc::{AllocError, Global};
 use std::marker::Model;
@@ -33,8 +33,8 @@ pub use triplet_iter_mut::CsTripletIterMut;
 pub use triplets::CsTripletValues;
 pub use view::CsView;
 
-/// A sparsity pattern with a value for each of its places. The lanes are the rows of a CSR matrix or the columns of a
-/// CSC matrix.
+/// A compressed matrix: a sparsity pattern, and one value for each of its entries. The lanes are the rows of a CSR
+/// matrix or the columns of a CSC matrix.
 #[derive(Debug, Drop)]
 pub struct CsMatrix<T> {
     sparsity_pattern: SparsityPattern,
@@ -57,13 +57,13 @@ impl<T> Model for CsMatrix<T> {
 }
 
 impl<T> CsMatrix<T> {
-    /// Returns the matrix of a pattern and its values. There must be one value for each place of the pattern.
+    /// Returns the matrix of a pattern and its values. There must be one value for each entry of the pattern.
     pub fn from_pattern_and_values(pattern: SparsityPattern, values: Vec<T>) -> Self
         requires { length values.items ≡ length pattern.indices }
         ensures is { result ≡ compressed_of pattern values.items }
         ensures sound { IsSound result }
     {
-        learn(pattern.major_offsets());
+        recall(pattern.major_offsets());
         CsMatrix {
             sparsity_pattern: pattern,
             values,

@@ -20,14 +20,14 @@ impl<T: Ring> CsMatrix<T> {
         negate_values(&mut self.values);
     }
 
-    /// Multiplies each stored value by `factor`. Allocates nothing.
-    pub fn scale(&mut self, factor: T)
+    /// Multiplies each stored value by `coefficient`. Allocates nothing.
+    pub fn scale(&mut self, coefficient: T)
         ensures pattern { self.new.pattern ≡ self.old.pattern }
         ensures values { plain_of_rows T.ring T.value self.new
-            ≡ plain_scaled T.ring (T.value factor) (plain_of_rows T.ring T.value self.old) }
+            ≡ plain_scaled T.ring (T.value coefficient) (plain_of_rows T.ring T.value self.old) }
         ensures sound { IsSound self.new }
     {
-        scale_values(factor, &mut self.values);
+        scale_values(coefficient, &mut self.values);
     }
 }
 
@@ -40,11 +40,11 @@ pub fn negate_values<T: Ring>(values: &mut [T])
     }
 }
 
-/// Multiplies each value by `factor`.
-pub fn scale_values<T: Ring>(factor: T, values: &mut [T])
-    ensures { AreChanged T.value (T.ring.mul (T.value factor)) T.zero_value values.old values.new }
+/// Multiplies each value by `coefficient`.
+pub fn scale_values<T: Ring>(coefficient: T, values: &mut [T])
+    ensures { AreChanged T.value (T.ring.mul (T.value coefficient)) T.zero_value values.old values.new }
 {
     for value in values.iter_mut() {
-        *value = factor.mul(*value);
+        *value = coefficient.mul(*value);
     }
 }

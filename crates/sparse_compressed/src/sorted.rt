@@ -13,7 +13,7 @@ use sparse_pattern::pattern::{SparsityPattern, SparsityPatternFormatError};
 pub enum SortedFault {
     /// The offsets and indices do not form a pattern; this is their first fault.
     Pattern(SparsityPatternFormatError),
-    /// The pattern is valid, but the number of values is not the number of its places.
+    /// The pattern is valid, but the number of values is not the number of its entries.
     ValueCount,
 }
 
@@ -30,8 +30,8 @@ impl SortedFault {
 }
 
 impl<T: Drop> CsMatrix<T> {
-    /// Returns the matrix of arrays whose lanes are sorted, or their first fault: first those of the pattern, then the
-    /// number of values.
+    /// Returns the matrix with these arrays, whose lanes must be sorted, or their first fault: those of the pattern
+    /// come first, then the number of values.
     ///
     /// Linear in lanes and indices. Allocates nothing. Invalid arrays are dropped.
     pub fn try_from_sorted_arrays(
@@ -48,7 +48,7 @@ impl<T: Drop> CsMatrix<T> {
         ensures fault { IfErr result
             (IsFirstSortedFault (arrays_of major_dim minor_dim major_offsets.items
             minor_indices.items values.items)) }
-        ensures taken { IsSound
+        ensures accepted { IsSound
             (arrays_of major_dim minor_dim major_offsets.items minor_indices.items values.items)
             → IsOk result }
     {
@@ -64,7 +64,7 @@ impl<T: Drop> CsMatrix<T> {
     }
 
     /// Returns the matrix of a pattern and its values, or `ValueCount` if the number of values is not the number of
-    /// places. Allocates nothing.
+    /// entries. Allocates nothing.
     pub fn try_from_pattern_and_values(
         pattern: SparsityPattern,
         values: Vec<T>,
@@ -73,7 +73,7 @@ impl<T: Drop> CsMatrix<T> {
         ensures sound { IfOk result IsSound }
         ensures fault { IfErr result (λ e. (e ≡ SortedFault.ValueCount)
             × (length values.items ≢ length pattern.indices)) }
-        ensures taken { length values.items ≡ length pattern.indices → IsOk result }
+        ensures accepted { length values.items ≡ length pattern.indices → IsOk result }
     {
         if values.len() != pattern.nnz() {
             return Err(SortedFault::ValueCount);

@@ -10,9 +10,9 @@ use std::alloc::{AllocError, Global};
 impl<T: Copy> CsMatrix<T> {
     /// Returns the transpose: its value at (j, i) is the value of this matrix at (i, j). Stored zeros stay stored.
     ///
-    /// A counting sort, or one pass if the pattern is square and has the places of its transpose: linear in places, lanes
-    /// and minor indices. Beside the result it allocates one counter for each lane of the result. Fails only if an
-    /// allocation fails.
+    /// A counting sort, or for most patterns that equal their transpose one pass over the entries: linear in entries,
+    /// lanes and minor indices. Beside the result it allocates one counter for each lane of the result. Fails only if
+    /// an allocation fails.
     pub fn transpose(&self, alloc: Global) -> Result<Self, AllocError>
         ensures transposed { IfOk result (IsTranspose self.now) }
         ensures sound { IfOk result IsSound }

@@ -4,7 +4,7 @@ ghost use Rattle.std.specs.Prelude.{◌≡◌};
 ghost use Rattle.std.specs.Borrow.{sem};
 ghost use Rattle.std.specs.Iterator.{YieldsFirstBy, item_count};
 ghost use Rattle.sparse_compressed.specs.Compressed.{IsSound, lane_triplets};
-ghost use Rattle.sparse_compressed.specs.Left.{triplets_left, triplet_values};
+ghost use Rattle.sparse_compressed.specs.MutIterators.{triplets_left, triplet_values};
 ghost use Rattle.sparse_compressed.specs.Writing.{LendsValues};
 
 use crate::CsMatrix;
@@ -40,7 +40,7 @@ impl<'a, T> Iterator for CsTripletIterMut<'a, T> {
 
     ghost remaining = { item_count triplets_left };
 
-    #[tactic(auto, using(crate::proofs::LanesLeft::zip_values_none))]
+    #[tactic(auto, using(crate::proofs::MutIteratorLanes::zip_values_none))]
     fn next(&mut self) -> Option<(usize, usize, &'a mut T)> {
         let (lane, index) = self.entries.next()?;
         let (value, values) = mem::take(&mut self.values).split_first_mut()?;

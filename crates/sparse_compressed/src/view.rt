@@ -77,7 +77,7 @@ impl<'a, T> CsView<'a, T> {
         self.major_dim
     }
 
-    /// Returns the number of stored places, including those whose value is zero.
+    /// Returns the number of entries, including those whose value is zero.
     pub fn nnz(&self) -> usize
         ensures nnz { result ≡ length self.now.pattern.indices }
         ensures sound { IsSound self.now }

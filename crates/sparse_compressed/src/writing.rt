@@ -1,4 +1,4 @@
-//! Mutable borrows of the values: all of them, or the value at one place.
+//! Mutable borrows of the values: all of them, or the value of one entry.
 
 ghost use Rattle.std.specs.Prelude.{◌≡◌, ◌<◌, length, slice_index_or};
 ghost use Rattle.std.specs.Borrow.{sem};
@@ -6,10 +6,10 @@ ghost use Rattle.sparse_compressed.specs.StoredEntries.{IsInBounds};
 ghost use Rattle.sparse_compressed.specs.Lanes.{lane_parts};
 ghost use Rattle.sparse_compressed.specs.Writing.{LendsValues, LendsFound};
 ghost use Rattle.sparse_compressed.specs.Writing.{LendsIndexed, LendsElement};
-ghost use Rattle.sparse_compressed.specs.Writing.{IsFoundAt, IsEntryMutAt, IsLentEntryOf};
+ghost use Rattle.sparse_compressed.specs.Writing.{IsFoundAt, IsEntryMutAt, IsMutLaneEntryOf};
 
 use crate::CsMatrix;
-use crate::lane::{LaneIndices, position_of};
+use crate::lane::{LaneIndices, offset_of};
 use sparse_pattern::entry::{Found, Missing, SparseEntry, SparseEntryMut};
 use sparse_pattern::pattern::SparsityPattern;
 
@@ -46,7 +46,7 @@ impl<T> CsMatrix<T> {
         )
     }
 
-    /// Returns the value at a pair of indices, borrowed mutably, or the reason why there is none. Binary search in the
+    /// Returns the value stored at a pair of indices, borrowed mutably, or why there is none. Binary search in the
     /// lane.
     pub fn find_mut(&mut self, major_index: usize, minor_index: usize) -> Found<'_, T>
         ensures* writes_back { sem 𝓛 (LendsFound T.row self.entry major_index minor_index result) }
@@ -57,13 +57,14 @@ impl<T> CsMatrix<T> {
         {
             return Found::Nothing(Missing::OutOfBounds);
         }
-        match position_of(&self.sparsity_pattern, major_index, minor_index) {
+        match offset_of(&self.sparsity_pattern, major_index, minor_index) {
             Some(p) => Found::Value(&mut self.values[p]),
             None => Found::Nothing(Missing::NotStored),
         }
     }
 
-    /// Returns the entry at a pair of indices, borrowed mutably. Both must be within bounds. Binary search in the lane.
+    /// Returns the entry at a pair of indices, borrowed mutably, or `Zero` if none is stored. Both indices must be
+    /// within bounds. Binary search in the lane.
     pub fn index_entry_mut(
         &mut self,
         major_index: usize,
@@ -74,38 +75,39 @@ impl<T> CsMatrix<T> {
             (LendsIndexed T.row self.entry major_index minor_index result) }
         ensures entry { IsEntryMutAt self.old major_index minor_index result }
     {
-        match position_of(&self.sparsity_pattern, major_index, minor_index) {
+        match offset_of(&self.sparsity_pattern, major_index, minor_index) {
             Some(p) => SparseEntryMut::NonZero(&mut self.values[p]),
             None => SparseEntryMut::Zero,
         }
     }
 }
 
-/// Returns an element of a slice, borrowed mutably. `position` must be less than the length of the slice.
-pub fn element_mut<'a, T>(values: &'a mut [T], position: usize) -> &'a mut T
-    requires { position < length values.old }
-    ensures* writes_back { sem 𝓛 (LendsElement T.row values.entry position result) }
-    ensures value { result.now ≡ slice_index_or values.old position result.now }
+/// Returns an element of a slice, borrowed mutably. `offset` must be less than the length of the slice.
+pub fn element_mut<'a, T>(values: &'a mut [T], offset: usize) -> &'a mut T
+    requires { offset < length values.old }
+    ensures* writes_back { sem 𝓛 (LendsElement T.row values.entry offset result) }
+    ensures value { result.now ≡ slice_index_or values.old offset result.now }
 {
-    &mut values[position]
+    &mut values[offset]
 }
 
-/// Returns the entry at an index of a lane given by its parts, or `None` if the index is out of bounds. Binary search.
+/// Returns the entry at an index of the lane with these indices and values, `Zero` if none is stored, or `None` if the
+/// index is out of bounds. Binary search.
 pub fn entry_in<'a, T>(
     minor_dim: usize,
     indices: &LaneIndices<'_>,
     values: &'a [T],
     minor_index: usize,
 ) -> Option<SparseEntry<'a, T>>
-    ensures { IsLentEntryOf (lane_parts minor_dim indices.now values.now) minor_index result }
+    ensures { IsMutLaneEntryOf (lane_parts minor_dim indices.now values.now) minor_index result }
 {
     if minor_index >= minor_dim {
         return None;
     }
-    match indices.position_of(minor_index) {
-        Some(position) => {
-            if position < values.len() {
-                Some(SparseEntry::NonZero(&values[position]))
+    match indices.offset_of(minor_index) {
+        Some(offset) => {
+            if offset < values.len() {
+                Some(SparseEntry::NonZero(&values[offset]))
             } else {
                 Some(SparseEntry::Zero)
             }

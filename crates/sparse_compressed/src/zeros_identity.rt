@@ -12,8 +12,7 @@ use sparse_pattern::pattern::SparsityPattern;
 use std::alloc::{AllocError, Global};
 
 impl<T> CsMatrix<T> {
-    /// Returns a matrix without stored places. Allocates `major_dim + 1` offsets, and fails only if that allocation
-    /// fails.
+    /// Returns a matrix without entries. Allocates `major_dim + 1` offsets, and fails only if that allocation fails.
     pub fn zeros(alloc: Global, major_dim: usize, minor_dim: usize) -> Result<Self, AllocError>
         ensures is { IfOk result (λ m. m ≡ compressed_of (empty_raw major_dim minor_dim) []) }
         ensures sound { IfOk result IsSound }
@@ -42,7 +41,7 @@ impl<T: Ring> CsMatrix<T> {
     }
 }
 
-// The numbers below n, rising.
+// Returns the numbers less than `n`, increasing.
 fn numbers_below(alloc: Global, n: usize) -> Result<Vec<usize>, AllocError>
     ensures count { IfOk result (λ v. vec_len v ≡ n) }
     ensures numbers { IfOk result (λ v. EachIndex v.items (λ k. slice_index v.items k ≡ k)) }
@@ -54,7 +53,7 @@ fn numbers_below(alloc: Global, n: usize) -> Result<Vec<usize>, AllocError>
     Ok(numbers)
 }
 
-// n ones.
+// Returns `n` ones.
 fn ones<T: Ring>(alloc: Global, n: usize) -> Result<Vec<T>, AllocError>
     ensures count { IfOk result (λ v. vec_len v ≡ n) }
     ensures ones { IfOk result (λ v. All (λ x. T.value x ≡ T.ring.one) v.items) }

@@ -1,4 +1,4 @@
--- What dense matrices have once they are written, as stored values and as plain matrices.
+-- The values and the plain matrix of a dense matrix after the triplets are written.
 use Rattle.std.proofs.Common.{◌≡◌, ℕ, zero, suc, ◌<◌, ◌⊎◌, inl, inr, true, false, ◌&&◌}
 use Rattle.std.proofs.Common.{if◌then◌else◌, List, [], ◌∷◌, Option, Some, None, length, get_or, map}
 use Rattle.std.proofs.Common.{Contains, All, ap, sym, subst, ◌∙◌, refl, arith}
@@ -17,7 +17,7 @@ use Rattle.sparse_algebra.specs.Plain.{Plain, IsProper, IsWithin, is_at}
 use Rattle.sparse_coo_dense.specs.Coo.{Coo, IsInside}
 use Rattle.sparse_coo_dense.specs.Dense.{Dense, value_at}
 use Rattle.sparse_coo_dense.specs.DensePlain.{is_inside, plain_of_dense, plain_full}
-use Rattle.sparse_pattern.proofs.LaneOrder.{length-entries, entries_are_places}
+use Rattle.sparse_pattern.proofs.LaneOrder.{length-entries, Contains-entries_of}
 use Rattle.sparse_algebra.proofs.PlainLaws.{proper_transpose, within_plain_of_triplets}
 use Rattle.sparse_algebra.proofs.PlainLaws.{within_transpose, proper_plain_of_triplets}
 use Rattle.sparse_algebra.proofs.PlainLemmas.{same_plain}
@@ -25,17 +25,17 @@ use Rattle.sparse_algebra.proofs.RingLemmas.{zero_add}
 use Rattle.sparse_algebra.proofs.SumLemmas.{where_yes, where_no}
 use Rattle.sparse_compressed.specs.Compressed.{Compressed, IsSound, zip_values}
 use Rattle.sparse_compressed.specs.Compressed.{lane_triplets, transposed}
-use Rattle.sparse_compressed.specs.StoredEntries.{place_of}
+use Rattle.sparse_compressed.specs.StoredEntries.{find_offset}
 use Rattle.sparse_coo_dense.specs.CooPlain.{plain_of_coo}
 use Rattle.sparse_compressed.specs.PlainOfLanes.{plain_of_rows, plain_of_cols}
-use Rattle.sparse_pattern.proofs.Positions.{one_position}
-use Rattle.sparse_compressed.proofs.Arrays.{unnamed}
+use Rattle.sparse_pattern.proofs.OffsetsInLanes.{one_offset}
+use Rattle.sparse_compressed.proofs.Arrays.{value_at-none}
 use Rattle.sparse_compressed.proofs.Arrays.{named, pairs_of-triplets, pair_is}
-use Rattle.sparse_compressed.proofs.Arrays.{test_yes, position_within, entry_at, position_of_entry}
-use Rattle.sparse_compressed.proofs.Arrays.{value_at_position, proper_rows}
+use Rattle.sparse_compressed.proofs.Arrays.{test_yes, offset_within, entry_at, offset_of_entry}
+use Rattle.sparse_compressed.proofs.Arrays.{value_at_offset, proper_rows}
 use Rattle.sparse_compressed.proofs.Arrays.{value_at as sum_at}
-use Rattle.sparse_compressed.proofs.Inside.{lane_triplets-inside}
-use Rattle.sparse_compressed.proofs.LaneSearch.{place_of_is_position}
+use Rattle.sparse_compressed.proofs.TripletBounds.{lane_triplets-inside}
+use Rattle.sparse_compressed.proofs.LaneSearch.{find_offset-is_offset}
 use Rattle.sparse_convert.specs.ToDense.{stored_or_zero, IsDenseOfRows, IsDenseOfCols}
 use Rattle.sparse_convert.proofs.DenseWriting.{all_written, written, written-nowhere}
 use Rattle.sparse_convert.proofs.DenseWriting.{written-transposed, IsWritten}
@@ -49,7 +49,7 @@ none_or_some None = inl refl
 none_or_some (Some x) = inr (x, refl)
 
 module _ {T : Type 0} where
-  -- one triplet alone is at the pair
+  -- exactly one triplet has the pair
   written_once : (i j p : ℕ) (c z : T) (ps : List (ℕ × ℕ)) (vs : List T) → length ps ≡ length vs
       → p < length ps → get_or ps p (0, 0) ≡ (i, j)
       → ((q : ℕ) → q < length ps → get_or ps q (0, 0) ≡ (i, j) → q ≡ p)
@@ -81,35 +81,35 @@ module _ {T : Type 0} where
       (λ q l h. omega (arith, only (suc q) (omega arith) h))
 
   module _ {m : Compressed T} (sound : IsSound m) where
-    unstored : (i j : ℕ) → place_of m.pattern i j ≡ None
+    unstored : (i j : ℕ) → find_offset m.pattern i j ≡ None
         → list_any (is_at i j) (lane_triplets m) ≡ false
     unstored i j none = elim (true_or_false (list_any (is_at i j) (lane_triplets m))) [
       | inl hit ↦
           let pairs = pairs_of-triplets (entries_of m.pattern) m.values
           (length-entries m.pattern sound.valid ∙ sym sound.count) in
-          let place = (entries_are_places m.pattern sound.valid i j).0
+          let place = (Contains-entries_of m.pattern sound.valid i j).0
           (subst (λ l. Contains l (i, j)) pairs ((named i j (lane_triplets m)).0 hit)) in
           absurd (none-some place.at
-          (sym none ∙ (place_of_is_position m.pattern sound.valid i j place.at).1
+          (sym none ∙ (find_offset-is_offset m.pattern sound.valid i j place.at).1
           (place.in_lane, place.index)))
       | inr miss ↦ miss
     ]
 
-    -- what is written at a pair is what is stored there
+    -- the value written at a pair is the value stored there
     written_stored : (z : T) (i j : ℕ)
         → written replaced z (lane_triplets m) i j ≡ stored_or_zero z m i j
-    written_stored z i j = elim (none_or_some (place_of m.pattern i j)) [
+    written_stored z i j = elim (none_or_some (find_offset m.pattern i j)) [
       | inl none ↦ rw none (written-nowhere replaced z (lane_triplets m) i j (unstored i j none))
       | inr some ↦
           let d = m.pattern in
           let p = some.0 in
-          let at = (place_of_is_position d sound.valid i j p).0 some.1 in
+          let at = (find_offset-is_offset d sound.valid i j p).0 some.1 in
           let long = length-entries d sound.valid in
           rw some.1 (written_once i j p z z (entries_of d) m.values
-          (long ∙ sym sound.count) (omega (arith, long, position_within d sound.valid i j p at))
+          (long ∙ sym sound.count) (omega (arith, long, offset_within d sound.valid i j p at))
           (entry_at d sound.valid i p at.0 ∙ ap (λ x. (i, x)) at.1)
-          (λ q lt is. let there = position_of_entry d sound.valid i j q (omega (arith, long, lt))
-          is in sym (one_position d sound.valid i p q at.0 there.0 (at.1 ∙ sym there.1))))
+          (λ q lt is. let there = offset_of_entry d sound.valid i j q (omega (arith, long, lt))
+          is in sym (one_offset d sound.valid i p q at.0 there.0 (at.1 ∙ sym there.1))))
     ]
 
     pub rows_written : {z : T} {rest : List (ℕ × ℕ × T)} {d : Dense T} → rest ≡ []
@@ -133,7 +133,7 @@ module _ {T : Type 0} where
           ∙ written-transposed replaced z (lane_triplets m) i j ∙ written_stored z j i;
     }
 
-    -- the columns' triplets are within the shape
+    -- the transposed triplets of columns are within the shape
     pub transposed_inside : All (λ t. (t.0 < m.pattern.minor_dim) × (t.1 < m.pattern.major_dim))
         (map transposed (lane_triplets m))
     transposed_inside = All-map (λ t. (t.0 < m.pattern.minor_dim) × (t.1 < m.pattern.major_dim))
@@ -148,7 +148,7 @@ module _ (R : CommRing) {T : Type 0} (f : T → R.Carrier) where
   pub added_there : (w x y v : T) → f w ≡ R.add (f x) (f v) → x ≡ y → f w ≡ added (f y) v
   added_there w x y v sum same = sum ∙ ap (λ z. added (f z) v) same
 
-  -- what is added up at a pair is the sum there
+  -- the value accumulated at a pair is the sum of the triplets with that pair
   pub written_sum : (c : R.Carrier) (ts : List (ℕ × ℕ × T)) (i j : ℕ)
       → written added c ts i j ≡ R.add c (sum_at R f ts i j)
   written_sum c [] i j = sym (R.laws.add_zero c)
@@ -164,12 +164,13 @@ module _ (R : CommRing) {T : Type 0} (f : T → R.Carrier) where
   ]
 
   module _ (z : T) (zero_law : f z ≡ R.zero) where
-    -- a dense matrix with the values of a plain one at all pairs inside
-    pub dense_stands : (d : Dense T) (a : Plain R) → IsProper a → IsWithin a → d.nrows ≡ a.rows
+    -- a dense matrix that has the values of a plain matrix at all pairs within the shape represents
+    -- it, with every pair as a place
+    pub dense_represents : (d : Dense T) (a : Plain R) → IsProper a → IsWithin a → d.nrows ≡ a.rows
         → d.ncols ≡ a.cols
         → ((i j : ℕ) → i < a.rows → j < a.cols → f (value_at d i j z) ≡ a.value i j)
         → plain_of_dense R f d ≡ plain_full R a
-    dense_stands d a proper within rows cols values =
+    dense_represents d a proper within rows cols values =
         same_plain (plain_of_dense R f d) (plain_full R a) rows cols has_same value_same
       where
         has_same : (i j : ℕ) → is_inside d i j ≡ (nat_lt i a.rows && nat_lt j a.cols)
@@ -197,10 +198,10 @@ module _ (R : CommRing) {T : Type 0} (f : T → R.Carrier) where
               where_no R (is_inside d i j) _ (has_same i j ∙ miss) ∙ sym (proper i j off)
         ]
 
-    pub coo_stands : (m : Coo T) {d : Dense T} {rest : List (ℕ × ℕ × T)} → IsInside m → rest ≡ []
+    pub coo_represented : (m : Coo T) {d : Dense T} {rest : List (ℕ × ℕ × T)} → IsInside m → rest ≡ []
         → IsWritten added f (f z) m.nrows m.ncols m.triplets rest d
         → plain_of_dense R f d ≡ plain_full R (plain_of_coo R f m)
-    coo_stands m {d} inside end done = dense_stands d (plain_of_coo R f m)
+    coo_represented m {d} inside end done = dense_represents d (plain_of_coo R f m)
         (proper_plain_of_triplets R f m.nrows m.ncols m.triplets)
         (within_plain_of_triplets R f m.nrows m.ncols m.triplets inside) done.rows done.cols
         (λ i j row col. all_written end done i j z row col ∙ written_sum (f z) m.triplets i j
@@ -209,27 +210,27 @@ module _ (R : CommRing) {T : Type 0} (f : T → R.Carrier) where
 
     module _ (m : Compressed T) (sound : IsSound m) where
       stored_means : (i j : ℕ) → f (stored_or_zero z m i j) ≡ (plain_of_rows R f m).value i j
-      stored_means i j = elim (none_or_some (place_of m.pattern i j)) [
+      stored_means i j = elim (none_or_some (find_offset m.pattern i j)) [
         | inl none ↦ rw none
-            (zero_law ∙ sym (unnamed R f i j (lane_triplets m) (unstored sound i j none)))
+            (zero_law ∙ sym (value_at-none R f i j (lane_triplets m) (unstored sound i j none)))
         | inr some ↦ rw some.1
-            (sym (value_at_position R f m.pattern sound.valid m.values sound.count z i j some.0
-            ((place_of_is_position m.pattern sound.valid i j some.0).0 some.1)))
+            (sym (value_at_offset R f m.pattern sound.valid m.values sound.count z i j some.0
+            ((find_offset-is_offset m.pattern sound.valid i j some.0).0 some.1)))
       ]
 
       within_rows : IsWithin (plain_of_rows R f m)
       within_rows = within_plain_of_triplets R f m.pattern.major_dim m.pattern.minor_dim
           (lane_triplets m) (lane_triplets-inside m sound)
 
-      pub rows_stand : (d : Dense T) → IsDenseOfRows z m d
+      pub rows_represented : (d : Dense T) → IsDenseOfRows z m d
           → plain_of_dense R f d ≡ plain_full R (plain_of_rows R f m)
-      rows_stand d has = dense_stands d (plain_of_rows R f m) (proper_rows R f m) within_rows
+      rows_represented d has = dense_represents d (plain_of_rows R f m) (proper_rows R f m) within_rows
           has.rows has.cols
           (λ i j row col. ap f (has.values i j z row col) ∙ stored_means i j)
 
-      pub cols_stand : (d : Dense T) → IsDenseOfCols z m d
+      pub cols_represented : (d : Dense T) → IsDenseOfCols z m d
           → plain_of_dense R f d ≡ plain_full R (plain_of_cols R f m)
-      cols_stand d has = dense_stands d (plain_of_cols R f m)
+      cols_represented d has = dense_represents d (plain_of_cols R f m)
           (proper_transpose R (plain_of_rows R f m) (proper_rows R f m))
           (within_transpose R (plain_of_rows R f m) within_rows) has.rows has.cols
           (λ i j row col. ap f (has.values i j z row col) ∙ stored_means j i)

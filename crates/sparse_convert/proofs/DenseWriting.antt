@@ -14,13 +14,13 @@ use Rattle.sparse_algebra.proofs.PlainLemmas.{and_comm}
 use Rattle.sparse_compressed.specs.Compressed.{transposed}
 use Rattle.sparse_compressed.proofs.Arrays.{pair_is}
 
--- the test of a written place
+-- the test whether a pair is the written one
 same_test : (a b i j : ℕ) → (i == a && j == b) ≡ (nat_eq a i && nat_eq b j)
 same_test a b i j = ap (λ x. x && j == b) (nat_eq_equiv.symm i a)
     ∙ ap (λ x. nat_eq a i && x) (nat_eq_equiv.symm j b)
 
 module _ {T C : Type 0} (step : C → T → C) where
-  -- what is at (i, j) once each triplet there made its step from c
+  -- the value at (i, j) after a step from c for each triplet with that pair
   abbrev pub written : C → List (ℕ × ℕ × T) → ℕ → ℕ → C
   written c [] i j = c
   written c (t ∷ ts) i j = written (if is_at i j t then step c t.2 else c) ts i j
@@ -43,7 +43,7 @@ module _ {T C : Type 0} (step : C → T → C) where
       ∙ written-transposed (if is_at j i t then step c t.2 else c) ts i j
 
   module _ (f : T → C) where
-    -- the matrix while the triplets of `rest` are still to be written
+    -- the dense matrix before the triplets of `rest` are written
     pub record IsWritten (c : C) (nrows ncols : ℕ) (all rest : List (ℕ × ℕ × T)) (d : Dense T) :
         Type 0 where
       pub rows : d.nrows ≡ nrows
@@ -83,7 +83,7 @@ module _ {T C : Type 0} {step : C → T → C} {f : T → C} where
         col = omega (arith, within.1, kept.cols);
       }
 
-      -- a value that was read there is read whatever stands for what is past the end
+      -- a value that is read within the shape does not depend on the default
       pub read_there : {x : T} → x ≡ value_at d t.0 t.1 x → (z : T) → x ≡ value_at d t.0 t.1 z
       read_there {x} is z =
           let inside : t.1 * d.nrows + t.0 < length d.values =

@@ -1,4 +1,4 @@
--- Tests and sums over lists that are mapped, filtered or joined, and filters of what is mapped.
+-- `list_any`, `sum_by` and `filter` of lists that are mapped, filtered or flattened.
 use Rattle.std.proofs.Common.{◌≡◌, Bool, true, false, ◌&&◌, cond, List, [], ◌∷◌, map, refl, ap, sym}
 use Rattle.std.proofs.Common.{◌∙◌}
 use Rattle.std.specs.Prelude.{◌||◌}

@@ -1,4 +1,5 @@
--- A list in order is compressed as it is read: each triplet goes to the end of the open lane.
+-- A sorted list is compressed in one pass: each triplet is appended to the open lane, or added to
+-- its last entry.
 use Rattle.std.proofs.Common.{◌≡◌, ◌≢◌, ℕ, zero, suc, ◌+◌, ◌-◌, ◌<◌, ◌≤◌, inl, inr}
 use Rattle.std.proofs.Common.{List, [], ◌∷◌, ◌++◌, length, take, replicate}
 use Rattle.std.proofs.Common.{slice_index, append_assoc, append-nil, take_all, refl, sym, ◌∙◌}
@@ -11,12 +12,12 @@ use Rattle.sparse_convert.specs.InnerMerged.{AreMerged, AreLanesMerged, KeepsFir
 use Rattle.sparse_convert.specs.InnerInOrder.{AreInOrder}
 use Rattle.sparse_convert.proofs.Merging.{empty_merged}
 use Rattle.sparse_convert.proofs.MergedLanes.{no_lanes_merged, lanes_merged_more, merged_with}
-use Rattle.sparse_convert.proofs.Offsets.{offset_front, offset_end, offsets_less, offsets_more}
+use Rattle.sparse_convert.proofs.Offsets.{offset_prefix, offset_end, offsets_less, offsets_more}
 use Rattle.sparse_convert.proofs.Offsets.{offsets_ordered}
 use Rattle.sparse_convert.proofs.PlacedByKey.{pushed_here, pushed_other}
 use Rattle.sparse_convert.proofs.Triplets.{lane_past, triplet_count}
 
--- a triplet is the last entry of its lane, and other lanes stay
+-- a triplet that is appended to the list is the last of its lane, and the other lanes are the same
 module _ {T : Type 0} (ts : List (ℕ × ℕ × T)) (t : ℕ × ℕ × T) where
   lane_pushed : triplets_of_lane (ts ++ t ∷ []) t.0 ≡ triplets_of_lane ts t.0 ++ (t.1, t.2) ∷ []
   lane_pushed = pushed_here (λ t. t.0) (λ t. (t.1, t.2)) t.0 ts t refl
@@ -43,7 +44,7 @@ module _ {R : CommRing} {T : Type 0} {f : T → R.Carrier} {z : T} where
       none = λ i lt. h.none i (omega arith);
     }
 
-    -- so are m lanes
+    -- m lanes are ended, and the next one is open
     more_ended : (m : ℕ) {n : ℕ} {starts : List ℕ} → AreInOrder R f z n ts starts is vs
         → AreInOrder R f z (n + m) ts (starts ++ replicate m (length is)) is vs
     more_ended zero {n} {starts} h =
@@ -57,7 +58,7 @@ module _ {R : CommRing} {T : Type 0} {f : T → R.Carrier} {z : T} where
         (subst (λ l. AreInOrder R f z (n + 1 + m) ts l is vs)
         (append_assoc starts (length is ∷ []) ends) (more_ended m (lane_ended h)))
 
-    -- and those up to lane r
+    -- the lanes before r are ended, and lane r is open
     pub lanes_ended : {n : ℕ} {starts : List ℕ} (r : ℕ) → n ≤ r → AreInOrder R f z n ts starts is vs
         → AreInOrder R f z r ts (starts ++ replicate (r + 1 - length starts) (length is)) is vs
     lanes_ended {n} {starts} r le h =
@@ -71,12 +72,12 @@ module _ {R : CommRing} {T : Type 0} {f : T → R.Carrier} {z : T} where
         (more_ended (r - n) h))
 
     module _ {n : ℕ} {starts : List ℕ} (h : AreInOrder R f z n ts starts is vs) where
-      -- the lanes up to the open one
+      -- the lanes before the open one
       before : (i : ℕ) → i < n → AreMerged R f z (triplets_of_lane ts i) is vs
           (slice_index starts i) (slice_index starts (i + 1))
       before i lt =
-          let front = offset_front n starts (length is) (offsets_less h.lanes.offsets).count in
-          rw (front i (omega arith), front (i + 1) (omega arith)) at
+          let prefix = offset_prefix n starts (length is) (offsets_less h.lanes.offsets).count in
+          rw (prefix i (omega arith), prefix (i + 1) (omega arith)) at
           (h.lanes.merged i (omega arith))
 
       -- the open lane
@@ -84,15 +85,15 @@ module _ {R : CommRing} {T : Type 0} {f : T → R.Carrier} {z : T} where
           (length is)
       open_lane =
           let count = (offsets_less h.lanes.offsets).count in
-          let front = offset_front n starts (length is) count n (omega arith) in
-          rw (front, offset_end n starts (length is) count) at (h.lanes.merged n (omega arith))
+          let prefix = offset_prefix n starts (length is) count n (omega arith) in
+          rw (prefix, offset_end n starts (length is) count) at (h.lanes.merged n (omega arith))
 
       pub open_start : slice_index starts n ≤ length is
       open_start =
           let count = (offsets_less h.lanes.offsets).count in
           omega (
             arith,
-            offset_front n starts (length is) count n (omega arith),
+            offset_prefix n starts (length is) count n (omega arith),
             offset_end n starts (length is) count,
             h.lanes.offsets.ordered n (omega arith),
           )
@@ -119,7 +120,7 @@ module _ {R : CommRing} {T : Type 0} {f : T → R.Carrier} {z : T} where
             none = λ i lt. lane_other ts t i (λ x. omega arith) ∙ h.none i lt;
           }
 
-      -- where the open lane has no triplet the lanes before it are complete
+      -- if the open lane has no triplet, the lanes before it are complete
       closed : triplets_of_lane ts n ≡ []
           → AreLanesMerged R f z (triplets_of_lane ts) n starts is vs
       closed empty =

@@ -18,7 +18,7 @@ module _ {T : Type 0} where
   abbrev pub has_index : ℕ → List (ℕ × T) → Bool
   has_index j es = list_any (λ e. eqb e.0 j) es
 
-  -- with one more entry
+  -- the test after one more entry is appended
   has_index-more : (es : List (ℕ × T)) (e : ℕ × T) (j : ℕ)
       → has_index j (es ++ e ∷ []) ≡ (has_index j es || eqb e.0 j)
   has_index-more es e j = list_any-append (λ e. eqb e.0 j) es (e ∷ [])
@@ -34,7 +34,7 @@ module _ {T : Type 0} where
   has_index-other es e j ne = has_index-more es e j
       ∙ ap (λ b. has_index j es || b) (nat_eq_no e.0 j ne) ∙ or_false (has_index j es)
 
-  -- what holds of the indices of all entries holds of one that is found
+  -- a property of the indices of all entries holds of an index that is found
   pub all_has : (P : ℕ → Type 0) (es : List (ℕ × T)) (j : ℕ) → All (λ e. P e.0) es
       → has_index j es ≡ true → P j
   all_has P [] j all has = cc
@@ -44,7 +44,7 @@ module _ {T : Type 0} where
   ]
 
 module _ (R : CommRing) {T : Type 0} (f : T → R.Carrier) where
-  -- nothing is added where no entry has the index
+  -- the sum is zero if no entry has the index
   pub index_sum-none : (es : List (ℕ × T)) (j : ℕ) → has_index j es ≡ false
       → index_sum R f es j ≡ R.zero
   index_sum-none [] j h = refl

@@ -1,4 +1,4 @@
-mod LentLists
+mod BorrowedLists
 mod PlacedTriplets
 mod SortedTriplets
 mod Folds
@@ -11,12 +11,11 @@ mod Offsets
 mod Triplets
 mod MergedLanes
 mod InOrder
-mod Apart
-mod Refusals
+mod SortedByMinor
 mod StoredTriplets
-mod Reaching
-pub mod FullLanes
-mod LaneGrowth
+mod ConversionsKeepPlain
+pub mod DenseLanes
+mod AppendedLanes
 mod NonzeroParts
 mod DenseWriting
 mod DenseValues

@@ -1,21 +1,21 @@
--- The merging pass over all lanes, and the plain matrix that it leaves.
+-- The merging pass over all lanes, and the plain matrix of the result.
 use Rattle.std.proofs.Common.{◌≡◌, ℕ, ◌+◌, ◌<◌, ◌≤◌, inl, inr, ◌↔◌, true, List, [], ◌∷◌, ◌++◌}
 use Rattle.std.proofs.Common.{length, All, slice_index, refl, ap, sym, ◌∙◌, subst, arith}
 use Rattle.sparse_algebra.proofs.Cases.{lt_add_one_cases, lt_or_ge}
 use Rattle.sparse_algebra.specs.Algebra.{CommRing}
-use Rattle.sparse_pattern.specs.Raw.{raw_of, IsValid, IsPlace}
+use Rattle.sparse_pattern.specs.Raw.{raw_of, IsValid, IsEntry}
 use Rattle.sparse_algebra.specs.Plain.{Plain, IsProper, plain_of_triplets}
 use Rattle.sparse_algebra.proofs.PlainLemmas.{same_plain}
 use Rattle.sparse_coo_dense.specs.Coo.{zip_triplets}
 use Rattle.sparse_compressed.specs.Compressed.{Compressed, compressed_of, IsSound}
 use Rattle.sparse_compressed.specs.PlainOfLanes.{plain_of_rows}
-use Rattle.sparse_compressed.proofs.Arrays.{stands}
-use Rattle.sparse_convert.specs.InnerTripletLanes.{AreTriplets, StandsFor, index_sum}
+use Rattle.sparse_compressed.proofs.Arrays.{plain_of_rows-from_places}
+use Rattle.sparse_convert.specs.InnerTripletLanes.{AreTriplets, Represents, index_sum}
 use Rattle.sparse_convert.specs.InnerTripletLanes.{triplets_of_lane}
 use Rattle.sparse_convert.specs.InnerMerged.{AreMerged, AreLanesMerged, KeepsFirst}
 use Rattle.sparse_convert.proofs.IndexSums.{has_index, index_sum-none, all_has}
 use Rattle.sparse_convert.proofs.Merging.{merged_kept}
-use Rattle.sparse_convert.proofs.Offsets.{offset_front, offset_end, offsets_more, offsets_ordered}
+use Rattle.sparse_convert.proofs.Offsets.{offset_prefix, offset_end, offsets_more, offsets_ordered}
 use Rattle.sparse_convert.proofs.Offsets.{offsets_within}
 use Rattle.sparse_convert.proofs.Triplets.{lane_below, lane_has, lane_past, lane_sum}
 
@@ -32,7 +32,7 @@ module _ {R : CommRing} {T : Type 0} {f : T → R.Carrier} {z : T} {lane : ℕ �
     merged = λ i lt. absurd (omega arith);
   }
 
-  -- lanes before an offset stay, and one more is merged behind it
+  -- lanes before an offset are the same, and one more is merged after it
   pub merged_with : (n : ℕ) (starts : List ℕ) {is js : List ℕ} {vs ws : List T}
       → length starts ≡ n + 1
       → ((i : ℕ) → i < n → slice_index starts (i + 1) ≤ slice_index starts n)
@@ -44,14 +44,14 @@ module _ {R : CommRing} {T : Type 0} {f : T → R.Carrier} {z : T} {lane : ℕ �
       (slice_index (starts ++ length js ∷ []) i) (slice_index (starts ++ length js ∷ []) (i + 1))
   merged_with n starts {js = js} {ws = ws} count up lanes keeps_is keeps_vs merged i lt =
       let all = starts ++ length js ∷ [] in
-      let front = offset_front n starts (length js) count in
+      let prefix = offset_prefix n starts (length js) count in
       elim (lt_add_one_cases i n lt) [
-        | inl before ↦ rw (front i (omega arith), front (i + 1) (omega arith))
+        | inl before ↦ rw (prefix i (omega arith), prefix (i + 1) (omega arith))
             (merged_kept (lanes i before) (λ p to. keeps_is p (omega (arith, up i before)))
             (λ p to. keeps_vs p (omega (arith, up i before))))
         | inr here ↦ subst (λ k. AreMerged R f z (lane k) js ws (slice_index all k)
             (slice_index all (k + 1))) (sym here)
-            (rw (front n (omega arith), offset_end n starts (length js) count) merged)
+            (rw (prefix n (omega arith), offset_end n starts (length js) count) merged)
       ]
 
   -- one more lane
@@ -70,7 +70,7 @@ module _ {R : CommRing} {T : Type 0} {f : T → R.Carrier} {z : T} {lane : ℕ �
         (subst (λ a. AreMerged R f z (lane n) js ws a (length js)) (sym h.offsets.last) merged);
   }
 
--- the plain matrix of the lanes' entries
+-- the plain matrix of the entries of lanes
 abbrev pub plain_of_entries : (R : CommRing) {T : Type 0} → (T → R.Carrier) → (ℕ → List (ℕ × T)) → ℕ
     → ℕ → Plain R
 plain_of_entries R f lane rows cols = record {
@@ -108,8 +108,8 @@ module _ {R : CommRing} {T : Type 0} {f : T → R.Carrier} {z : T} {lane : ℕ �
         cc
   ]
 
-  merged_places : (i j : ℕ) → IsPlace (raw_of n minor starts is) i j ↔ (has_index j (lane i) ≡ true)
-  merged_places i j = (
+  merged_entries : (i j : ℕ) → IsEntry (raw_of n minor starts is) i j ↔ (has_index j (lane i) ≡ true)
+  merged_entries i j = (
     λ place. subst (λ k. has_index k (lane i) ≡ true) place.index
         ((h.merged i place.in_lane.lane).named place.at place.in_lane.from place.in_lane.to),
     λ has.
@@ -121,19 +121,19 @@ module _ {R : CommRing} {T : Type 0} {f : T → R.Carrier} {z : T} {lane : ℕ �
   proper_lanes : IsProper (plain_of_entries R f lane n minor)
   proper_lanes i j miss = index_sum-none R f (lane i) j miss
 
-  -- a matrix that is made of the arrays stands for the entries
-  pub merged_stand : {m : Compressed T} → IsSound m
+  -- the matrix of the merged arrays has the plain matrix of the entries
+  pub merged_represents : {m : Compressed T} → IsSound m
       → m ≡ compressed_of (raw_of n minor starts is) vs
-      → StandsFor R f (plain_of_entries R f lane n minor) m
-  merged_stand sound made = record {
-    plain = ap (plain_of_rows R f) made ∙ stands R f z (compressed_of (raw_of n minor starts is) vs)
-        (plain_of_entries R f lane n minor) (subst IsSound made sound) proper_lanes refl refl
-        merged_places (λ i j p at. (h.merged i at.0.lane).sums p at.0.from at.0.to
+      → Represents R f (plain_of_entries R f lane n minor) m
+  merged_represents sound built = record {
+    plain = ap (plain_of_rows R f) built ∙ plain_of_rows-from_places R f z (compressed_of (raw_of n minor starts is) vs)
+        (plain_of_entries R f lane n minor) (subst IsSound built sound) proper_lanes refl refl
+        merged_entries (λ i j p at. (h.merged i at.0.lane).sums p at.0.from at.0.to
         ∙ ap (index_sum R f (lane i)) at.1);
     sound = sound;
   }
 
--- merged lanes of triplets are a sound matrix, which stands for the triplets
+-- merged lanes of triplets are a sound matrix, which has the plain matrix of the triplets
 module _ {R : CommRing} {T : Type 0} {f : T → R.Carrier} {z : T} {rows cols : ℕ}
     {majors minors starts is : List ℕ} {values vs : List T}
     (lists : AreTriplets rows majors minors values) (minors_below : All (λ j. j < cols) minors)
@@ -142,13 +142,13 @@ module _ {R : CommRing} {T : Type 0} {f : T → R.Carrier} {z : T} {rows cols : 
   pub triplets_valid : IsValid (raw_of rows cols starts is)
   triplets_valid = merged_valid (lane_below lists minors_below) (lane_past lists) h
 
-  pub triplets_stand : {m : Compressed T} → IsSound m
+  pub triplets_represented : {m : Compressed T} → IsSound m
       → m ≡ compressed_of (raw_of rows cols starts is) vs
-      → StandsFor R f (plain_of_triplets R f rows cols (zip_triplets majors minors values)) m
-  triplets_stand sound made =
+      → Represents R f (plain_of_triplets R f rows cols (zip_triplets majors minors values)) m
+  triplets_represented sound built =
       let ts = zip_triplets majors minors values in
       record {
-        plain = (merged_stand (lane_below lists minors_below) (lane_past lists) h sound made).plain
+        plain = (merged_represents (lane_below lists minors_below) (lane_past lists) h sound built).plain
             ∙ same_plain (plain_of_entries R f (triplets_of_lane ts) rows cols)
             (plain_of_triplets R f rows cols ts) refl refl (λ i j. lane_has i j ts)
             (λ i j. lane_sum R f i j ts);

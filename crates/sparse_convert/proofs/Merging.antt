@@ -1,4 +1,4 @@
--- The merging pass over one lane: an entry goes to the last place or to a new one.
+-- The merging pass over one lane: an entry is added to the last one or appended.
 use Rattle.std.proofs.Common.{◌≡◌, ◌≢◌, ℕ, zero, suc, ◌+◌, ◌-◌, ◌<◌, ◌≤◌, inl, inr, false}
 use Rattle.std.proofs.Common.{List, [], ◌∷◌, ◌++◌, length, take, get_or, set, slice_index}
 use Rattle.std.proofs.Common.{refl, ap, sym, ◌∙◌, subst, arith, length-append}
@@ -26,7 +26,7 @@ module _ {R : CommRing} {T : Type 0} {f : T → R.Carrier} {z : T} where
 
   module _ {lane : List (ℕ × T)} {is : List ℕ} {vs : List T} {start end : ℕ}
       (m : AreMerged R f z lane is vs start end) where
-    -- positions of a merged lane rise
+    -- the indices of a merged lane are strictly increasing
     merged_step : (p : ℕ) → start ≤ p → suc p < end → slice_index is p < slice_index is (suc p)
     merged_step p from to =
         let e : suc p - 1 ≡ p = omega arith in
@@ -43,7 +43,7 @@ module _ {R : CommRing} {T : Type 0} {f : T → R.Carrier} {z : T} where
       | inr here ↦ omega (arith, ap (slice_index is) here, merged_step q (omega arith) to)
     ]
 
-    -- arrays that keep what stands before the end keep the lane
+    -- a lane is the same in arrays that have the same elements before its end
     pub merged_kept : {js : List ℕ} {ws : List T} → KeepsFirst 0 end is js → KeepsFirst z end vs ws
         → AreMerged R f z lane js ws start end
     merged_kept keeps_is keeps_vs = record {
@@ -117,7 +117,7 @@ module _ {R : CommRing} {T : Type 0} {f : T → R.Carrier} {z : T} where
         let n = length is in
         let long : length js ≡ n + 1 = omega (arith, length-append is (e.0 ∷ [])) in
         let seam : slice_index js n ≡ e.0 = get_or_push is e.0 0 n refl in
-        let front : (p : ℕ) → p < n → slice_index js p ≡ slice_index is p =
+        let prefix : (p : ℕ) → p < n → slice_index js p ≡ slice_index is p =
         λ p to. get_or_append_left is (e.0 ∷ []) 0 p to in
         let front_value : (p : ℕ) → p < n → get_or ws p z ≡ get_or vs p z =
         λ p to. get_or_append_left vs (e.1 ∷ []) z p (omega (arith, sizes)) in
@@ -138,19 +138,19 @@ module _ {R : CommRing} {T : Type 0} {f : T → R.Carrier} {z : T} where
         ] in
         record {
           rising = λ p from to. elim (lt_or_ge p n) [
-            | inl less ↦ rw (front p less, front (p - 1) (omega arith)) (m.rising p from less)
+            | inl less ↦ rw (prefix p less, prefix (p - 1) (omega arith)) (m.rising p from less)
             | inr most ↦
                 let here : n ≡ p = omega arith in
                 omega (
                   arith,
-                  front (p - 1) (omega arith),
+                  prefix (p - 1) (omega arith),
                   before (p - 1) (omega arith) (omega arith),
                   ap (slice_index js) here,
                   seam,
                 )
           ];
           named = λ p from to. elim (lt_or_ge p n) [
-            | inl less ↦ ap (λ j. has_index j longer) (front p less)
+            | inl less ↦ ap (λ j. has_index j longer) (prefix p less)
                 ∙ has_index-other lane e (slice_index is p) (differ p from less)
                 ∙ m.named p from less
             | inr most ↦
@@ -160,12 +160,12 @@ module _ {R : CommRing} {T : Type 0} {f : T → R.Carrier} {z : T} where
           found = λ j has. elim (same_or_not e.0 j) [
             | inl here ↦ (n, from_start, omega arith, seam ∙ here)
             | inr other ↦ let p = m.found j (sym (has_index-other lane e j other) ∙ has) in
-                (p.0, p.1, omega (arith, p.2), front p.0 p.2 ∙ p.3)
+                (p.0, p.1, omega (arith, p.2), prefix p.0 p.2 ∙ p.3)
           ];
           sums = λ p from to. elim (lt_or_ge p n) [
             | inl less ↦ ap f (front_value p less) ∙ m.sums p from less
                 ∙ sym (index_sum-other R f lane e (slice_index is p) (differ p from less))
-                ∙ ap (index_sum R f longer) (sym (front p less))
+                ∙ ap (index_sum R f longer) (sym (prefix p less))
             | inr most ↦
                 let here : n ≡ p = omega arith in
                 let whole : f (get_or ws n z) ≡ index_sum R f longer (slice_index js n) =

@@ -23,7 +23,7 @@ use Rattle.sparse_convert.specs.FromDense.{IsNonzeroPart}
 use Rattle.sparse_convert.proofs.Folds.{any-filter, any-flat_map, any-map, sum_by-filter}
 use Rattle.sparse_convert.proofs.Folds.{sum_by-flat_map, sum_by-map, sum_where, where_and}
 use Rattle.sparse_convert.proofs.StoredTriplets.{plain_of_transposed_list}
-use Rattle.sparse_convert.proofs.FullLanes.{column_lanes, kept_columns}
+use Rattle.sparse_convert.proofs.DenseLanes.{column_lanes, kept_columns}
 
 -- ---- tests of numbers
 
@@ -49,7 +49,7 @@ module _ (R : CommRing) where
   nothing true x e = e
   nothing false x e = refl
 
-  -- of all values below n that at k is picked
+  -- a sum over the numbers below n of which only k counts is the value at k
   pick : (n k : ℕ) (h : ℕ → R.Carrier)
       → sum_by R (λ l. where_true R (nat_eq l k) (h l)) (below n) ≡ where_true R (nat_lt k n) (h k)
   pick zero k h = sym (ap (λ b. where_true R b (h k)) (lt_no k zero (omega arith)))
@@ -78,7 +78,7 @@ module _ (R : CommRing) where
       ]
 
   module _ {T : Type 0} (f : T → R.Carrier) where
-    -- the value at (i, j) of all triplets
+    -- the sum at (i, j) over all triplets is the value there
     full_sum : (n m : ℕ) (value : ℕ → ℕ → T) (i j : ℕ)
         → sum_by R (λ t. where_true R (is_at i j t) (f t.2)) (full_lanes n m value) ≡ where_true R
         (nat_lt i n && nat_lt j m) (f (value i j))
@@ -101,7 +101,7 @@ module _ (R : CommRing) where
 
     module _ (E : T → T → Bool) (z : T) (zero_is : f z ≡ R.zero)
         (decides : (x y : T) → (E x y ≡ true) ↔ (f x ≡ f y)) where
-      -- a value that is dropped adds nothing
+      -- a value that is not stored is zero, so it adds nothing
       sum_differs : (i j : ℕ) (ts : List (ℕ × ℕ × T))
           → sum_by R (λ t. where_true R (is_at i j t) (f t.2)) (filter (differs_from E z) ts)
           ≡ sum_by R (λ t. where_true R (is_at i j t) (f t.2)) ts
@@ -115,7 +115,7 @@ module _ (R : CommRing) where
           dropped true b x none = sym (nothing b x (none refl))
           dropped false b x none = refl
 
-      -- the pairs that are kept
+      -- a pair is kept exactly if it is within the shape and its value is not zero
       module _ (n m : ℕ) (value : ℕ → ℕ → T) (i j : ℕ) where
         any_full : list_any (is_at i j) (filter (differs_from E z) (full_lanes n m value))
             ≡ any_below n
@@ -153,7 +153,8 @@ module _ (R : CommRing) where
             let here = and_both _ _ h.2 (and_both _ _ (eq_yes i i refl) (eq_yes j j refl)) in
             any_full ∙ (any_is n _).1 (i, h.0, (any_is m _).1 (j, h.1, here))
 
-      -- the kept triplets of a plain matrix whose places are all pairs inside
+      -- the kept triplets are the nonzero part of a plain matrix whose places are all pairs within
+      -- its shape
       full_part : (n m : ℕ) (value : ℕ → ℕ → T) (a : Plain R) → n ≡ a.rows → m ≡ a.cols
           → ((i j : ℕ) → a.has i j ≡ (nat_lt i n && nat_lt j m))
           → ((i j : ℕ) → a.value i j ≡ where_true R (nat_lt i n && nat_lt j m) (f (value i j)))
@@ -205,7 +206,7 @@ module _ (R : CommRing) where
           value_of x =
               value_at (record { nrows = d.nrows; ncols = d.ncols; values = map f d.values }) i j x
 
-      -- row after row
+      -- row by row
       pub rows_part : (d : Dense T) (n m : ℕ) (ts : List (ℕ × ℕ × T)) → n ≡ d.nrows → m ≡ d.ncols
           → ts ≡ filter (differs_from E z) (row_triplets z d)
           → IsNonzeroPart (plain_of_dense R f d) (plain_of_triplets R f n m ts)
@@ -213,7 +214,7 @@ module _ (R : CommRing) where
           (full_part d.nrows d.ncols (λ i j. value_at d i j z) (plain_of_dense R f d) refl refl
           (λ i j. refl) (dense_value d))
 
-      -- column after column
+      -- column by column
       columns_part : (d : Dense T)
           → IsNonzeroPart (plain_of_dense R f d) (plain_transpose R
           (plain_of_triplets R f d.ncols d.nrows (filter (differs_from E z)

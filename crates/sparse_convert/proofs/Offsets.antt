@@ -1,4 +1,4 @@
--- Offsets of lanes never fall; one more lane is ended at their end.
+-- Offsets of lanes are non-decreasing, also with one more lane.
 use Rattle.std.proofs.Common.{◌≡◌, ℕ, zero, suc, ◌+◌, ◌-◌, ◌≤◌, inl, inr, List, [], ◌∷◌, ◌++◌}
 use Rattle.std.proofs.Common.{length, take, drop, slice_index, refl, ap, ◌∙◌, arith}
 use Rattle.std.proofs.Common.{length-append}
@@ -6,7 +6,7 @@ use Rattle.std.proofs.lemmas.List.{get_or_append_left, get_or_past, get_or_push}
 use Rattle.sparse_algebra.proofs.Cases.{le_cases, lt_add_one_cases}
 use Rattle.sparse_convert.specs.InnerTripletLanes.{AreOffsets, entries_of_lane}
 
--- past the last lane there is nothing
+-- a lane past the last one has no entries
 pub no_lane : {E : Type 0} (offsets : List ℕ) (entries : List E) (i : ℕ)
     → length offsets ≤ i + 1 → entries_of_lane offsets entries i ≡ []
 no_lane offsets entries i le =
@@ -36,8 +36,8 @@ module _ {n total : ℕ} {offsets : List ℕ} (are : AreOffsets n total offsets)
 
 -- offsets with one more lane, which ends at e
 module _ (n : ℕ) (starts : List ℕ) (e : ℕ) (count : length starts ≡ n + 1) where
-  pub offset_front : (p : ℕ) → p ≤ n → slice_index (starts ++ e ∷ []) p ≡ slice_index starts p
-  offset_front p le = get_or_append_left starts (e ∷ []) 0 p (omega (arith, count))
+  pub offset_prefix : (p : ℕ) → p ≤ n → slice_index (starts ++ e ∷ []) p ≡ slice_index starts p
+  offset_prefix p le = get_or_append_left starts (e ∷ []) 0 p (omega (arith, count))
 
   pub offset_end : slice_index (starts ++ e ∷ []) (n + 1) ≡ e
   offset_end = get_or_push starts e 0 (n + 1) count
@@ -45,23 +45,23 @@ module _ (n : ℕ) (starts : List ℕ) (e : ℕ) (count : length starts ≡ n + 
 pub offsets_more : {n total : ℕ} {starts : List ℕ} (e : ℕ) → AreOffsets n total starts → total ≤ e
     → AreOffsets (n + 1) e (starts ++ e ∷ [])
 offsets_more {n} {starts = starts} e are le =
-    let front = offset_front n starts e are.count in
+    let prefix = offset_prefix n starts e are.count in
     record {
       count = omega (arith, length-append starts (e ∷ []), are.count);
-      first = front 0 (omega arith) ∙ are.first;
+      first = prefix 0 (omega arith) ∙ are.first;
       last = offset_end n starts e are.count;
       ordered = λ i lt. elim (lt_add_one_cases i n lt) [
         | inl before ↦ omega (
           arith,
-          front i (omega arith),
-          front (i + 1) (omega arith),
+          prefix i (omega arith),
+          prefix (i + 1) (omega arith),
           are.ordered i before,
         )
         | inr here ↦ omega (
           arith,
           ap (slice_index (starts ++ e ∷ [])) here,
           ap (λ k. slice_index (starts ++ e ∷ []) (k + 1)) here,
-          front n (omega arith),
+          prefix n (omega arith),
           offset_end n starts e are.count,
           are.last,
         )
@@ -77,15 +77,15 @@ offsets_less {n} {e} {starts} are =
       length-append starts (e ∷ []),
       are.count,
     ) in
-    let front = offset_front n starts e count in
+    let prefix = offset_prefix n starts e count in
     record {
       count = count;
-      first = omega (arith, front 0 (omega arith), are.first);
+      first = omega (arith, prefix 0 (omega arith), are.first);
       last = refl;
       ordered = λ i lt. omega (
         arith,
-        front i (omega arith),
-        front (i + 1) (omega arith),
+        prefix i (omega arith),
+        prefix (i + 1) (omega arith),
         are.ordered i (omega arith),
       );
     }

@@ -1,4 +1,4 @@
--- The triplets of a compressed matrix, as three lists and transposed.
+-- The triplets of a compressed matrix, as three lists, and transposed.
 use Rattle.std.proofs.Common.{◌≡◌, ℕ, ◌<◌, List, [], ◌∷◌, length, map, nat_eq, ap}
 use Rattle.std.proofs.Common.{sym, ◌∙◌, refl, arith}
 use Rattle.std.proofs.lemmas.List.{length-map, same_lists, get_or_default, get_or-map}
@@ -14,12 +14,12 @@ use Rattle.sparse_pattern.specs.Raw.{Raw, IsValid, entries_of}
 use Rattle.sparse_pattern.proofs.LaneOrder.{length-entries}
 use Rattle.sparse_compressed.specs.Compressed.{Compressed, IsSound, zip_values}
 use Rattle.sparse_compressed.specs.Compressed.{lane_triplets, transposed}
-use Rattle.sparse_pattern.proofs.Positions.{lane_of_position}
+use Rattle.sparse_pattern.proofs.OffsetsInLanes.{lane_of_offset}
 use Rattle.sparse_compressed.proofs.Arrays.{entry_at, pairs_of-triplets}
-use Rattle.sparse_compressed.proofs.Inside.{lane_triplets-inside}
+use Rattle.sparse_compressed.proofs.TripletBounds.{lane_triplets-inside}
 use Rattle.sparse_convert.proofs.Folds.{any-map, any-same, sum_by-map}
 
--- the indices of the places are the pattern's
+-- the minor indices of the entries are the indices of the pattern
 indices-entries : (d : Raw) → IsValid d → map (λ (p : ℕ × ℕ). p.1) (entries_of d) ≡ d.indices
 indices-entries d valid =
     let long : length (map (λ (p : ℕ × ℕ). p.1) (entries_of d)) ≡ length d.indices =
@@ -27,7 +27,7 @@ indices-entries d valid =
     same_lists _ _ long (λ p z within.
     let lt : p < length d.indices = omega (arith, long, within) in
     let inside : p < length (entries_of d) = omega (arith, length-entries d valid) in
-    let lane = lane_of_position d valid p lt in
+    let lane = lane_of_offset d valid p lt in
     get_or-map (λ (p : ℕ × ℕ). p.1) (entries_of d) p (0, 0) z inside
     ∙ ap (λ e. e.1) (entry_at d valid lane.0 p lane.1) ∙ get_or_default d.indices p 0 z lt)
 
@@ -39,7 +39,7 @@ module _ {T : Type 0} where
   values-zip (p ∷ ps) [] e = absurd (omega arith)
   values-zip (p ∷ ps) (v ∷ vs) e = ap (λ l. v ∷ l) (values-zip ps vs (omega arith))
 
-  -- rows, columns and values of triplets whose first two parts have changed places
+  -- the transposed triplets are those of the exchanged lists of rows and columns
   pub zip_of_transposed : (ts : List (ℕ × ℕ × T))
       → zip_triplets (map (λ t. t.1) ts) (map (λ t. t.0) ts) (map (λ t. t.2) ts) ≡ map transposed ts
   zip_of_transposed [] = refl
@@ -49,7 +49,7 @@ module _ {T : Type 0} where
     long : length (entries_of m.pattern) ≡ length m.values
     long = length-entries m.pattern sound.valid ∙ sym sound.count
 
-    -- the parts of the stored pairs
+    -- the row or column lists of the triplets are those of the entries of the pattern
     parts_stored : (part : ℕ × ℕ → ℕ) → map (λ (t : ℕ × ℕ × T). part (t.0, t.1)) (lane_triplets m)
         ≡ map part (entries_of m.pattern)
     parts_stored part = sym (map-map part (λ (t : ℕ × ℕ × T). (t.0, t.1)) (lane_triplets m))
@@ -66,7 +66,7 @@ module _ {T : Type 0} where
     pub values_stored : map (λ (t : ℕ × ℕ × T). t.2) (lane_triplets m) ≡ m.values
     values_stored = values-zip (entries_of m.pattern) m.values long
 
-    -- they fit each other and the sizes, as rows and columns and the other way round
+    -- the lists are the parts of a coordinate list, by rows and by columns
     pub parts_by_rows : AreParts m.pattern.major_dim m.pattern.minor_dim
         (map (λ (t : ℕ × ℕ × T). t.0) (lane_triplets m))
         (map (λ (t : ℕ × ℕ × T). t.1) (lane_triplets m))
@@ -86,7 +86,7 @@ module _ {T : Type 0} where
       cols_bounded = parts_by_rows.rows_bounded;
     }
 
--- transposed triplets stand for the transpose
+-- the plain matrix of the transposed triplets is the transpose
 pub plain_of_transposed_list : (R : CommRing) {T : Type 0} (f : T → R.Carrier) (rows cols : ℕ)
     (ts : List (ℕ × ℕ × T))
     → plain_of_triplets R f cols rows (map transposed ts) ≡ plain_transpose R

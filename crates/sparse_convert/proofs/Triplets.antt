@@ -1,4 +1,4 @@
--- Lists of one length, read as triplets, and their lanes.
+-- Triplets as three lists of the same length, and their lanes.
 use Rattle.std.proofs.Common.{◌≡◌, ℕ, ◌+◌, ◌<◌, ◌≤◌, inl, inr, Bool, eqb, List, [], ◌∷◌, ◌++◌}
 use Rattle.std.proofs.Common.{length, take, map, filter, get_or, slice_index, All, IsPermutation}
 use Rattle.std.proofs.Common.{refl, ap, sym, ◌∙◌, arith}
@@ -18,13 +18,13 @@ use Rattle.sparse_coo_dense.specs.Coo.{AreParts, zip_triplets}
 use Rattle.sparse_coo_dense.proofs.TripletLists.{bounded, length-triplets, row_at, rows-zip}
 use Rattle.sparse_coo_dense.proofs.TripletLists.{triplet_at}
 use Rattle.sparse_compressed.proofs.Arrays.{value_at}
-use Rattle.sparse_convert.specs.InnerTripletLanes.{AreTriplets, LanesClimb, entries_of_lane}
+use Rattle.sparse_convert.specs.InnerTripletLanes.{AreTriplets, LanesStrictlyIncrease, entries_of_lane}
 use Rattle.sparse_convert.specs.InnerTripletLanes.{triplets_of_lane, index_sum, plain_of_lanes}
 use Rattle.sparse_convert.proofs.ByKey.{no_element, same_key, sorted-map}
 use Rattle.sparse_convert.proofs.Folds.{any-filter, any-map, sum_by-filter, sum_by-map, where_and}
 use Rattle.sparse_convert.proofs.IndexSums.{has_index}
 
--- the parts of a coordinate list, by rows and by columns
+-- the parts of a coordinate list are triplets by rows and by columns
 module _ {T : Type 0} {n m : ℕ} {rows cols : List ℕ} {values : List T}
     (parts : AreParts n m rows cols values) where
   pub by_rows : AreTriplets n rows cols values
@@ -58,7 +58,7 @@ module _ {T : Type 0} {n : ℕ} {majors minors : List ℕ} {values : List T}
   pub majors_back : map (λ (t : ℕ × ℕ × T). t.0) ts ≡ majors
   majors_back = rows-zip majors minors values row_count col_count
 
-  -- one triplet more
+  -- one more triplet
   pub next_triplet : (p : ℕ) (v : T) → p < length majors → v ≡ get_or values p v
       → take (p + 1) ts ≡ take p ts ++ (slice_index majors p, slice_index minors p, v) ∷ []
   next_triplet p v lt is = triplet_at majors minors values p (slice_index majors p)
@@ -80,7 +80,7 @@ module _ {T : Type 0} {n : ℕ} {majors minors : List ℕ} {values : List T}
     cols_bounded = minors_below;
   }
 
-  -- no triplet is in a lane past the bound
+  -- no triplet is in a lane at or above the bound
   pub lane_past : (i : ℕ) → n ≤ i → triplets_of_lane ts i ≡ []
   lane_past i le = ap (map (λ (t : ℕ × ℕ × T). (t.1, t.2)))
       (no_element (λ t. t.0) n i ts le (λ k t lt.
@@ -92,7 +92,8 @@ module _ {T : Type 0} {n : ℕ} {majors minors : List ℕ} {values : List T}
       (filter (λ t. eqb t.0 i) ts) (All-filter (λ t. eqb t.0 i) (λ t. t.1 < m) ts
       (λ k d lt. (all_inside minors_below k d lt).1))
 
-  -- what relates the minor indices of any two triplets of a lane relates those of its entries
+  -- a relation between the minor indices of any two triplets of a lane holds between those of its
+  -- entries
   lane_pairs : (P : ℕ → ℕ → Type 0)
       → ((p q : ℕ) → p < q → q < length majors → slice_index majors p ≡ slice_index majors q
       → P (slice_index minors p) (slice_index minors q))
@@ -110,7 +111,7 @@ module _ {T : Type 0} {n : ℕ} {majors minors : List ℕ} {values : List T}
       AllPairs-filter S test ts pairs p q d lt within
       (passes p (omega arith) ∙ sym (passes q within))
 
-  -- where minor indices never fall each lane is sorted
+  -- if the minor indices never decrease, each lane is sorted
   pub lane_sorted : IsNonDecreasing minors → (i : ℕ)
       → IsNonDecreasingBy (λ e. e.0) (triplets_of_lane ts i)
   lane_sorted up i = sorted-map (λ e. e.0) (λ t. (t.1, t.2)) (filter (λ t. eqb t.0 i) ts)
@@ -123,10 +124,10 @@ module _ {T : Type 0} {n : ℕ} {majors minors : List ℕ} {values : List T}
             omega (arith, ap (λ k. (get_or (filter (λ t. eqb t.0 i) ts) k d).1) e)
       ])
 
-  -- where the minor indices of a lane's triplets rise those of its entries do
-  pub lane_climbs : LanesClimb majors minors → (i : ℕ)
+  -- if the minor indices of each lane's triplets are strictly increasing, those of its entries are
+  pub lane_strictly_increases : LanesStrictlyIncrease majors minors → (i : ℕ)
       → AllPairs (λ e o. e.0 < o.0) (triplets_of_lane ts i)
-  lane_climbs climb i p q d lt within =
+  lane_strictly_increases increasing i p q d lt within =
       let lane = filter (λ t. eqb t.0 i) ts in
       let pair : ℕ × ℕ × T → ℕ × T = λ t. (t.1, t.2) in
       let size = length-map lane pair in
@@ -135,17 +136,18 @@ module _ {T : Type 0} {n : ℕ} {majors minors : List ℕ} {values : List T}
         arith,
         ap (λ e. e.0) (get_or-map pair lane p u d (omega arith)),
         ap (λ e. e.0) (get_or-map pair lane q u d (omega arith)),
-        lane_pairs (λ a b. a < b) climb i p q u lt (omega arith),
+        lane_pairs (λ a b. a < b) increasing i p q u lt (omega arith),
       )
 
--- the indices of a lane are the places of its row
+-- a lane has an index exactly if a triplet has that row and column
 pub lane_has : {T : Type 0} (i j : ℕ) (ts : List (ℕ × ℕ × T))
     → has_index j (triplets_of_lane ts i) ≡ list_any (is_at i j) ts
 lane_has i j ts = any-map (λ e. eqb e.0 j) (λ t. (t.1, t.2)) (filter (λ t. eqb t.0 i) ts)
     ∙ any-filter (λ t. eqb t.1 j) (λ t. eqb t.0 i) ts
 
 module _ (R : CommRing) {T : Type 0} (f : T → R.Carrier) where
-  -- the values of a lane are summed as those of its row
+  -- the sum over the entries of a lane with an index is the sum over the triplets with that row and
+  -- column
   pub lane_sum : (i j : ℕ) (ts : List (ℕ × ℕ × T))
       → index_sum R f (triplets_of_lane ts i) j ≡ value_at R f ts i j
   lane_sum i j ts =
@@ -154,12 +156,12 @@ module _ (R : CommRing) {T : Type 0} (f : T → R.Carrier) where
       ∙ sum_by-filter R (λ t. where_true R (eqb t.1 j) (f t.2)) (λ t. eqb t.0 i) ts
       ∙ sum_by-same R _ _ (λ t. sym (where_and R (eqb t.0 i) (eqb t.1 j) (f t.2))) ts
 
-  -- lanes that hold the triplets of their rows, in any order, stand for the triplets
-  pub lanes_stand : (rows cols : ℕ) (offsets : List ℕ) (entries : List (ℕ × T))
+  -- lanes of the triplets of each row, in any order, have the plain matrix of the triplets
+  pub lanes_represent : (rows cols : ℕ) (offsets : List ℕ) (entries : List (ℕ × T))
       (ts : List (ℕ × ℕ × T))
       → ((i : ℕ) → IsPermutation (triplets_of_lane ts i) (entries_of_lane offsets entries i))
       → plain_of_lanes R f rows cols offsets entries ≡ plain_of_triplets R f rows cols ts
-  lanes_stand rows cols offsets entries ts moved =
+  lanes_represent rows cols offsets entries ts moved =
       same_plain (plain_of_lanes R f rows cols offsets entries) (plain_of_triplets R f rows cols ts)
       refl refl
       (λ i j. sym (list_any-IsPermutation (λ e. eqb e.0 j) (triplets_of_lane ts i)

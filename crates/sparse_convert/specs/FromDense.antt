@@ -11,7 +11,7 @@ module _ {T : Type 0} where
   full_lanes n m value = flat_map (λ i. map {B = ℕ × ℕ × T} (λ k. (i, k, value i k)) (below m))
       (below n)
 
-  -- the triplets of all places of a dense matrix, row by row (z is the value outside the shape)
+  -- the triplets of all values of a dense matrix, row by row (z is the value outside the shape)
   abbrev pub row_triplets : T → Dense T → List (ℕ × ℕ × T)
   row_triplets z d = full_lanes d.nrows d.ncols (λ i j. value_at d i j z)
 

@@ -5,8 +5,8 @@ use Rattle.std.specs.List.{list_any}
 use Rattle.sparse_algebra.specs.Algebra.{CommRing}
 use Rattle.sparse_convert.specs.InnerTripletLanes.{AreOffsets, index_sum}
 
--- from start to end stand the indices of the lane's entries, each once and rising, and the sums of
--- their values
+-- from offset start to end the arrays have the indices of the lane's entries, each once and
+-- increasing, and for each index the sum of the values
 pub record AreMerged (R : CommRing) {T : Type 0} (f : T → R.Carrier) (zero : T)
     (lane : List (ℕ × T)) (indices : List ℕ) (values : List T) (start end : ℕ) : Type 0 where
   pub rising : (p : ℕ) → start < p → p < end → slice_index indices (p - 1) < slice_index indices p
@@ -17,11 +17,12 @@ pub record AreMerged (R : CommRing) {T : Type 0} (f : T → R.Carrier) (zero : T
   pub sums : (p : ℕ) → start ≤ p → p < end
       → f (slice_index_or values p zero) ≡ index_sum R f lane (slice_index indices p)
 
--- the first n elements stay
+-- the first n elements are the same
 abbrev pub KeepsFirst : {X : Type 0} → X → ℕ → List X → List X → Type 0
 KeepsFirst zero n xs ys = (p : ℕ) → p < n → slice_index_or ys p zero ≡ slice_index_or xs p zero
 
--- the arrays hold n lanes, of which lane i has the entries `lane i`, merged
+-- the arrays hold n lanes; lane i has the entries `lane i`, where those with the same index are
+-- added
 pub record AreLanesMerged (R : CommRing) {T : Type 0} (f : T → R.Carrier) (zero : T)
     (lane : ℕ → List (ℕ × T)) (n : ℕ) (starts indices : List ℕ) (values : List T) : Type 0 where
   pub offsets : AreOffsets n (length indices) starts

@@ -15,7 +15,7 @@ pub data Representation (T : Type 0) : Type 0 where
   Cols : Compressed T → Representation T
 
 module _ {T : Type 0} where
-  -- the stored places with their values row after row, and column after column
+  -- the entries as a list, row by row and column by column
   abbrev pub coo_of_rows : Compressed T → Coo T
   coo_of_rows m = coo_of m.pattern.major_dim m.pattern.minor_dim (lane_triplets m)
 
@@ -35,8 +35,8 @@ module _ {T : Type 0} where
     plain_of_representation (Rows m) = plain_of_rows R f m
     plain_of_representation (Cols n) = plain_of_cols R f n
 
-    -- what the conversion of the first to the representation of the second promises; there is none
-    -- from a representation to itself
+    -- the contract of the conversion from the first representation to the second; there is none
+    -- from a representation to one of the same format
     abbrev pub IsConverted : Representation T → Representation T → Type 0
     IsConverted (Triplets a) (Triplets b) = ⊥
     IsConverted (Triplets a) (Rows m) = plain_of_rows R f m ≡ plain_of_coo R f a
@@ -48,14 +48,15 @@ module _ {T : Type 0} where
     IsConverted (Cols n) (Rows m) = IsTranspose n m
     IsConverted (Cols m) (Cols n) = ⊥
 
-    -- x converted to the first of the representations, that to the next, and so on, ends with z
-    abbrev pub Leads : Representation T → List (Representation T) → Representation T → Type 0
-    Leads x [] z = x ≡ z
-    Leads x (y ∷ ys) z = IsSoundRepresentation y × IsConverted x y × Leads y ys z
+    -- x is converted to the first of the representations, that to the next, and so on; the last one
+    -- is z
+    abbrev pub ConvertsThrough : Representation T → List (Representation T) → Representation T → Type 0
+    ConvertsThrough x [] z = x ≡ z
+    ConvertsThrough x (y ∷ ys) z = IsSoundRepresentation y × IsConverted x y × ConvertsThrough y ys z
 
-    -- z is x, or comes from x by conversions, any number of them
-    abbrev pub IsReached : Representation T → Representation T → Type 0
-    IsReached x z = (ys : List (Representation T)) × Leads x ys z
+    -- z comes from x by any number of conversions, or is x
+    abbrev pub ConvertsTo : Representation T → Representation T → Type 0
+    ConvertsTo x z = (ys : List (Representation T)) × ConvertsThrough x ys z
 
     -- a list, a CSR and a CSC matrix that represent the same plain matrix
     pub record MeanOneMatrix (a : Coo T) (m n : Compressed T) : Type 0 where

@@ -1,11 +1,11 @@
 //! Conversions between coordinate lists, CSR, CSC and dense matrices.
 #![tactic(auto)]
 
-mod across;
+mod coarse_passes;
 mod counted;
 mod in_order;
 mod lanes;
 mod merge;
-mod nearness;
 mod passes;
 pub mod serial;
+mod sorted_by_minor;

@@ -1,11 +1,11 @@
-//! Compressed matrices of sorted lanes; entries with the same index are added.
+//! Compressed matrices of sorted lanes, where entries with the same index are added.
 
 ghost use Rattle.std.specs.Prelude.{◌≡◌, ℕ, ◌+◌, ◌-◌, ◌<◌, ◌≤◌, List, [], ◌∷◌, ◌++◌, All, IfOk};
 ghost use Rattle.std.specs.Prelude.{true, length, slice_index, vec_len, vec_capacity};
 ghost use Rattle.std.specs.Bool.{OnTrue};
 ghost use Rattle.std.specs.List.Sorted.{IsNonDecreasingBy};
 ghost use Rattle.sparse_convert.specs.InnerTripletLanes.{AreOffsets, entries_of_lane};
-ghost use Rattle.sparse_convert.specs.InnerTripletLanes.{plain_of_lanes, StandsFor};
+ghost use Rattle.sparse_convert.specs.InnerTripletLanes.{plain_of_lanes, Represents};
 ghost use Rattle.sparse_convert.specs.InnerMerged.{AreMerged, KeepsFirst};
 
 use sparse_algebra::scalar::Ring;
@@ -13,8 +13,8 @@ use sparse_compressed::CsMatrix;
 use sparse_pattern::pattern::SparsityPattern;
 use std::alloc::{AllocError, Global};
 
-/// Appends an entry to the lane that begins at `start`, or adds its value where the last entry has its index. Returns
-/// false if its index is smaller than that of the last entry.
+/// Appends an entry to the lane that begins at `start`, or adds its value to the last entry if the indices are the
+/// same. Returns false if the index is smaller than that of the last entry.
 #[inline]
 pub(crate) fn push_entry<T: Ring>(
     start: usize,
@@ -27,7 +27,7 @@ pub(crate) fn push_entry<T: Ring>(
     requires sizes { vec_len values.old ≡ vec_len indices.old }
     requires index_room { vec_len indices.old < vec_capacity indices.old }
     requires value_room { vec_len values.old < vec_capacity values.old }
-    ensures taken { (start < vec_len indices.old
+    ensures accepted { (start < vec_len indices.old
         → slice_index indices.old.items (vec_len indices.old - 1) ≤ index) → result ≡ true }
     ensures merged { OnTrue result ((lane : List (ℕ × T))
         → AreMerged T.ring T.value T.zero_value lane indices.old.items values.old.items start
@@ -58,7 +58,7 @@ pub(crate) fn push_entry<T: Ring>(
     true
 }
 
-// Appends a lane to the arrays, whose capacity suffices. Entries with the same index are added.
+// Appends a sorted lane to the arrays, whose capacity suffices. Entries with the same index are added.
 fn merge_lane<T: Ring>(lane: &[(usize, T)], indices: &mut Vec<usize>, values: &mut Vec<T>)
     requires sorted { IsNonDecreasingBy (λ e. e.0) lane.now }
     requires sizes { vec_len values.old ≡ vec_len indices.old }
@@ -77,13 +77,13 @@ fn merge_lane<T: Ring>(lane: &[(usize, T)], indices: &mut Vec<usize>, values: &m
 {
     let start = indices.len();
     for &(index, value) in lane {
-        // It is taken: the lane is sorted.
+        // Always true: the lane is sorted.
         push_entry(start, index, value, indices, values);
     }
 }
 
-/// The matrix of lanes of entries that are sorted by index. Entries with the same index are added.
-#[tactic(auto, using(crate::proofs::Refusals::refused))]
+/// Returns the matrix of lanes of entries that are sorted by index. Entries with the same index are added.
+#[tactic(auto, using(sparse_algebra::proofs::EarlyReturns::early_return))]
 pub(crate) fn merge_lanes<T: Ring>(
     alloc: Global,
     minor_dim: usize,
@@ -95,7 +95,7 @@ pub(crate) fn merge_lanes<T: Ring>(
         → IsNonDecreasingBy (λ e. e.0) (entries_of_lane offsets.now entries.now i) }
     requires below { (i : ℕ)
         → All (λ e. e.0 < minor_dim) (entries_of_lane offsets.now entries.now i) }
-    ensures { IfOk result (StandsFor T.ring T.value (plain_of_lanes T.ring T.value
+    ensures { IfOk result (Represents T.ring T.value (plain_of_lanes T.ring T.value
         (length offsets.now - 1) minor_dim offsets.now entries.now)) }
 {
     let major_dim = offsets.len() - 1;

@@ -1,4 +1,4 @@
--- The triplets of a block, pushed one by one.
+-- Pushing the triplets of a dense block, column by column.
 use Rattle.std.proofs.Common.{◌≡◌, ℕ, ◌+◌, ◌*◌, ◌<◌, ◌≤◌, ◌≢◌, ◌⊎◌, inl, inr, List, [], ◌∷◌, ◌++◌}
 use Rattle.std.proofs.Common.{length, append_assoc, add-one, ap, sym, ◌∙◌, refl, arith}
 use Rattle.std.specs.List.{flat_map}
@@ -13,7 +13,7 @@ use Rattle.sparse_coo_dense.specs.Dense.{Dense, value_at}
 use Rattle.sparse_coo_dense.specs.Blocks.{triplet_at, block_triplets, IsEmptyBlock, IsBlockInside}
 use Rattle.sparse_coo_dense.proofs.TripletLists.{triplets-push, sound_push}
 
--- one number more
+-- the lists of the numbers below n + 1 are those of the numbers below n, and then that of n
 pub flat_map-next : {X : Type 0} (f : ℕ → List X) (n : ℕ)
     → flat_map f (below (n + 1)) ≡ flat_map f (below n) ++ f n
 flat_map-next f n = ap (λ k. flat_map f (below k)) (add-one n)
@@ -25,12 +25,12 @@ flat_map-nothing f [] none = refl
 flat_map-nothing f (n ∷ ns) none = rw none (flat_map-nothing f ns none)
 
 module _ {T : Type 0} where
-  -- the block's triplets before the place (i, j)
+  -- the triplets of the block before row i of column j
   abbrev pub triplets_before : ℕ → ℕ → Dense T → ℕ → ℕ → List (ℕ × ℕ × T)
   triplets_before r c d j i = flat_map (λ j. flat_map (triplet_at r c d j) (below d.nrows))
       (below j) ++ flat_map (triplet_at r c d j) (below i)
 
-  -- the lists once the triplets before the place (i, j) were pushed
+  -- is, js and vs are the lists after the triplets before row i of column j are pushed
   pub record IsPushed (r c : ℕ) (d : Dense T) (is0 js0 : List ℕ) (vs0 : List T) (j i : ℕ)
       (is js : List ℕ) (vs : List T) : Type 0 where
     pub row_count : length is ≡ length vs
@@ -39,9 +39,9 @@ module _ {T : Type 0} where
     pub parts : (n m : ℕ) → AreParts n m is0 js0 vs0 → r + d.nrows ≤ n → c + d.ncols ≤ m
         → AreParts n m is js vs
 
-  at_place : (r c : ℕ) (d : Dense T) (j i : ℕ) (v : T) → j * d.nrows + i < length d.values
+  triplet_at_is : (r c : ℕ) (d : Dense T) (j i : ℕ) (v : T) → j * d.nrows + i < length d.values
       → v ≡ value_at d i j v → triplet_at r c d j i ≡ (r + i, c + j, v) ∷ []
-  at_place r c d j i v within is = rw (slice_get_read d.values (length d.values) (j * d.nrows + i) v
+  triplet_at_is r c d j i v within is = rw (slice_get_read d.values (length d.values) (j * d.nrows + i) v
       refl within is) refl
 
   next_before : (r c : ℕ) (d : Dense T) (j i : ℕ) (v : T) → j * d.nrows + i < length d.values
@@ -51,7 +51,7 @@ module _ {T : Type 0} where
       let columns = flat_map (λ j. flat_map (triplet_at r c d j) (below d.nrows)) (below j) in
       let rows = flat_map (triplet_at r c d j) (below i) in
       ap (λ l. columns ++ l) (flat_map-next (triplet_at r c d j) i
-      ∙ ap (λ l. rows ++ l) (at_place r c d j i v within is))
+      ∙ ap (λ l. rows ++ l) (triplet_at_is r c d j i v within is))
       ∙ sym (append_assoc columns rows ((r + i, c + j, v) ∷ []))
 
   pub one_pushed : {r c : ℕ} {d : Dense T} {is0 js0 : List ℕ} {vs0 : List T} {j i : ℕ}

@@ -1,4 +1,4 @@
--- The three lists of a matrix's triplets give the matrix again.
+-- Zipping the lists of the rows, columns and values of a matrix gives the matrix again.
 use Rattle.std.proofs.Common.{◌≡◌, ℕ, ◌<◌, All, List, length, map, ap, subst, sym, ◌∙◌}
 use Rattle.std.proofs.lemmas.List.{length-map}
 use Rattle.std.proofs.lemmas.List.Elements.{All-map}

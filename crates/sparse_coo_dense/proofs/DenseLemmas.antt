@@ -1,4 +1,4 @@
--- Places of a dense matrix, and its values.
+-- Dense matrices: the offsets of values, and the values after each operation.
 use Rattle.std.proofs.Common.{◌≡◌, ℕ, ◌+◌, ◌*◌, ◌/◌, ◌%◌, ◌<◌, ◌≤◌, ◌≢◌, ◌⊎◌, inl, inr, true, false}
 use Rattle.std.proofs.Common.{◌&&◌, ◌==◌, if◌then◌else◌, List, [], ◌∷◌, ◌++◌, length, get_or}
 use Rattle.std.proofs.Common.{replicate, slice_range, ap, sym, ◌∙◌, refl, arith}
@@ -13,13 +13,13 @@ use Rattle.std.proofs.Math.ListN.{length-append}
 use Rattle.std.proofs.Math.Seq.{get_or-append_seam}
 use Rattle.sparse_coo_dense.specs.Dense.{Dense, dense_of, value_at, with_value_at, HasValues}
 
--- equal positions belong to equal places
-pub position_row : (n i j k l : ℕ) → i < n → k < n → l * n + k ≡ j * n + i → k ≡ i
-position_row n i j k l row other e = sym (mod-mul-add l n k other) ∙ ap (λ p. p % n) e
+-- equal offsets j * n + i have equal rows i and columns j
+pub offset_row : (n i j k l : ℕ) → i < n → k < n → l * n + k ≡ j * n + i → k ≡ i
+offset_row n i j k l row other e = sym (mod-mul-add l n k other) ∙ ap (λ p. p % n) e
     ∙ mod-mul-add j n i row
 
-pub position_col : (n i j k l : ℕ) → i < n → k < n → l * n + k ≡ j * n + i → l ≡ j
-position_col n i j k l row other e = sym (div-mul-add l n k other) ∙ ap (λ p. p / n) e
+pub offset_col : (n i j k l : ℕ) → i < n → k < n → l * n + k ≡ j * n + i → l ≡ j
+offset_col n i j k l row other e = sym (div-mul-add l n k other) ∙ ap (λ p. p / n) e
     ∙ div-mul-add j n i row
 
 module _ {T : Type 0} where
@@ -49,8 +49,8 @@ module _ {T : Type 0} where
       by_tests (inl e) (inl f) = rw (e.0, f.0, e.1, f.1)
           (get_or-set_same d.values (j * d.nrows + i) w z within)
       by_tests (inl e) (inr f) = rw (e.0, f.0)
-          (stays (λ p. f.1 (position_col d.nrows i j k l row other p)))
-      by_tests (inr e) f = rw e.0 (stays (λ p. e.1 (position_row d.nrows i j k l row other p)))
+          (stays (λ p. f.1 (offset_col d.nrows i j k l row other p)))
+      by_tests (inr e) f = rw e.0 (stays (λ p. e.1 (offset_row d.nrows i j k l row other p)))
 
   pub set_values : (d : Dense T) (i j : ℕ) (w : T) → length d.values ≡ d.nrows * d.ncols
       → i < d.nrows → j < d.ncols
@@ -65,7 +65,7 @@ module _ {T : Type 0} where
         values = λ k l z inside _. one_set d i j w k l z row inside within;
       }
 
-  -- columns has what rows has, up to the place (i, j)
+  -- columns has the values of rows, up to row i of column j
   pub record IsFilled (n m : ℕ) (rows columns : List T) (j i : ℕ) : Type 0 where
     pub count : length columns ≡ j * n + i
     pub placed : (k l : ℕ) (z : T) → k < n → l * n + k < j * n + i
@@ -80,7 +80,7 @@ module _ {T : Type 0} where
       → i * m + j < length rows → IsFilled n m rows (columns ++ v ∷ []) j (i + 1)
   filled_more {n} {m} {rows} {columns} {j} {i} {v} filled row is within = record {
     count = omega (arith, length-append columns (v ∷ []), filled.count);
-    placed = λ k l z inside below. by_place k l z inside (eq-or-lt_of_le (omega arith));
+    placed = λ k l z inside below. by_offset k l z inside (eq-or-lt_of_le (omega arith));
   }
     where
       at_seam : (k l : ℕ) (z : T) → k ≡ i → l ≡ j
@@ -88,11 +88,11 @@ module _ {T : Type 0} where
       at_seam k l z e f = rw (e, f, ← filled.count)
           (get_or-append_seam columns v [] z ∙ is ∙ get_or_default rows (i * m + j) v z within)
 
-      by_place : (k l : ℕ) (z : T) → k < n → (l * n + k ≡ j * n + i) ⊎ (l * n + k < j * n + i)
+      by_offset : (k l : ℕ) (z : T) → k < n → (l * n + k ≡ j * n + i) ⊎ (l * n + k < j * n + i)
           → get_or (columns ++ v ∷ []) (l * n + k) z ≡ get_or rows (k * m + l) z
-      by_place k l z inside (inl here) = at_seam k l z (position_row n i j k l row inside here)
-          (position_col n i j k l row inside here)
-      by_place k l z inside (inr before) = get_or_append_left columns (v ∷ []) z (l * n + k)
+      by_offset k l z inside (inl here) = at_seam k l z (offset_row n i j k l row inside here)
+          (offset_col n i j k l row inside here)
+      by_offset k l z inside (inr before) = get_or_append_left columns (v ∷ []) z (l * n + k)
           (omega (arith, filled.count)) ∙ filled.placed k l z inside before
 
   pub column_filled : {n m : ℕ} {rows columns : List T} {j : ℕ}
@@ -120,7 +120,7 @@ module _ {T : Type 0} where
     values = λ i j z row col. absurd (omega (arith, mul-add-lt i m j n row col, none));
   }
 
--- columns from the first one on, as a part of the values
+-- `count` columns from column `first` on lie within the values
 pub columns_within : (n first count cols : ℕ) → first + count ≤ cols
     → first * n + count * n ≤ n * cols
 columns_within n first count cols le = omega (

@@ -1,5 +1,5 @@
--- Lists of triplets, and dense matrices, whose values mean the same ring elements have one plain
--- matrix.
+-- Two lists of triplets have the same plain matrix if their values represent the same ring elements,
+-- and so have two dense matrices.
 use Rattle.std.proofs.Common.{◌≡◌, ℕ, ◌+◌, ◌*◌, List, [], ◌∷◌, length, map, ap, sym}
 use Rattle.std.proofs.Common.{◌∙◌, refl}
 use Rattle.std.specs.Prelude.{◌||◌, ◌&&◌, nat_lt, slice_index_or}
@@ -23,7 +23,7 @@ module _ {X Y : Type 0} (h : X → Y) where
   any_triplet-meant (x ∷ is) (y ∷ js) (v ∷ vs) i j =
       ap (λ b. is_at i j (x, y, v) || b) (any_triplet-meant is js vs i j)
 
--- ---- the ring elements may be taken first
+-- ---- the plain matrix depends on the ring elements of the values alone
 
 module _ (R : CommRing) {X : Type 0} (f : X → R.Carrier) where
   sum_of_triplets-meant : (is js : List ℕ) (vs : List X) (i j : ℕ)
@@ -43,7 +43,7 @@ module _ (R : CommRing) {X : Type 0} (f : X → R.Carrier) where
       (plain_of_triplets R (λ x. x) rows cols (zip_triplets is js (map f vs))) refl refl
       (any_triplet-meant f is js vs) (sum_of_triplets-meant is js vs)
 
--- the plain matrix of ring elements, column by column
+-- the plain matrix of ring elements given column by column
 abbrev plain_of_values : (R : CommRing) → ℕ → ℕ → List R.Carrier → Plain R
 plain_of_values R rows cols vs = record {
   rows = rows;

@@ -1,4 +1,4 @@
--- The triplets that three lists give.
+-- Lists of triplets, zipped from lists of rows, columns and values.
 use Rattle.std.proofs.Common.{◌≡◌, ℕ, zero, suc, ◌+◌, ◌<◌, List, [], ◌∷◌, ◌++◌, length, take}
 use Rattle.std.proofs.Common.{get_or, map, All, refl, ap, sym, ◌∙◌, arith}
 use Rattle.std.proofs.lemmas.List.{take_more, length-append}
@@ -89,7 +89,7 @@ module _ {T : Type 0} where
       read (a ∷ is) (b ∷ js) (x ∷ vs) (suc k) i j v e f lt ei ej ev =
           read is js vs k i j v (omega arith) (omega arith) (omega arith) ei ej ev
 
-  -- the three lists, read back from the triplets
+  -- the rows, columns and values of the zipped triplets are the three lists
   pub rows-zip : (is js : List ℕ) (vs : List T) → length is ≡ length vs → length js ≡ length vs
       → map (λ (t : ℕ × ℕ × T). t.0) (zip_triplets is js vs) ≡ is
   rows-zip [] js vs e f = refl
@@ -116,7 +116,7 @@ module _ {T : Type 0} where
   values-zip (i ∷ is) (j ∷ js) (v ∷ vs) e f =
       ap (λ l. v ∷ l) (values-zip is js vs (omega arith) (omega arith))
 
-  -- the same of the parts of a matrix
+  -- the same for the three lists of a matrix
   module _ {nrows ncols : ℕ} {is js : List ℕ} {vs : List T} where
     pub rows_back : AreParts nrows ncols is js vs → is ≡ map (λ t. t.0) (zip_triplets is js vs)
     rows_back parts = sym (rows-zip is js vs parts.row_count parts.col_count)

@@ -1,4 +1,4 @@
--- The three lists that a list of triplets is split into.
+-- Splitting a list of triplets into lists of rows, columns and values.
 use Rattle.std.proofs.Common.{◌≡◌, ℕ, zero, suc, ◌<◌, ◌≤◌, ◌⊎◌, inl, inr, List, [], ◌∷◌, length}
 use Rattle.std.proofs.Common.{get_or, map, Any, Result, Ok, Err, IfOk, OnOk, refl, ap, sym, subst}
 use Rattle.std.proofs.Common.{◌∙◌, arith}
@@ -6,7 +6,7 @@ use Rattle.std.proofs.lemmas.List.{length-map}
 use Rattle.sparse_coo_dense.specs.Coo.{Coo, zip_triplets, IsInside, AreParts, coo_of}
 use Rattle.sparse_coo_dense.specs.TripletFaults.{IsFirstTripletFault, IsSomeOutside}
 use Rattle.sparse_coo_dense.specs.TripletFaults.{HasTripletFault}
-use Rattle.sparse_coo_dense.specs.TripletFaults.{TripletSpot, ColCount, ValueCount}
+use Rattle.sparse_coo_dense.specs.TripletFaults.{TripletRule, ColCount, ValueCount}
 use Rattle.sparse_coo_dense.specs.TripletFaults.{RowBounds, ColBounds}
 use Rattle.sparse_coo_dense.specs.TripletFaults.{triplet_kind}
 use Rattle.sparse_pattern.specs.declared.error.SparseFormatErrorKind.{SparseFormatErrorKind}
@@ -34,7 +34,7 @@ module _ {T : Type 0} where
       whole (t ∷ ts) = ap (λ rest. t ∷ rest) (whole ts)
 
   fault_at : (nrows ncols : ℕ) (ts : List (ℕ × ℕ × T)) (kind : SparseFormatErrorKind)
-      (s : TripletSpot)
+      (s : TripletRule)
       → HasTripletFault nrows ncols (map (λ t. t.0) ts) (map (λ t. t.1) ts)
       (length (map (λ t. t.2) ts)) s → kind ≡ triplet_kind s → (kind ≡ IndexOutOfBounds)
       × IsSomeOutside nrows ncols ts
@@ -53,7 +53,7 @@ module _ {T : Type 0} where
         (λ t out. inr out) ts h.0 h.1 h.2 h.3 h.4,
   )
 
-  -- triplets that are refused after they were split have one outside the shape
+  -- if the lists of split triplets have a fault, some triplet is outside the shape
   pub fault_outside : (nrows ncols : ℕ) (rows cols : List ℕ) (values : List T)
       (ts : List (ℕ × ℕ × T)) (kind : SparseFormatErrorKind)
       → rows ≡ map (λ t. t.0) ts → cols ≡ map (λ t. t.1) ts → values ≡ map (λ t. t.2) ts
@@ -61,7 +61,7 @@ module _ {T : Type 0} where
       × IsSomeOutside nrows ncols ts
   fault_outside nrows ncols rows cols values ts kind er ec ev fault =
       let here = rw (er, ec, ev) at fault.first.here in
-      fault_at nrows ncols ts kind fault.spot here fault.is
+      fault_at nrows ncols ts kind fault.rule here fault.is
 
   pub inside_at_ok : {E : Type 0} (nrows ncols : ℕ) (rows cols : List ℕ) (values : List T)
       (r : Result (Coo T) E)

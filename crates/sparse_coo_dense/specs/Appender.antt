@@ -1,9 +1,9 @@
--- The value of a matrix to which triplets are appended, as contracts see it.
+-- The value of a `CooAppender` in contracts.
 use Rattle.std.specs.Prelude.{ℕ, refl}
 use Rattle.std.specs.Coded.{Coded, code_by, coded×, coded_ℕ}
 use Rattle.sparse_coo_dense.specs.Coo.{Coo, coo_code}
 
--- the matrix, and how many more triplets fit at least
+-- the matrix, and the number of triplets that can still be appended
 pub record Appender (T : Type 0) : Type 0 where
   pub matrix : Coo T
   pub room : ℕ

@@ -1,4 +1,4 @@
--- The value of a coordinate list, as contracts see it.
+-- The value of a `CooMatrix` in contracts.
 use Rattle.std.specs.Prelude.{◌≡◌, ℕ, ◌<◌, List, [], ◌∷◌, ◌++◌, All, length, refl}
 use Rattle.std.specs.Coded.{Coded, code_by, coded×, coded_ℕ, coded_list}
 

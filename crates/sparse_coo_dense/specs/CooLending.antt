@@ -1,4 +1,4 @@
--- What a mutable iterator over triplets has yet to yield, and the matrix after the borrow.
+-- The triplets that a mutable iterator has yet to yield, and the matrix after the borrow.
 use Rattle.std.specs.Prelude.{ℕ, List}
 use Rattle.std.specs.Borrow.{Lends, MutBor, Fml, Array, RattleType}
 use Rattle.sparse_coo_dense.specs.Coo.{Coo, coo_of, zip_triplets}
@@ -8,12 +8,12 @@ use Rattle.sparse_coo_dense.specs.declared.coo.iter.CooTripletIterMut.{CooTriple
 use Rattle.sparse_coo_dense.specs.contracts.coo.CooMatrix.{the_row}
 
 -- the remaining triplets, in order
-abbrev pub triplets_to_lend : {T : Type 0} → CooTripletIterMut T → List (ℕ × ℕ × T)
-triplets_to_lend it = zip_triplets it.rows.now it.cols.now it.values.now
+abbrev pub remaining_triplets : {T : Type 0} → CooTripletIterMut T → List (ℕ × ℕ × T)
+remaining_triplets it = zip_triplets it.rows.now it.cols.now it.values.now
 
 -- the values that the iterator borrows mutably
-abbrev pub values_lent : {T : Type 0} → CooTripletIterMut T → MutBor (List T)
-values_lent it = it.values
+abbrev pub borrowed_values : {T : Type 0} → CooTripletIterMut T → MutBor (List T)
+borrowed_values it = it.values
 
 -- the matrix with other values and the same shape, rows and columns
 abbrev pub with_values : {T : Type 0} → Coo T → List T → Coo T

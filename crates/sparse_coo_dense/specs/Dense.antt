@@ -1,4 +1,4 @@
--- The value of a dense matrix, as contracts see it.
+-- The value of a `DMatrix` in contracts.
 use Rattle.std.specs.Prelude.{◌≡◌, ℕ, ◌+◌, ◌*◌, ◌<◌, List, length, slice_index_or, slice_set}
 use Rattle.std.specs.Prelude.{slice_range, refl}
 use Rattle.std.specs.Coded.{Coded, code_by, coded×, coded_ℕ, coded_list}
@@ -31,7 +31,7 @@ module _ {T : Type 0} where
   abbrev pub with_value_at : Dense T → ℕ → ℕ → T → Dense T
   with_value_at d i j w = record d { values = slice_set d.values (j * d.nrows + i) w }
 
-  -- the matrix with other values in the columns from j on, as many as there are values for
+  -- the matrix with the values ws written from the beginning of column j on
   abbrev pub with_column : Dense T → ℕ → List T → Dense T
   with_column d j ws = record d { values = refill_from d.values (j * d.nrows) ws }
 
@@ -39,7 +39,7 @@ module _ {T : Type 0} where
   abbrev pub with_values : Dense T → List T → Dense T
   with_values d ws = record d { values = refill d.values ws }
 
-  -- a matrix of this shape with this value at each (i, j) within it
+  -- d has this shape, and the value `value i j z` at each (i, j) within it
   pub record HasValues (nrows ncols : ℕ) (value : ℕ → ℕ → T → T) (d : Dense T) : Type 0 where
     pub rows : d.nrows ≡ nrows
     pub cols : d.ncols ≡ ncols

@@ -1,5 +1,5 @@
--- The spots at which the private enum of faults of triplets stands.
-use Rattle.sparse_coo_dense.specs.TripletFaults.{TripletSpot}
+-- The rules that the faults of the private enum `TripletFault` violate.
+use Rattle.sparse_coo_dense.specs.TripletFaults.{TripletRule}
 use Rattle.sparse_coo_dense.specs.TripletFaults as at
 use Rattle.sparse_coo_dense.specs.declared.coo.triplet_fault.TripletFault.{TripletFault}
 use Rattle.sparse_coo_dense.specs.declared.coo.triplet_fault.TripletFault.TheVariants.{ColCount}
@@ -7,8 +7,8 @@ use Rattle.sparse_coo_dense.specs.declared.coo.triplet_fault.TripletFault.TheVar
 use Rattle.sparse_coo_dense.specs.declared.coo.triplet_fault.TripletFault.TheVariants.{RowBounds}
 use Rattle.sparse_coo_dense.specs.declared.coo.triplet_fault.TripletFault.TheVariants.{ColBounds}
 
-abbrev pub spot_of : TripletFault → TripletSpot
-spot_of ColCount = at.ColCount
-spot_of ValueCount = at.ValueCount
-spot_of RowBounds = at.RowBounds
-spot_of ColBounds = at.ColBounds
+abbrev pub rule_of : TripletFault → TripletRule
+rule_of ColCount = at.ColCount
+rule_of ValueCount = at.ValueCount
+rule_of RowBounds = at.RowBounds
+rule_of ColBounds = at.ColBounds

@@ -5,40 +5,40 @@ use Rattle.sparse_pattern.specs.declared.error.SparseFormatErrorKind.{SparseForm
 use Rattle.sparse_pattern.specs.declared.error.SparseFormatErrorKind.TheVariants.{InvalidStructure}
 use Rattle.sparse_pattern.specs.declared.error.SparseFormatErrorKind.TheVariants.{IndexOutOfBounds}
 
--- where a fault can occur: the number of rows against columns, of columns against values, the
--- bounds of the rows, those of the columns
-pub data TripletSpot : Type 0 where
-  ColCount : TripletSpot
-  ValueCount : TripletSpot
-  RowBounds : TripletSpot
-  ColBounds : TripletSpot
+-- the rules of three lists: as many columns as rows, as many values as columns, row indices in bounds,
+-- and column indices in bounds
+pub data TripletRule : Type 0 where
+  ColCount : TripletRule
+  ValueCount : TripletRule
+  RowBounds : TripletRule
+  ColBounds : TripletRule
 
--- rows, columns and a number of values have a fault here
-abbrev pub HasTripletFault : ℕ → ℕ → List ℕ → List ℕ → ℕ → TripletSpot → Type 0
+-- the rows, the columns and the number of values violate the rule
+abbrev pub HasTripletFault : ℕ → ℕ → List ℕ → List ℕ → ℕ → TripletRule → Type 0
 HasTripletFault nrows ncols rows cols count ColCount = length rows ≢ length cols
 HasTripletFault nrows ncols rows cols count ValueCount = length cols ≢ count
 HasTripletFault nrows ncols rows cols count RowBounds = Any (λ i. nrows ≤ i) rows
 HasTripletFault nrows ncols rows cols count ColBounds = Any (λ j. ncols ≤ j) cols
 
--- the kind of the error for a fault here
-abbrev pub triplet_kind : TripletSpot → SparseFormatErrorKind
+-- the kind of the error for a violated rule
+abbrev pub triplet_kind : TripletRule → SparseFormatErrorKind
 triplet_kind ColCount = InvalidStructure
 triplet_kind ValueCount = InvalidStructure
 triplet_kind RowBounds = IndexOutOfBounds
 triplet_kind ColBounds = IndexOutOfBounds
 
-abbrev pub triplet_rank : TripletSpot → ℕ × ℕ × ℕ
+abbrev pub triplet_rank : TripletRule → ℕ × ℕ × ℕ
 triplet_rank ColCount = (0, 0, 0)
 triplet_rank ValueCount = (1, 0, 0)
 triplet_rank RowBounds = (2, 0, 0)
 triplet_rank ColBounds = (3, 0, 0)
 
--- the first fault is of this kind
+-- the error of the first fault has this kind
 pub record IsFirstTripletFault (nrows ncols : ℕ) (rows cols : List ℕ) (count : ℕ)
     (kind : SparseFormatErrorKind) : Type 0 where
-  pub spot : TripletSpot
-  pub first : IsFirst triplet_rank (HasTripletFault nrows ncols rows cols count) spot
-  pub is : kind ≡ triplet_kind spot
+  pub rule : TripletRule
+  pub first : IsFirst triplet_rank (HasTripletFault nrows ncols rows cols count) rule
+  pub is : kind ≡ triplet_kind rule
 
 -- some triplet has a row or a column out of bounds
 abbrev pub IsSomeOutside : {T : Type 0} → ℕ → ℕ → List (ℕ × ℕ × T) → Type 0

@@ -1,4 +1,4 @@
-//! Matrices in coordinate form: lists of triplets.
+//! Matrices in coordinate format: lists of triplets.
 
 ghost use Rattle.std.specs.Prelude.{◌≡◌, ◌+◌, ◌<◌, ◌≤◌, [], ◌∷◌, length, map, vec_len};
 ghost use Rattle.std.specs.Prelude.{vec_capacity, IsOk, IfOk, IfErr, OnOk, OnErr};
@@ -20,9 +20,9 @@ mod triplet_fault;
 
 pub use iter::{CooTripletIter, CooTripletIterMut};
 
-/// A sparse matrix in coordinate form: a list of triplets (row, column, value).
+/// A sparse matrix in coordinate format: a list of triplets (row, column, value).
 ///
-/// The same row and column may occur in more than one triplet; the entry is then the sum of their values.
+/// The same row and column may occur in more than one triplet; the value there is then the sum of their values.
 ///
 /// # Examples
 ///
@@ -213,7 +213,7 @@ impl<T> CooMatrix<T> {
         self.ncols
     }
 
-    /// Returns the number of triplets. Repeated places are counted each time.
+    /// Returns the number of triplets. Triplets with the same row and column are counted each time.
     pub fn nnz(&self) -> usize
         ensures { result ≡ length self.now.triplets }
     {

@@ -53,8 +53,9 @@ impl<T: Zero + Copy> DMatrix<T> {
 }
 
 impl<T: Copy> DMatrix<T> {
-    /// Returns a matrix with `value` at each place. Fails only if an allocation fails or `nrows * ncols` exceeds
-    /// `usize::MAX`.
+    /// Returns a matrix with `value` at each row and column.
+    ///
+    /// Fails only if an allocation fails or `nrows * ncols` exceeds `usize::MAX`.
     pub fn repeat(alloc: Global, nrows: usize, ncols: usize, value: T) -> Result<Self, AllocError>
         ensures { IfOk result (HasValues nrows ncols (λ _ _ _. value)) }
     {
@@ -254,7 +255,7 @@ fn copies_of<T: Copy>(alloc: Global, value: T, count: usize) -> Result<Vec<T>, A
     Ok(copies)
 }
 
-// Returns values given row by row rearranged column by column.
+// Returns the values, given row by row, in column-major order.
 fn column_by_column<T: Copy>(
     alloc: Global,
     nrows: usize,

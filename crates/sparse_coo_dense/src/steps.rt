@@ -5,7 +5,7 @@ ghost use base.Fml.{ftrue};
 
 use std::marker::Model;
 
-// A number that only contracts read. It has no bytes.
+// A number that exists only in contracts. It occupies no memory.
 #[derive(Drop)]
 struct Count {
     ghost number: { ℕ },
@@ -31,7 +31,7 @@ impl Count {
 
 /// The number of steps that an algorithm has taken.
 ///
-/// Contracts see it as a natural number. It occupies no memory at run time, and code cannot read it.
+/// In contracts it is a natural number. It occupies no memory at run time, and code cannot read it.
 #[derive(Drop)]
 pub struct Steps {
     taken: Count,

@@ -1,2 +1,2 @@
-mod LentOptions
-mod LentLanes
+mod OptionalBorrows
+mod OptionalLanes

@@ -9,7 +9,7 @@ use Rattle.sparse_rows_cols.specs.ColWriting.{col_name}
 use Rattle.sparse_rows_cols.specs.declared.col_mut.CscColMut.{CscColMut}
 use Rattle.sparse_csr_csc.specs.contracts.csc.CscMatrix.{the_row as matrix_type}
 
--- after the borrow the matrix has the values last written through it
+-- after the borrow the matrix has the values last written through the result
 module _ (T : RattleType) (s : MutBor (Compressed T.Denot)) where
   abbrev pub LendsValues : MutBor (List T.Denot) → Fml
   LendsValues r = Lends (matrix_type T) (Array T 0) s r (with_values s.now)
@@ -17,7 +17,7 @@ module _ (T : RattleType) (s : MutBor (Compressed T.Denot)) where
   abbrev pub LendsCol : ℕ → MutBor (List T.Denot) → Fml
   LendsCol i r = Lends (matrix_type T) (Array T 0) s r (with_lane s.now i)
 
-  -- the column, if there is one; otherwise the matrix is unchanged
+  -- the matrix is unchanged if there is no column
   abbrev pub LendsColIf : ℕ → Option (CscColMut T.Denot) → Fml
   LendsColIf i r = follows_if (matrix_type T) (Array T 0) s.ghost_name (col_name r)
       (with_lane s.now i) s.now

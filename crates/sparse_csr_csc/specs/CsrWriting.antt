@@ -9,7 +9,7 @@ use Rattle.sparse_rows_cols.specs.RowWriting.{row_name}
 use Rattle.sparse_rows_cols.specs.declared.row_mut.CsrRowMut.{CsrRowMut}
 use Rattle.sparse_csr_csc.specs.contracts.csr.CsrMatrix.{the_row as matrix_type}
 
--- after the borrow the matrix has the values last written through it
+-- after the borrow the matrix has the values last written through the result
 module _ (T : RattleType) (s : MutBor (Compressed T.Denot)) where
   abbrev pub LendsValues : MutBor (List T.Denot) → Fml
   LendsValues r = Lends (matrix_type T) (Array T 0) s r (with_values s.now)
@@ -17,7 +17,7 @@ module _ (T : RattleType) (s : MutBor (Compressed T.Denot)) where
   abbrev pub LendsRow : ℕ → MutBor (List T.Denot) → Fml
   LendsRow i r = Lends (matrix_type T) (Array T 0) s r (with_lane s.now i)
 
-  -- the row, if there is one; otherwise the matrix is unchanged
+  -- the matrix is unchanged if there is no row
   abbrev pub LendsRowIf : ℕ → Option (CsrRowMut T.Denot) → Fml
   LendsRowIf i r = follows_if (matrix_type T) (Array T 0) s.ghost_name (row_name r)
       (with_lane s.now i) s.now

@@ -1,4 +1,4 @@
--- What a CSC matrix is after a borrow from it, as the private functions of `csc` say it.
+-- The CSC matrix after a borrow from it, for the contracts of the private functions of `csc`.
 use Rattle.std.specs.Prelude.{ℕ, Option}
 use Rattle.std.specs.Borrow.{LendsIf, follows_if, MutBor, Fml, RattleType}
 use Rattle.sparse_pattern.specs.SparseEntries.{found_name}
@@ -9,7 +9,8 @@ use Rattle.sparse_compressed.specs.contracts.CsMatrix.{the_row as core_type}
 use Rattle.sparse_csr_csc.specs.contracts.csc.CscMatrix.{the_row as matrix_type}
 
 module _ (T : RattleType) (s : MutBor (Compressed T.Denot)) where
-  -- the core where there is one, and otherwise the matrix stays as it is
+  -- after the borrow the matrix is the storage last written through the result, or unchanged if
+  -- there is none
   abbrev pub LendsCoreIf : Option (MutBor (Compressed T.Denot)) → Fml
   LendsCoreIf r = LendsIf (matrix_type T) (core_type T) s r (λ m. m) s.now
 

@@ -1,4 +1,4 @@
-//! Matrices in compressed sparse column form.
+//! Matrices in compressed sparse column format.
 
 ghost use Rattle.std.specs.Prelude.{◌≡◌, [], length, IfOk};
 ghost use Rattle.sparse_pattern.specs.Raw.{empty_raw};
@@ -13,7 +13,7 @@ mod transpose;
 mod writing;
 
 use crate::csr::CsrMatrix;
-use sparse_algebra::learn;
+use sparse_algebra::recall;
 use sparse_compressed::CsMatrix;
 use sparse_pattern::pattern::SparsityPattern;
 pub use sparse_rows_cols::col::{CscCol, CscColIter};
@@ -22,9 +22,9 @@ pub use sparse_rows_cols::col_triplets::{CscTripletIter, CscTripletIterMut, CscT
 use std::alloc::{AllocError, Global};
 use std::marker::Model;
 
-/// A sparse matrix in compressed sparse column (CSC) form.
+/// A sparse matrix in compressed sparse column (CSC) format.
 ///
-/// The row indices of each column are strictly increasing. A stored place has a value, which may be zero.
+/// The row indices of each column are strictly increasing. The value of an entry may be zero.
 ///
 /// # Examples
 ///
@@ -77,10 +77,10 @@ impl<T> CscMatrix<T> {
     fn show_sound(&self)
         ensures sound { IsSound self.now }
     {
-        learn(self.cs.values());
+        recall(self.cs.values());
     }
 
-    /// Returns a matrix without stored places. Allocates `ncols + 1` offsets, and fails only if that allocation fails.
+    /// Returns a matrix without entries. Allocates `ncols + 1` offsets, and fails only if that allocation fails.
     pub fn zeros(alloc: Global, nrows: usize, ncols: usize) -> Result<Self, AllocError>
         ensures is { IfOk result (λ m. m ≡ compressed_of (empty_raw ncols nrows) []) }
         ensures sound { IfOk result IsSound }
@@ -109,8 +109,8 @@ impl<T> CscMatrix<T> {
         self.into_cs().into_pattern_and_values()
     }
 
-    /// Returns the transpose in CSR form, and consumes the matrix. The arrays are reused: constant time, and nothing is
-    /// allocated.
+    /// Returns the transpose in CSR format, and consumes the matrix. The arrays are reused: constant time, and nothing
+    /// is allocated.
     ///
     /// # Examples
     ///
@@ -147,7 +147,7 @@ impl<T> CscMatrix<T> {
         self.cs.pattern().major_dim()
     }
 
-    /// Returns the number of stored places, including those whose value is zero.
+    /// Returns the number of entries, including those whose value is zero.
     pub fn nnz(&self) -> usize
         ensures count { result ≡ length self.now.values }
         ensures sound { IsSound self.now }

@@ -1,4 +1,4 @@
-//! The compressed forms: CSR, whose lanes are rows, and CSC, whose lanes are columns.
+//! The compressed formats: CSR, whose lanes are rows, and CSC, whose lanes are columns.
 #![tactic(auto)]
 
 pub mod csc;

@@ -1,4 +1,4 @@
--- Lists whose items stand in a relation, one by one.
+-- Two lists of equal length, whose items are related pairwise.
 use Rattle.std.proofs.Common.{◌≡◌, ◌<◌, ◌≤◌, ◌+◌, ◌-◌, refl, ℕ, zero, suc, List, [], ◌∷◌, ◌++◌}
 use Rattle.std.proofs.Common.{length, get_or, take, arith}
 use Rattle.std.specs.List.{AllZip}
@@ -13,7 +13,7 @@ module _ {A B : Type 0} (R : A → B → Type 0) where
   AllZip-push (w ∷ xs) [] x y all here = absurd all
   AllZip-push (w ∷ xs) (v ∷ ys) x y all here = (all.0, AllZip-push xs ys x y all.1 here)
 
-  -- one more item of each list
+  -- one more item in each list
   pub AllZip-more : (xs : List A) (ys zs : List B) (k : ℕ) (x : A) (y : B) → k < length xs
       → AllZip R (take k xs) ys → zs ≡ ys ++ y ∷ [] → R (get_or xs k x) y
       → AllZip R (take (k + 1) xs) zs
@@ -27,7 +27,8 @@ module _ {A B : Type 0} (R : A → B → Type 0) where
   AllZip-get (w ∷ xs) (v ∷ ys) zero x y lt all = all.0
   AllZip-get (w ∷ xs) (v ∷ ys) (suc k) x y lt all = AllZip-get xs ys k x y (omega arith) all.1
 
-  -- an item of the second list is replaced by one that is related to the item beside it
+  -- an item of the second list is replaced by one related to the item of the first at the same
+  -- index
   pub AllZip-set : (xs : List A) (ys : List B) (k : ℕ) (x : A) (y : B) → k < length xs
       → AllZip R xs ys → R (get_or xs k x) y → AllZip R xs (set ys k y)
   AllZip-set [] ys k x y lt all here = absurd (omega arith)
@@ -36,7 +37,7 @@ module _ {A B : Type 0} (R : A → B → Type 0) where
   AllZip-set (w ∷ xs) (v ∷ ys) (suc k) x y lt all here =
       (all.0, AllZip-set xs ys k x y (omega arith) all.1 here)
 
-  -- or by one that is related to all that the old one was related to
+  -- or by one that is related to every item to which the replaced one is related
   pub AllZip-change : (xs : List A) (ys : List B) (k : ℕ) (old new : B)
       → ((x : A) → R x (get_or ys k old) → R x new) → AllZip R xs ys → AllZip R xs (set ys k new)
   AllZip-change [] [] k old new same all = tt
@@ -46,7 +47,7 @@ module _ {A B : Type 0} (R : A → B → Type 0) where
   AllZip-change (w ∷ xs) (v ∷ ys) (suc k) old new same all =
       (all.0, AllZip-change xs ys k old new same all.1)
 
--- a number counted from 1 is an index
+-- a number counted from 1 becomes an index if 1 is subtracted
 pub index-below : (n len : ℕ) → (n ≡ 0 → ⊥) → n ≤ len → n - 1 < len
 index-below zero len some le = absurd (some refl)
 index-below (suc n) len some le = omega (arith, le)

@@ -1,4 +1,4 @@
--- Texts loaded one after the other, and matrices whose values are read as numbers.
+-- Texts loaded one after the other, as lists of triplets whose values are integers.
 use Rattle.std.proofs.Common.{◌≡◌, ℕ, ℤ, ◌+◌, ◌<◌, ◌≤◌, List, [], ◌∷◌, ◌++◌, length, take, drop}
 use Rattle.std.proofs.Common.{get_or, Ok, Err, Option, refl, sym, ap, subst, ◌∙◌, append_assoc}
 use Rattle.std.proofs.Common.{take-append-drop, append-nil, suc, arith}
@@ -23,11 +23,11 @@ AllMean-push (x ∷ ts) [] t m all here = absurd all
 AllMean-push (x ∷ ts) (y ∷ ms) t m all here = (all.0, AllMean-push ts ms t m all.1 here)
 
 module _ (items : List (Bor (List ℕ))) (k : ℕ) (w : Bor (List ℕ)) (inside : k < length items)
-    (ms : List (Coo ℤ)) (taken : AllMean (take k (texts items)) ms) where
+    (ms : List (Coo ℤ)) (accepted : AllMean (take k (texts items)) ms) where
   pub AllMean-more : (m : Coo ℤ) (ms' : List (Coo ℤ)) → Means scalar64 (get_or items k w).now (Ok m)
       → ms' ≡ ms ++ m ∷ [] → AllMean (take (k + 1) (texts items)) ms'
   AllMean-more m ms' here e = rw (texts-more items k w inside, e)
-      (AllMean-push (take k (texts items)) ms (get_or items k w).now m taken here)
+      (AllMean-push (take k (texts items)) ms (get_or items k w).now m accepted here)
 
   pub refused-at : (kind : MatrixMarketErrorKind) → Means scalar64 (get_or items k w).now (Err kind)
       → IsFirstRefused (texts items) (k + 1) kind
@@ -40,14 +40,14 @@ module _ (items : List (Bor (List ℕ))) (k : ℕ) (w : Bor (List ℕ)) (inside 
         (texts-more items k w inside) ∙ append_assoc (take k (texts items))
         ((get_or items k w).now ∷ []) (drop (k + 1) (texts items));
     counted = sym (ap (λ n. n + 1) (length-take-le k (texts items) (rw length-map (omega arith))));
-    taken = taken;
+    accepted = accepted;
     refused = refused;
   }
 
 pub AllMean-all : (items : List (Bor (List ℕ))) (k : ℕ) (ms : List (Coo ℤ)) → length items ≤ k
     → AllMean (take k (texts items)) ms → AllMean (texts items) ms
-AllMean-all items k ms all taken = subst (λ l. AllMean l ms)
-    (take_all k (texts items) (rw length-map all)) taken
+AllMean-all items k ms all accepted = subst (λ l. AllMean l ms)
+    (take_all k (texts items) (rw length-map all)) accepted
 
 length-meant : (ts : List (List ℕ)) (ms : List (Coo ℤ)) → AllMean ts ms → length ts ≡ length ms
 length-meant [] [] all = refl
@@ -85,11 +85,11 @@ module _ (texts : List (List ℕ)) where
       ms = ms;
       split = loaded.split ∙ ap (λ l. loaded.before ++ l) next;
       counted = counted ∙ ap (λ n. n + 1) (sym (length-meant loaded.before ms loaded.meant));
-      taken = loaded.meant;
+      accepted = loaded.meant;
       refused = refused;
     }
 
--- a refused write that is not the sink's is an allocation failure
+-- where writing ends with an error that is not the sink's, no write failed
 pub memory-refused : (kind : MatrixMarketErrorKind) (before after : ℕ) (last : Option ErrorKind)
     → IsRefusedWrite kind before after last → ((k : ErrorKind) → kind ≡ kinds.IOError k → ⊥)
     → after ≡ before

@@ -1,4 +1,4 @@
--- What is loaded and written, as plain matrices over the integers modulo 2^64.
+-- The inputs and the value of a run, as plain matrices over the integers modulo 2^64.
 use Rattle.std.proofs.Common.{◌≡◌, ◌⊎◌, inl, inr, ℕ, zero, suc, ◌+◌, Bool, true, false, List, []}
 use Rattle.std.proofs.Common.{◌∷◌, ◌++◌, length, map, slice_get, Option, Some, None, Result, Ok}
 use Rattle.std.proofs.Common.{Err, refl, sym, ap, subst, ◌∙◌}
@@ -25,8 +25,8 @@ use Rattle.sparse_compressed.proofs.ColOrder.{col_order-cols}
 use Rattle.std.specs.Io.KnownBytes.{Appends}
 use Rattle.sparse_io.specs.Sink.{AppendsSome}
 use Rattle.sparse_io.specs.Written.{written_text, heading, size_line, triplet_line}
-use Rattle.sparse_expr.specs.declared.calculator.Form.{Form}
-use Rattle.sparse_expr.specs.declared.calculator.Form.TheVariants.{Rows, Cols}
+use Rattle.sparse_expr.specs.declared.calculator.OutputOrder.{OutputOrder}
+use Rattle.sparse_expr.specs.declared.calculator.OutputOrder.TheVariants.{Rows, Cols}
 use Rattle.sparse_expr.specs.declared.expr.Expr.{Expr}
 use Rattle.sparse_expr.specs.declared.expr.Expr.TheVariants as tree
 use Rattle.sparse_expr.specs.declared.error.ExprError.{ExprError}
@@ -37,7 +37,7 @@ use Rattle.sparse_expr.specs.Run.{ring64, element_text, text_in, plains, AllMean
 use Rattle.sparse_expr.specs.Run.{Writes, WritesSome, Effect, IsUntouched, RefusesRun}
 use Rattle.sparse_expr.specs.InnerRun.{numbers_of, text_of_coo, RefusesSave}
 
--- ---- triplets whose values are read by way of another type
+-- ---- triplets whose values are mapped to another type first
 
 module _ {T V : Type 0} (h : T → V) where
   abbrev via : List (ℕ × ℕ × T) → List (ℕ × ℕ × V)
@@ -79,7 +79,7 @@ module _ {T V : Type 0} (h : T → V) where
         (length-map ts (λ t. (t.0, t.1, h t.2)))
         ∙ ap (λ l. heading name ++ (size_line rows cols (length ts) ++ l)) (lines-via ts)
 
--- ---- what is loaded
+-- ---- the inputs
 
 pub plains-loaded : (ms : List (Coo W64))
     → map (λ m. plain_of_coo ring64 (λ x. class_of w64 (w64_number x)) m) ms ≡ plains
@@ -90,7 +90,7 @@ plains-loaded (m ∷ ms) =
     (plain-via w64_number ring64 (class_of w64) m.nrows m.ncols m.triplets)
     ∙ ap (λ ps. plain_of_coo ring64 (class_of w64) (numbers_of m) ∷ ps) (plains-loaded ms)
 
--- ---- what is written
+-- ---- the value
 
 element-text : (x : W64)
     → element_text (class_of w64 (w64_number x)) ≡ signed_decimal (w64_number x)
@@ -116,7 +116,7 @@ text_in-cols m sound =
     (λ x. signed_decimal (w64_number x)) element-text (codes "integer") m.pattern.minor_dim
     m.pattern.major_dim (map transposed (lane_triplets m))
 
--- ---- the answer of a run
+-- ---- the result of a run
 
 abbrev Value : Type 0
 Value = Plain ring64
@@ -133,7 +133,7 @@ has_outcome texts expr outcome ms meant is = record {
   evaluated = ap (λ ps. value_of ring64 ps expr) (sym (plains-loaded ms)) ∙ is;
 }
 
--- an expression has no other refusal than these
+-- an expression has no errors but these
 found-refuses : (o : Option Value) (e : ExprError) → found ring64 o ≡ Err e
     → (e ≡ errors.NoSuchInput) ⊎ (e ≡ errors.Shape)
 found-refuses (Some a) e h = absurd cc
@@ -144,10 +144,10 @@ input-refuses : (inputs : List Value) (n : ℕ) (e : ExprError) → input_at rin
 input-refuses inputs zero e h = inl cc
 input-refuses inputs (suc n) e h = found-refuses (slice_get inputs n) e h
 
-made-refuses : (b : Bool) (c : Value) (e : ExprError)
+shaped-refuses : (b : Bool) (c : Value) (e : ExprError)
     → (if b then Ok c else Err errors.Shape) ≡ Err e → (e ≡ errors.NoSuchInput) ⊎ (e ≡ errors.Shape)
-made-refuses true c e h = absurd cc
-made-refuses false c e h = inr cc
+shaped-refuses true c e h = absurd cc
+shaped-refuses false c e h = inr cc
 
 abbrev Refuses : ExprError → Type 0
 Refuses e = (e ≡ errors.NoSuchInput) ⊎ (e ≡ errors.Shape)
@@ -157,9 +157,9 @@ both-refuses : (make : Value → Value → Result Value ExprError)
     → (r s : Result Value ExprError) (e : ExprError)
     → ((f : ExprError) → r ≡ Err f → Refuses f) → ((f : ExprError) → s ≡ Err f → Refuses f)
     → both ring64 make r s ≡ Err e → Refuses e
-both-refuses make made (Err f) s e left right h = left e h
-both-refuses make made (Ok a) (Err f) e left right h = right e h
-both-refuses make made (Ok a) (Ok b) e left right h = made a b e h
+both-refuses make shaped (Err f) s e left right h = left e h
+both-refuses make shaped (Ok a) (Err f) e left right h = right e h
+both-refuses make shaped (Ok a) (Ok b) e left right h = shaped a b e h
 
 one-refuses : (make : Value → Value) (r : Result Value ExprError) (e : ExprError)
     → ((f : ExprError) → r ≡ Err f → Refuses f) → one ring64 make r ≡ Err e → Refuses e
@@ -170,15 +170,15 @@ value-refuses : (inputs : List Value) (expr : Expr) (e : ExprError)
     → value_of ring64 inputs expr ≡ Err e → Refuses e
 value-refuses inputs (tree.Input n) e h = input-refuses inputs n e h
 value-refuses inputs (tree.Add' p a q b) e h =
-    both-refuses (sum_of ring64) (λ x y f. made-refuses (same_sizes ring64 x y)
+    both-refuses (sum_of ring64) (λ x y f. shaped-refuses (same_sizes ring64 x y)
     (plain_sum ring64 x y) f) (value_of ring64 inputs a) (value_of ring64 inputs b) e
     (value-refuses inputs a) (value-refuses inputs b) h
 value-refuses inputs (tree.Sub' p a q b) e h = both-refuses (difference_of ring64)
-    (λ x y f. made-refuses (same_sizes ring64 x y) (plain_difference ring64 x y) f)
+    (λ x y f. shaped-refuses (same_sizes ring64 x y) (plain_difference ring64 x y) f)
     (value_of ring64 inputs a) (value_of ring64 inputs b) e (value-refuses inputs a)
     (value-refuses inputs b) h
 value-refuses inputs (tree.Mul' p a q b) e h =
-    both-refuses (product_of ring64) (λ x y f. made-refuses (nat_eq x.cols y.rows)
+    both-refuses (product_of ring64) (λ x y f. shaped-refuses (nat_eq x.cols y.rows)
     (plain_product ring64 x y) f) (value_of ring64 inputs a) (value_of ring64 inputs b) e
     (value-refuses inputs a) (value-refuses inputs b) h
 value-refuses inputs (tree.Transpose' p a) e h = one-refuses (plain_transpose ring64)
@@ -186,52 +186,52 @@ value-refuses inputs (tree.Transpose' p a) e h = one-refuses (plain_transpose ri
 value-refuses inputs (tree.Neg' p a) e h = one-refuses (plain_negation ring64)
     (value_of ring64 inputs a) e (value-refuses inputs a) h
 
-pub refuses-value : (form : Form) (texts : List (List ℕ)) (expr : Expr) (eff : Effect)
+pub refuses-value : (order : OutputOrder) (texts : List (List ℕ)) (expr : Expr) (eff : Effect)
     (e : ExprError)
     → IsUntouched eff → (e ≡ errors.OutOfMemory) ⊎ HasOutcome texts expr (Err e)
-    → RefusesRun form texts expr eff e
-refuses-value form texts expr eff e same h = elim h [
-  | inl memory ↦ subst (RefusesRun form texts expr eff) (sym memory) (same.1, inl same.0)
+    → RefusesRun order texts expr eff e
+refuses-value order texts expr eff e same h = elim h [
+  | inl memory ↦ subst (RefusesRun order texts expr eff) (sym memory) (same.1, inl same.0)
   | inr outcome ↦ elim (value-refuses (plains outcome.ms) expr e outcome.evaluated) [
-    | inl none ↦ subst (RefusesRun form texts expr eff) (sym none)
+    | inl none ↦ subst (RefusesRun order texts expr eff) (sym none)
         (subst (λ f. HasOutcome texts expr (Err f)) none outcome, same)
-    | inr shape ↦ subst (RefusesRun form texts expr eff) (sym shape)
+    | inr shape ↦ subst (RefusesRun order texts expr eff) (sym shape)
         (subst (λ f. HasOutcome texts expr (Err f)) shape outcome, same)
   ]
 ]
 
-refuses-save : (form : Form) (texts : List (List ℕ)) (expr : Expr) (eff : Effect) (e : ExprError)
-    → WritesSome form texts expr eff.taken_before eff.taken → RefusesSave eff e
-    → RefusesRun form texts expr eff e
-refuses-save form texts expr eff errors.BadWord some h = absurd h
-refuses-save form texts expr eff errors.MissingOperand some h = absurd h
-refuses-save form texts expr eff errors.LeftOver some h = absurd h
-refuses-save form texts expr eff errors.NoSuchInput some h = absurd h
-refuses-save form texts expr eff errors.Shape some h = absurd h
-refuses-save form texts expr eff (errors.Input n k) some h = absurd h
-refuses-save form texts expr eff (errors.Write kind) some h = (some, h.0, h.1)
-refuses-save form texts expr eff errors.OutOfMemory some h = (h, inr some)
+refuses-save : (order : OutputOrder) (texts : List (List ℕ)) (expr : Expr) (eff : Effect) (e : ExprError)
+    → WritesSome order texts expr eff.accepted_before eff.accepted → RefusesSave eff e
+    → RefusesRun order texts expr eff e
+refuses-save order texts expr eff errors.BadWord some h = absurd h
+refuses-save order texts expr eff errors.MissingOperand some h = absurd h
+refuses-save order texts expr eff errors.LeftOver some h = absurd h
+refuses-save order texts expr eff errors.NoSuchInput some h = absurd h
+refuses-save order texts expr eff errors.Shape some h = absurd h
+refuses-save order texts expr eff (errors.Input n k) some h = absurd h
+refuses-save order texts expr eff (errors.Write kind) some h = (some, h.0, h.1)
+refuses-save order texts expr eff errors.OutOfMemory some h = (h, inr some)
 
-module _ (form : Form) (texts : List (List ℕ)) (expr : Expr) (value : Value)
-    (is : HasOutcome texts expr (Ok value)) (text : List ℕ) (said : text_in form value ≡ text) where
+module _ (order : OutputOrder) (texts : List (List ℕ)) (expr : Expr) (value : Value)
+    (is : HasOutcome texts expr (Ok value)) (text : List ℕ) (said : text_in order value ≡ text) where
   -- the text of the value is appended
-  pub writes : (old new : Option (List ℕ)) → Appends old new text → Writes form texts expr old new
+  pub writes : (old new : Option (List ℕ)) → Appends old new text → Writes order texts expr old new
   writes old new appended = record {
     value = value;
     is_value = is;
     appended = subst (Appends old new) (sym said) appended;
   }
 
-  -- or a prefix of it, where the save is refused
-  pub refuses-write : (eff : Effect) (e : ExprError) → AppendsSome eff.taken_before eff.taken text
-      → RefusesSave eff e → RefusesRun form texts expr eff e
-  refuses-write eff e appended = refuses-save form texts expr eff e (record {
+  -- or a prefix of it, if writing it fails
+  pub refuses-write : (eff : Effect) (e : ExprError) → AppendsSome eff.accepted_before eff.accepted text
+      → RefusesSave eff e → RefusesRun order texts expr eff e
+  refuses-write eff e appended = refuses-save order texts expr eff e (record {
     value = value;
     is_value = is;
-    appended = subst (AppendsSome eff.taken_before eff.taken) (sym said) appended;
+    appended = subst (AppendsSome eff.accepted_before eff.accepted) (sym said) appended;
   })
 
--- two facts of one refusal
+-- a consequence of two facts about one error
 pub both_of_err : {T E : Type 0} (r : Result T E) (P Q S : E → Type 0) → ((e : E) → P e → Q e → S e)
     → IfErr r P → IfErr r Q → IfErr r S
 both_of_err (Ok x) P Q S f p q = q

@@ -1,4 +1,4 @@
--- Tokens of a stack of trees.
+-- The tokens of the trees on a stack, and the words read so far.
 use Rattle.std.proofs.Common.{◌≡◌, ℕ, zero, suc, ◌+◌, ◌<◌, ◌≤◌, ◌⊎◌, inl, inr, List, [], ◌∷◌, ◌++◌}
 use Rattle.std.proofs.Common.{length, map, take, drop, get_or, slice_get, Some, cond, true, false}
 use Rattle.std.proofs.Common.{refl, sym, ap, subst, ◌∙◌, append_assoc, take-append-drop, arith}
@@ -8,7 +8,7 @@ use Rattle.std.proofs.lemmas.List.{map_push, take_more, take_all, length-map, ge
 use denote.Ref.{Bor}
 use Rattle.std.proofs.lemmas.List.Sums.{sum_by-append}
 use Rattle.sparse_expr.specs.declared.words.Token.{Token}
-use Rattle.sparse_expr.specs.declared.words.Token.TheVariants.{Plus, Minus, Times, Turn, Negate}
+use Rattle.sparse_expr.specs.declared.words.Token.TheVariants.{Plus, Minus, Times, Transpose, Negate}
 use Rattle.sparse_expr.specs.declared.expr.Expr.{Expr}
 use Rattle.sparse_expr.specs.declared.expr.Expr.TheVariants as tree
 use Rattle.sparse_expr.specs.declared.error.ExprError.{ExprError}
@@ -23,7 +23,7 @@ pub operators-append : (xs ys : List Token)
     → count_by is_binary (xs ++ ys) ≡ count_by is_binary xs + count_by is_binary ys
 operators-append xs ys = sum_by-append (λ t. cond (is_binary t) 1 0) xs ys
 
--- of two trees and a token that joins them
+-- the counts of a binary operator's token and its two operands
 joined : (a b : Expr) (t : Token) → is_operand t ≡ false → is_binary t ≡ true
     → count_by is_operand (postfix a) ≡ count_by is_binary (postfix a) + 1
     → count_by is_operand (postfix b) ≡ count_by is_binary (postfix b) + 1
@@ -44,7 +44,7 @@ joined a b t eo eb ha hb =
       k,
     )
 
--- of a tree and a token that changes it
+-- the counts of a unary operator's token and its operand
 changed : (a : Expr) (t : Token) → is_operand t ≡ false → is_binary t ≡ false
     → count_by is_operand (postfix a) ≡ count_by is_binary (postfix a) + 1
     → count_by is_operand (postfix a ++ (t ∷ [])) ≡ count_by is_binary (postfix a ++ (t ∷ [])) + 1
@@ -60,7 +60,7 @@ changed a t eo eb ha =
       k,
     )
 
--- a tree has one operand more than operators that join two
+-- a tree has one input more than binary operators
 operands-postfix : (e : Expr)
     → count_by is_operand (postfix e) ≡ count_by is_binary (postfix e) + 1
 operands-postfix (tree.Input n) = omega arith
@@ -70,7 +70,7 @@ operands-postfix (tree.Sub' p a q b) = joined a b Minus refl refl (operands-post
     (operands-postfix b)
 operands-postfix (tree.Mul' p a q b) = joined a b Times refl refl (operands-postfix a)
     (operands-postfix b)
-operands-postfix (tree.Transpose' p a) = changed a Turn refl refl (operands-postfix a)
+operands-postfix (tree.Transpose' p a) = changed a Transpose refl refl (operands-postfix a)
 operands-postfix (tree.Neg' p a) = changed a Negate refl refl (operands-postfix a)
 
 operands-stack : (es : List Expr)
@@ -113,7 +113,7 @@ fine-push words ts word t fine is enough = record {
   ];
 }
 
--- the words before a position, and with the word there
+-- the first k + 1 words are the first k and the next one
 pub texts-more : (items : List (Bor (List ℕ))) (k : ℕ) (w : Bor (List ℕ)) → k < length items
     → take (k + 1) (texts items) ≡ take k (texts items) ++ (get_or items k w).now ∷ []
 texts-more items k w lt =
@@ -122,14 +122,14 @@ texts-more items k w lt =
 
 module _ (items : List (Bor (List ℕ))) (k : ℕ) (w : Bor (List ℕ)) (inside : k < length items)
     (tokens : List Token) (fine : AreFine (take k (texts items)) tokens) where
-  -- the loop over words goes on with the token of the next word
+  -- the loop continues with the token of the next word
   pub fine-more : (t : Token) (more : List Token) → token_of (get_or items k w).now ≡ Some t
       → takes t ≤ height tokens → more ≡ tokens ++ t ∷ []
       → AreFine (take (k + 1) (texts items)) more
   fine-more t more is enough e = rw (texts-more items k w inside, e)
       (fine-push (take k (texts items)) tokens (get_or items k w).now t fine is enough)
 
-  -- or it ends at the next word, which is the first faulty one
+  -- or it ends at the next word, which is the first with an error
   pub ends-at : (e : ExprError) → IsFault tokens (get_or items k w).now e
       → IsRefused (texts items) e
   ends-at e fault = inl (record {

@@ -1,10 +1,10 @@
--- The tree that tokens in postfix order stand for, by a stack.
+-- The tree of tokens in postfix order, found with a stack.
 use Rattle.std.proofs.Common.{◌≡◌, ℕ, ◌+◌, ◌-◌, ◌≤◌, inl, inr, List, [], ◌∷◌, ◌++◌, map, Option}
 use Rattle.std.proofs.Common.{Some, None, cond, refl, sym, ap, subst, ◌∙◌, append_assoc, arith}
 use Rattle.std.specs.Prelude.{count_by}
 use Rattle.std.proofs.lemmas.List.{map-append, append-nil}
 use Rattle.sparse_expr.specs.declared.words.Token.{Token}
-use Rattle.sparse_expr.specs.declared.words.Token.TheVariants.{Operand, Plus, Minus, Times, Turn}
+use Rattle.sparse_expr.specs.declared.words.Token.TheVariants.{Operand, Plus, Minus, Times, Transpose}
 use Rattle.sparse_expr.specs.declared.words.Token.TheVariants.{Negate}
 use Rattle.sparse_expr.specs.declared.expr.Expr.{Expr}
 use Rattle.sparse_expr.specs.declared.expr.Expr.TheVariants as tree
@@ -14,7 +14,7 @@ use Rattle.sparse_expr.specs.PostfixWords.{IsFirstFault, IsRefused, IsSaid}
 use Rattle.sparse_expr.specs.OneTree.{Tree, Leaf, Single, Pair, tree_of}
 use Rattle.sparse_expr.proofs.Postfix.{height-stack, operands-append, operators-append}
 
--- ---- a tree is what its tokens leave on a stack
+-- ---- the tokens of a tree leave that tree on a stack
 
 abbrev single : Token → List Tree → List Tree
 single t [] = []
@@ -30,7 +30,7 @@ step (Operand n) s = Leaf n ∷ s
 step Plus s = pair Plus s
 step Minus s = pair Minus s
 step Times s = pair Times s
-step Turn s = single Turn s
+step Transpose s = single Transpose s
 step Negate s = single Negate s
 
 abbrev run : List Token → List Tree → List Tree
@@ -62,7 +62,7 @@ run-postfix (tree.Sub' p a q b) s = run-pair (postfix a) (postfix b) Minus (tree
     (run-postfix a s) (run-postfix b (tree_of a ∷ s)) refl
 run-postfix (tree.Mul' p a q b) s = run-pair (postfix a) (postfix b) Times (tree_of a) (tree_of b) s
     (run-postfix a s) (run-postfix b (tree_of a ∷ s)) refl
-run-postfix (tree.Transpose' p a) s = run-single (postfix a) Turn (tree_of a) s (run-postfix a s)
+run-postfix (tree.Transpose' p a) s = run-single (postfix a) Transpose (tree_of a) s (run-postfix a s)
     refl
 run-postfix (tree.Neg' p a) s = run-single (postfix a) Negate (tree_of a) s (run-postfix a s) refl
 
@@ -104,7 +104,7 @@ abbrev Enough : ℕ → List Token → Type 0
 Enough h [] = Unit {0}
 Enough h (t ∷ ts) = (takes t ≤ h) × Enough (after h t) ts
 
--- the tokens find their operands at any height, and leave one operand more
+-- the tokens find their operands on a stack of any height, and leave one operand more
 abbrev IsWhole : List Token → Type 0
 IsWhole xs = (h : ℕ) (rest : List Token) → Enough (h + 1) rest → Enough h (xs ++ rest)
 
@@ -135,31 +135,31 @@ whole-postfix (tree.Sub' p a q b) = whole-pair (postfix a) (postfix b) Minus ref
     (whole-postfix b)
 whole-postfix (tree.Mul' p a q b) = whole-pair (postfix a) (postfix b) Times refl (whole-postfix a)
     (whole-postfix b)
-whole-postfix (tree.Transpose' p a) = whole-single (postfix a) Turn refl (whole-postfix a)
+whole-postfix (tree.Transpose' p a) = whole-single (postfix a) Transpose refl (whole-postfix a)
 whole-postfix (tree.Neg' p a) = whole-single (postfix a) Negate refl (whole-postfix a)
 
--- the height after tokens, by recursion
+-- the number of operands after tokens, by recursion
 abbrev level : ℕ → List Token → ℕ
 level h [] = h
 level h (t ∷ ts) = level (after h t) ts
 
-Enough-front : (h : ℕ) (xs ys : List Token) → Enough h (xs ++ ys) → Enough h xs
-Enough-front h [] ys enough = tt
-Enough-front h (x ∷ xs) ys enough = (enough.0, Enough-front (after h x) xs ys enough.1)
+Enough-initial : (h : ℕ) (xs ys : List Token) → Enough h (xs ++ ys) → Enough h xs
+Enough-initial h [] ys enough = tt
+Enough-initial h (x ∷ xs) ys enough = (enough.0, Enough-initial (after h x) xs ys enough.1)
 
 Enough-next : (h : ℕ) (xs : List Token) (t : Token) (ys : List Token)
     → Enough h (xs ++ (t ∷ ys)) → takes t ≤ level h xs
 Enough-next h [] t ys enough = enough.0
 Enough-next h (x ∷ xs) t ys enough = Enough-next (after h x) xs t ys enough.1
 
--- how a token changes the counts
+-- how a token changes the counts of operands and of binary operators
 count-token : (t : Token) (h : ℕ) → takes t ≤ h
     → h + cond (is_operand t) 1 0 ≡ cond (is_binary t) 1 0 + after h t
 count-token (Operand n) h le = omega arith
 count-token Plus h le = omega (arith, le)
 count-token Minus h le = omega (arith, le)
 count-token Times h le = omega (arith, le)
-count-token Turn h le = omega (arith, le)
+count-token Transpose h le = omega (arith, le)
 count-token Negate h le = omega (arith, le)
 
 level-counts : (h : ℕ) (xs : List Token) → Enough h xs
@@ -179,7 +179,7 @@ level-counts h (x ∷ xs) enough =
       operators-append (x ∷ []) xs,
     )
 
--- each token of a tree finds its operands in what stands before it
+-- each token of a tree finds its operands among the tokens before it
 enough-at : (e : Expr) (before : List Token) (t : Token) (more : List Token)
     → postfix e ≡ before ++ (t ∷ more) → takes t ≤ height before
 enough-at e before t more split =
@@ -189,10 +189,10 @@ enough-at e before t more split =
     omega (
       arith,
       Enough-next 0 before t more here,
-      level-counts 0 before (Enough-front 0 before (t ∷ more) here),
+      level-counts 0 before (Enough-initial 0 before (t ∷ more) here),
     )
 
--- ---- words that say a tree are not refused
+-- ---- words that give a tree have no error
 
 no-none : (ts : List Token) (rest : List (Option Token)) (us : List Token)
     → map Some ts ++ (None ∷ rest) ≡ map Some us → ⊥

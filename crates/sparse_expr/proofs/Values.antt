@@ -26,11 +26,11 @@ module _ (R : CommRing) where
       ((Decides-eqb x.cols y.rows).1 fits)
       ∙ ap Ok (sym is)
 
-  -- a value made of two operands that have values
-  pub both_made : (make : Plain R → Plain R → Result (Plain R) ExprError)
+  -- an operation on two operands that have values
+  pub both_ok : (make : Plain R → Plain R → Result (Plain R) ExprError)
       → (r s : Result (Plain R) ExprError) (x y : Plain R) → r ≡ Ok x → s ≡ Ok y
       → both R make r s ≡ make x y
-  both_made make r s x y hr hs = ap (λ r. both R make r s) hr ∙ ap (both R make (Ok x)) hs
+  both_ok make r s x y hr hs = ap (λ r. both R make r s) hr ∙ ap (both R make (Ok x)) hs
 
   sizes_met : (x y : Plain R) → x.rows ≡ y.rows → x.cols ≡ y.cols → same_sizes R x y ≡ true
   sizes_met x y er ec =

@@ -1,4 +1,4 @@
--- From texts and an expression to a text.
+-- The texts of a run and the text of its value, and the errors of a run.
 use Rattle.std.specs.Prelude.{◌≡◌, ◌⊎◌, ℕ, ℤ, ◌+◌, List, [], ◌∷◌, ◌++◌, map, length, codes, Result}
 use Rattle.std.specs.Prelude.{Ok, Err, Option, Some}
 use Rattle.std.specs.Int.{w64}
@@ -21,8 +21,8 @@ use Rattle.sparse_parser.specs.declared.error.MatrixMarketErrorKind.{MatrixMarke
 use Rattle.sparse_expr.specs.declared.expr.Expr.{Expr}
 use Rattle.sparse_expr.specs.declared.error.ExprError.{ExprError}
 use Rattle.sparse_expr.specs.declared.error.ExprError.TheVariants as refusal
-use Rattle.sparse_expr.specs.declared.calculator.Form.{Form}
-use Rattle.sparse_expr.specs.declared.calculator.Form.TheVariants.{Rows, Cols}
+use Rattle.sparse_expr.specs.declared.calculator.OutputOrder.{OutputOrder}
+use Rattle.sparse_expr.specs.declared.calculator.OutputOrder.TheVariants.{Rows, Cols}
 use Rattle.sparse_expr.specs.Value.{value_of}
 
 -- the integers modulo 2^64
@@ -33,8 +33,8 @@ ring64 = wrapping_ring w64
 abbrev pub element_text : ring64.Carrier → List ℕ
 element_text c = signed_decimal (number_of w64 c)
 
--- the text of a plain matrix, in the order of a form
-abbrev pub text_in : Form → Plain ring64 → List ℕ
+-- the text of a plain matrix, with its entries row by row or column by column
+abbrev pub text_in : OutputOrder → Plain ring64 → List ℕ
 text_in Rows a = written_text (codes "integer") element_text a.rows a.cols (row_order ring64 a)
 text_in Cols a = written_text (codes "integer") element_text a.rows a.cols (col_order ring64 a)
 
@@ -48,7 +48,7 @@ AllMean [] [] = Unit {0}
 AllMean (text ∷ texts) (m ∷ ms) = Means scalar64 text (Ok m) × AllMean texts ms
 AllMean _ _ = ⊥
 
--- the number-th text, counted from 1, is the first that is refused, for this reason
+-- the text with this number, counted from 1, is the first with an error, and this is its kind
 pub record IsFirstRefused (texts : List (List ℕ)) (number : ℕ) (kind : MatrixMarketErrorKind) : Type
     0 where
   pub before : List (List ℕ)
@@ -57,14 +57,14 @@ pub record IsFirstRefused (texts : List (List ℕ)) (number : ℕ) (kind : Matri
   pub ms : List (Coo ℤ)
   pub split : texts ≡ before ++ text ∷ after
   pub counted : number ≡ length before + 1
-  pub taken : AllMean before ms
+  pub accepted : AllMean before ms
   pub refused : Means scalar64 text (Err kind)
 
 -- lists of triplets as plain matrices, their numbers read modulo 2^64
 abbrev pub plains : List (Coo ℤ) → List (Plain ring64)
 plains ms = map (λ m. plain_of_coo ring64 (class_of w64) m) ms
 
--- the texts have meanings, and over these the expression has this value or this refusal
+-- the texts have meanings, over which the expression has this value or this error
 pub record HasOutcome (texts : List (List ℕ)) (expr : Expr)
     (outcome : Result (Plain ring64) ExprError) : Type 0 where
   pub ms : List (Coo ℤ)
@@ -72,34 +72,34 @@ pub record HasOutcome (texts : List (List ℕ)) (expr : Expr)
   pub evaluated : value_of ring64 (plains ms) expr ≡ outcome
 
 -- the text of the expression's value was appended
-pub record Writes (form : Form) (texts : List (List ℕ)) (expr : Expr) (old new : Option (List ℕ)) :
+pub record Writes (order : OutputOrder) (texts : List (List ℕ)) (expr : Expr) (old new : Option (List ℕ)) :
     Type 0 where
   pub value : Plain ring64
   pub is_value : HasOutcome texts expr (Ok value)
-  pub appended : Appends old new (text_in form value)
+  pub appended : Appends old new (text_in order value)
 
--- a prefix of it was
-pub record WritesSome (form : Form) (texts : List (List ℕ)) (expr : Expr)
+-- a prefix of the text of the expression's value was appended
+pub record WritesSome (order : OutputOrder) (texts : List (List ℕ)) (expr : Expr)
     (old new : Option (List ℕ)) : Type 0 where
   pub value : Plain ring64
   pub is_value : HasOutcome texts expr (Ok value)
-  pub appended : AppendsSome old new (text_in form value)
+  pub appended : AppendsSome old new (text_in order value)
 
--- what a call did to its sink: the bytes taken, the failed writes, and the kind of the last of
--- these
+-- what a call did to its sink: the bytes accepted, the number of failed writes, and the kind of the
+-- last of these
 pub record Effect : Type 0 where
-  pub taken_before : Option (List ℕ)
-  pub taken : Option (List ℕ)
+  pub accepted_before : Option (List ℕ)
+  pub accepted : Option (List ℕ)
   pub failures_before : ℕ
   pub failures : ℕ
   pub last : Option ErrorKind
 
--- the effect between two moments
+-- the effect of a call, from what contracts cite of the sink before and after it
 abbrev pub effect : Option (List ℕ) → Option (List ℕ) → ℕ → ℕ → Option ErrorKind → Effect
-effect taken_before taken failures_before failures last =
+effect accepted_before accepted failures_before failures last =
     record {
-      taken_before = taken_before;
-      taken = taken;
+      accepted_before = accepted_before;
+      accepted = accepted;
       failures_before = failures_before;
       failures = failures;
       last = last;
@@ -107,18 +107,18 @@ effect taken_before taken failures_before failures last =
 
 -- no byte was written, and no write failed
 abbrev pub IsUntouched : Effect → Type 0
-IsUntouched e = (e.taken ≡ e.taken_before) × (e.failures ≡ e.failures_before)
+IsUntouched e = (e.accepted ≡ e.accepted_before) × (e.failures ≡ e.failures_before)
 
--- when a run is refused, and what it has then written
-abbrev pub RefusesRun : Form → List (List ℕ) → Expr → Effect → ExprError → Type 0
-RefusesRun form texts expr e (refusal.Input number kind) = IsFirstRefused texts number kind
+-- the errors of a run, and what it has written in each case
+abbrev pub RefusesRun : OutputOrder → List (List ℕ) → Expr → Effect → ExprError → Type 0
+RefusesRun order texts expr e (refusal.Input number kind) = IsFirstRefused texts number kind
     × IsUntouched e
-RefusesRun form texts expr e refusal.NoSuchInput = HasOutcome texts expr (Err refusal.NoSuchInput)
+RefusesRun order texts expr e refusal.NoSuchInput = HasOutcome texts expr (Err refusal.NoSuchInput)
     × IsUntouched e
-RefusesRun form texts expr e refusal.Shape = HasOutcome texts expr (Err refusal.Shape)
+RefusesRun order texts expr e refusal.Shape = HasOutcome texts expr (Err refusal.Shape)
     × IsUntouched e
-RefusesRun form texts expr e (refusal.Write kind) = WritesSome form texts expr e.taken_before
-    e.taken × (e.failures ≡ e.failures_before + 1) × (e.last ≡ Some kind)
-RefusesRun form texts expr e refusal.OutOfMemory = (e.failures ≡ e.failures_before)
-    × ((e.taken ≡ e.taken_before) ⊎ WritesSome form texts expr e.taken_before e.taken)
-RefusesRun form texts expr e _ = ⊥
+RefusesRun order texts expr e (refusal.Write kind) = WritesSome order texts expr e.accepted_before
+    e.accepted × (e.failures ≡ e.failures_before + 1) × (e.last ≡ Some kind)
+RefusesRun order texts expr e refusal.OutOfMemory = (e.failures ≡ e.failures_before)
+    × ((e.accepted ≡ e.accepted_before) ⊎ WritesSome order texts expr e.accepted_before e.accepted)
+RefusesRun order texts expr e _ = ⊥

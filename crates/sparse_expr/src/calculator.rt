@@ -1,4 +1,4 @@
-//! Runs of an expression over texts.
+//! Evaluating an expression over Matrix Market texts, and writing its value as a text.
 
 ghost use Rattle.std.specs.Prelude.{◌≡◌, ◌⊎◌, ◌+◌, ℕ, List, Ok, Err, map, OnOk, IfOk, OnErr, IfErr};
 ghost use Rattle.std.specs.Prelude.{string_bytes};
@@ -15,7 +15,7 @@ ghost use Rattle.sparse_expr.specs.declared.error.ExprError.TheVariants.{Input, 
 use crate::error::ExprError;
 use crate::evaluate::{evaluate_cols, evaluate_rows};
 use crate::expr::Expr;
-use sparse_algebra::learn;
+use sparse_algebra::recall;
 use sparse_algebra::scalar::W64;
 use sparse_coo_dense::coo::CooMatrix;
 use sparse_io::{
@@ -24,12 +24,12 @@ use sparse_io::{
 };
 use std::alloc::Global;
 
-/// The order in which a matrix is written.
+/// The order in which the entries of a matrix are written.
 #[derive(Clone, Copy, Debug, PartialEq, Eq)]
-pub enum Form {
-    /// Row after row, columns rising.
+pub enum OutputOrder {
+    /// Row by row, with ascending columns.
     Rows,
-    /// Column after column, rows rising.
+    /// Column by column, with ascending rows.
     Cols,
 }
 
@@ -37,10 +37,10 @@ pub enum Form {
 ///
 /// # Errors
 ///
-/// Returns `Input`, with its number counted from 1, for the first text that has an error, and otherwise the error of
-/// the expression; nothing is written in these cases. Returns `Write` with its kind if a write fails; a prefix of the
-/// value's text has then been written. Returns `OutOfMemory` if an allocation fails; nothing or such a prefix has then
-/// been written.
+/// Returns `Input`, with the number of the text counted from 1, for the first text that has an error, and otherwise the
+/// error of the expression; nothing is written in these cases. Returns `Write`, with the kind of the failure, if a
+/// write fails; a prefix of the value's text has then been written. Returns `OutOfMemory` if an allocation fails;
+/// nothing or a prefix has then been written.
 ///
 /// # Examples
 ///
@@ -49,31 +49,31 @@ pub enum Form {
 ///     let text = "%%MatrixMarket matrix coordinate integer general\n1 1 1\n1 1 3\n";
 ///     let square = Expr::from_words(alloc, "1 1 *")?;
 ///     let mut out = Out::new(Vec::new(alloc));
-///     run(alloc, Form::Rows, &square, &[text], &mut out)?;
+///     run(alloc, OutputOrder::Rows, &square, &[text], &mut out)?;
 ///     Ok(out.into_inner().ends_with(b"1 1 1\n1 1 9\n"))
 /// }
 /// ```
 pub fn run<W: Sink>(
     alloc: Global,
-    form: Form,
+    order: OutputOrder,
     expr: &Expr,
     sources: &[&str],
     out: &mut W,
 ) -> Result<(), ExprError>
     ensures written { OnOk result
-        (Writes form (texts sources.now) expr.now (W.taken out.old) (W.taken out.new)) }
+        (Writes order (texts sources.now) expr.now (W.accepted out.old) (W.accepted out.new)) }
     ensures none_failed { OnOk result (W.failures out.new ≡ W.failures out.old) }
-    ensures refused { IfErr result (RefusesRun form (texts sources.now) expr.now
-        (effect (W.taken out.old) (W.taken out.new)
+    ensures refused { IfErr result (RefusesRun order (texts sources.now) expr.now
+        (effect (W.accepted out.old) (W.accepted out.new)
         (W.failures out.old) (W.failures out.new) (W.last out.new))) }
 {
     let inputs = load_all(alloc, sources)?;
-    write_value(alloc, form, expr, &inputs, out)
+    write_value(alloc, order, expr, &inputs, out)
 }
 
-/// As [`run`], but takes the texts by value, and drops each before the next one is loaded.
+/// As [`run`], but takes the texts by value, and drops each before it loads the next one.
 ///
-/// So it takes less memory than [`run`] where the texts are needed no more.
+/// It uses less memory than [`run`] if the caller does not need the texts any more.
 ///
 /// # Examples
 ///
@@ -83,54 +83,54 @@ pub fn run<W: Sink>(
 ///     let texts = vec![in alloc; String::from_str(alloc, text)?]?;
 ///     let double = Expr::from_words(alloc, "1 1 +")?;
 ///     let mut out = Out::new(Vec::new(alloc));
-///     run_owned(alloc, Form::Rows, &double, texts, &mut out)?;
+///     run_owned(alloc, OutputOrder::Rows, &double, texts, &mut out)?;
 ///     Ok(out.into_inner().ends_with(b"1 1 1\n1 1 6\n"))
 /// }
 /// ```
 pub fn run_owned<W: Sink>(
     alloc: Global,
-    form: Form,
+    order: OutputOrder,
     expr: &Expr,
     sources: Vec<String>,
     out: &mut W,
 ) -> Result<(), ExprError>
-    ensures written { OnOk result (Writes form (map string_bytes sources.items) expr.now
-        (W.taken out.old) (W.taken out.new)) }
+    ensures written { OnOk result (Writes order (map string_bytes sources.items) expr.now
+        (W.accepted out.old) (W.accepted out.new)) }
     ensures none_failed { OnOk result (W.failures out.new ≡ W.failures out.old) }
-    ensures refused { IfErr result (RefusesRun form (map string_bytes sources.items) expr.now
-        (effect (W.taken out.old) (W.taken out.new)
+    ensures refused { IfErr result (RefusesRun order (map string_bytes sources.items) expr.now
+        (effect (W.accepted out.old) (W.accepted out.new)
         (W.failures out.old) (W.failures out.new) (W.last out.new))) }
 {
     let inputs = load_owned(alloc, sources)?;
-    write_value(alloc, form, expr, &inputs, out)
+    write_value(alloc, order, expr, &inputs, out)
 }
 
-// Evaluates the expression over the lists that the texts mean, and writes its value.
+// Evaluates the expression over the loaded lists of triplets, and writes its value.
 fn write_value<W: Sink>(
     alloc: Global,
-    form: Form,
+    order: OutputOrder,
     expr: &Expr,
     inputs: &[CooMatrix<W64>],
     out: &mut W,
 ) -> Result<(), ExprError>
     ensures written { OnOk result ((texts : List (List ℕ))
         → AllMean texts (map numbers_of inputs.now)
-        → Writes form texts expr.now (W.taken out.old) (W.taken out.new)) }
+        → Writes order texts expr.now (W.accepted out.old) (W.accepted out.new)) }
     ensures none_failed { OnOk result (W.failures out.new ≡ W.failures out.old) }
     ensures refused { IfErr result (λ e. (texts : List (List ℕ))
         → AllMean texts (map numbers_of inputs.now)
-        → RefusesRun form texts expr.now (effect (W.taken out.old) (W.taken out.new)
+        → RefusesRun order texts expr.now (effect (W.accepted out.old) (W.accepted out.new)
         (W.failures out.old) (W.failures out.new) (W.last out.new)) e) }
 {
-    match form {
-        Form::Rows => {
+    match order {
+        OutputOrder::Rows => {
             let value = evaluate_rows(alloc, expr, inputs)?;
-            learn(value.values());
+            recall(value.values());
             save(alloc, &value, out)
         }
-        Form::Cols => {
+        OutputOrder::Cols => {
             let value = evaluate_cols(alloc, expr, inputs)?;
-            learn(value.values());
+            recall(value.values());
             save(alloc, &value, out)
         }
     }
@@ -161,7 +161,7 @@ fn load_owned(alloc: Global, sources: Vec<String>) -> Result<Vec<CooMatrix<W64>>
     Ok(inputs)
 }
 
-// Loads the text with this number.
+// Loads a text. Its number is that of the error, if it has one.
 fn load(alloc: Global, number: usize, text: &str) -> Result<CooMatrix<W64>, ExprError>
     ensures meant { IfOk result (λ m. Means scalar64 text.now (Ok (numbers_of m))) }
     ensures refused { IfErr result (λ e. (e ≡ OutOfMemory)
@@ -177,18 +177,18 @@ fn load(alloc: Global, number: usize, text: &str) -> Result<CooMatrix<W64>, Expr
     }
 }
 
-// Writes a matrix in the order of its form.
+// Writes a matrix in the order of its format.
 fn save<S, W>(alloc: Global, matrix: &S, out: &mut W) -> Result<(), ExprError>
 where
     S: MatrixMarketExport<W64>,
     W: Sink,
     ensures none_failed { OnOk result (W.failures out.new ≡ W.failures out.old) }
     ensures all { OnOk result
-        (Appends (W.taken out.old) (W.taken out.new) (text_of_coo (S.exported matrix.now))) }
+        (Appends (W.accepted out.old) (W.accepted out.new) (text_of_coo (S.exported matrix.now))) }
     ensures prefix { OnErr result
-        (AppendsSome (W.taken out.old) (W.taken out.new) (text_of_coo (S.exported matrix.now))) }
+        (AppendsSome (W.accepted out.old) (W.accepted out.new) (text_of_coo (S.exported matrix.now))) }
     ensures refused { IfErr result (RefusesSave
-        (effect (W.taken out.old) (W.taken out.new)
+        (effect (W.accepted out.old) (W.accepted out.new)
         (W.failures out.old) (W.failures out.new) (W.last out.new))) }
 {
     match save_to_matrix_market(alloc, out, matrix) {

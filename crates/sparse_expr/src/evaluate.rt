@@ -23,12 +23,14 @@ use std::rc::Rc;
 
 /// Returns the value of an expression over inputs, as a CSR matrix.
 ///
-/// The left operand comes before the right one, and both before their shapes: `NoSuchInput` for a number of no input,
-/// `Shape` where shapes do not fit. `OutOfMemory` if an allocation fails.
+/// Returns the first error, that of the left operand before that of the right one and of their operation: `NoSuchInput`
+/// if no input has a number of the expression, `Shape` if the shapes of operands do not fit. Returns `OutOfMemory` if an
+/// allocation fails.
 ///
-/// Each input is converted at most twice, by rows and by columns, however often it is named, and a matrix is dropped
-/// after its last use. Transposes cost nothing: they are moved inwards to the inputs, which are read by columns there.
-/// The stack grows with the depth of the expression: 20,000 levels fit in 8 MiB.
+/// Each input is converted at most twice, to CSR and to CSC, however often the expression names it, and a matrix is
+/// dropped after its last use. Transposes cost nothing: an operand of a transpose is evaluated transposed, down to the
+/// inputs, which are converted to CSC instead of CSR. The stack grows with the depth of the expression: 20,000 levels
+/// fit in 8 MiB.
 pub fn evaluate_rows<T: Ring>(
     alloc: Global,
     expr: &Expr,
@@ -40,7 +42,7 @@ pub fn evaluate_rows<T: Ring>(
     value(alloc, expr, inputs, false)
 }
 
-/// Returns the value of an expression over inputs, as a CSC matrix, under the same terms as [`evaluate_rows`].
+/// Returns the value of an expression over inputs, as a CSC matrix, with the errors and the cost of [`evaluate_rows`].
 pub fn evaluate_cols<T: Ring>(
     alloc: Global,
     expr: &Expr,
@@ -55,7 +57,7 @@ pub fn evaluate_cols<T: Ring>(
     }
 }
 
-// The value of an expression by rows, or its transpose by rows if `transposed`.
+// The value of an expression as a CSR matrix, or that of its transpose if `transposed`.
 fn value<T: Ring>(
     alloc: Global,
     expr: &Expr,
@@ -71,7 +73,7 @@ fn value<T: Ring>(
     Ok(owned(alloc, matrix)?)
 }
 
-// Returns the matrix itself if it is not shared, and a copy if it is.
+// Returns the matrix itself if it is not shared, and a copy otherwise.
 fn owned<T: Ring>(alloc: Global, matrix: Rc<CsrMatrix<T>>) -> Result<CsrMatrix<T>, AllocError>
     ensures is { IfOk result (λ m. m ≡ matrix.value) }
 {
@@ -81,9 +83,9 @@ fn owned<T: Ring>(alloc: Global, matrix: Rc<CsrMatrix<T>>) -> Result<CsrMatrix<T
     }
 }
 
-// The value of an expression by rows, or its transpose by rows if `transposed`. The functions that it calls are not
-// inlined, so that its frame stays small: it recurses once a level.
-#[tactic(auto, using(sparse_products::proofs::Refusals::refused))]
+// The value of an expression as a CSR matrix, or that of its transpose if `transposed`. The functions that it calls are
+// not inlined, so that its stack frame stays small: it calls itself for each level of the expression.
+#[tactic(auto, using(sparse_algebra::proofs::EarlyReturns::early_return))]
 fn evaluate<T: Ring>(
     alloc: Global,
     expr: &Expr,
@@ -121,7 +123,7 @@ fn evaluate<T: Ring>(
     }
 }
 
-// The negation of a matrix, or of its transpose; in place if the matrix is not shared.
+// The negation of a matrix, whose transpose is the negation of the transpose; in place if the matrix is not shared.
 #[inline(never)]
 fn negation<T: Ring>(alloc: Global, x: Rc<CsrMatrix<T>>) -> Result<Rc<CsrMatrix<T>>, ExprError>
     ensures { (transposed : Bool) → Meets T.ring (λ m. rows_or_transposed T.ring T.value transposed m.value)
@@ -131,7 +133,7 @@ fn negation<T: Ring>(alloc: Global, x: Rc<CsrMatrix<T>>) -> Result<Rc<CsrMatrix<
     Ok(Rc::new(alloc, negated)?)
 }
 
-// The sum of two matrices, or of their transposes.
+// The sum of two matrices, whose transpose is the sum of their transposes.
 #[inline(never)]
 fn sum<T: Ring>(
     alloc: Global,
@@ -148,7 +150,7 @@ fn sum<T: Ring>(
     Ok(Rc::new(alloc, add_csr(alloc, x.as_ref(), y.as_ref())?)?)
 }
 
-// The difference of two matrices, or of their transposes.
+// The difference of two matrices, whose transpose is the difference of their transposes.
 #[inline(never)]
 fn difference<T: Ring>(
     alloc: Global,
@@ -165,7 +167,8 @@ fn difference<T: Ring>(
     Ok(Rc::new(alloc, sub_csr(alloc, x.as_ref(), y.as_ref())?)?)
 }
 
-// The product of two matrices; of transposes it is the transpose of the product in reverse order.
+// The product of two matrices. If `transposed`, they are the transposes of two operands, and the result is the
+// transpose of the operands' product: the product of the matrices in reverse order.
 #[inline(never)]
 fn product<T: Ring>(
     alloc: Global,

@@ -6,7 +6,7 @@ ghost use Rattle.sparse_expr.specs.OneTree.{tree_of};
 ghost use Rattle.sparse_expr.specs.declared.expr.Expr.{Expr};
 ghost use Rattle.sparse_expr.specs.declared.error.ExprError.{ExprError};
 
-/// Words say at most one tree, and words that say one are not refused.
+/// Words in postfix order denote at most one tree, and words that denote a tree have no error.
 pub fn one_tree_law()
     ensures same { (words : List (List ℕ)) (a b : Expr) → IsSaid words a → IsSaid words b
         → tree_of a ≡ tree_of b }

@@ -1,4 +1,4 @@
-//! Matrix expressions: words to a tree, and texts to a text.
+//! Matrix expressions: parsed from words in postfix order, and evaluated over matrices or Matrix Market texts.
 #![tactic(auto)]
 
 mod calculator;
@@ -9,7 +9,7 @@ pub mod laws;
 mod sources;
 mod words;
 
-pub use calculator::{Form, run, run_owned};
+pub use calculator::{OutputOrder, run, run_owned};
 pub use error::ExprError;
 pub use evaluate::{evaluate_cols, evaluate_rows};
 pub use expr::Expr;

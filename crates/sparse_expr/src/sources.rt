@@ -1,4 +1,4 @@
-//! The inputs of an expression, each converted at most once by rows and once by columns.
+//! The inputs of an expression, each converted at most once to CSR and once to CSC.
 
 ghost use Rattle.std.specs.Prelude.{◌≡◌, List, IfOk, OnOk, map};
 ghost use Rattle.std.specs.List.{AllZip};
@@ -17,22 +17,22 @@ use sparse_csr_csc::csr::CsrMatrix;
 use std::alloc::{AllocError, Global};
 use std::rc::Rc;
 
-/// A matrix that is made when it is first needed, and kept while it will be needed again.
+/// A matrix that is converted at its first use and kept until its last one.
 #[derive(Drop)]
-pub(crate) struct Slot<T> {
-    // How often the matrix will still be needed. Only time and memory depend on it.
+pub(crate) struct CachedMatrix<T> {
+    // The number of uses left. Only time and memory depend on it.
     uses: usize,
     matrix: Option<Rc<CsrMatrix<T>>>,
 }
 
-/// An input by rows, and its transpose by rows.
+/// An input as a CSR matrix, and its transpose as a CSR matrix.
 #[derive(Drop)]
 pub(crate) struct Source<T> {
-    rows: Slot<T>,
-    transposed: Slot<T>,
+    rows: CachedMatrix<T>,
+    transposed: CachedMatrix<T>,
 }
 
-/// Returns a source for each input, without matrices.
+/// Returns a source for each input, with no matrix converted yet.
 pub(crate) fn empty_sources<T: Ring>(
     alloc: Global,
     inputs: &[CooMatrix<T>],
@@ -42,11 +42,11 @@ pub(crate) fn empty_sources<T: Ring>(
 {
     let mut sources = Vec::with_capacity(alloc, inputs.len())?;
     for _input in inputs {
-        let rows = Slot {
+        let rows = CachedMatrix {
             uses: 0,
             matrix: None,
         };
-        let transposed = Slot {
+        let transposed = CachedMatrix {
             uses: 0,
             matrix: None,
         };
@@ -71,7 +71,7 @@ pub(crate) fn count_uses<T: Ring>(expr: &Expr, transposed: bool, sources: &mut [
     }
 }
 
-// Counts one more use of the source of this number, counted from 1.
+// Counts a use of the source with this number, counted from 1, if there is one.
 fn count_use<T: Ring>(number: usize, transposed: bool, sources: &mut [Source<T>])
     ensures provides { (inputs : List (Coo T)) → AllZip (Provides T.ring T.value) inputs sources.old
         → AllZip (Provides T.ring T.value) inputs sources.new }
@@ -86,7 +86,7 @@ fn count_use<T: Ring>(number: usize, transposed: bool, sources: &mut [Source<T>]
     }
 }
 
-/// Returns an input by rows, or its transpose by rows if `transposed`.
+/// Returns an input as a CSR matrix, or its transpose if `transposed`.
 #[inline(never)]
 pub(crate) fn input<T: Ring>(
     alloc: Global,
@@ -108,7 +108,7 @@ pub(crate) fn input<T: Ring>(
     Ok(matrix_of(alloc, list, transposed, source)?)
 }
 
-// Returns the matrix of a list by rows, or its transpose by rows if `transposed`.
+// Returns a list as a CSR matrix, or its transpose if `transposed`.
 fn matrix_of<T: Ring>(
     alloc: Global,
     list: &CooMatrix<T>,
@@ -127,31 +127,31 @@ fn matrix_of<T: Ring>(
     }
 }
 
-// Returns the matrix of a slot, made if the slot has none, and leaves it there if it will be needed again.
-#[tactic(auto, using(sparse_products::proofs::Refusals::refused))]
+// Returns the matrix that is kept, or converts the list if there is none. Keeps it if uses are left.
+#[tactic(auto, using(sparse_algebra::proofs::EarlyReturns::early_return))]
 fn shared<T: Ring>(
     alloc: Global,
     list: &CooMatrix<T>,
     transposed: bool,
-    slot: &mut Slot<T>,
+    cached: &mut CachedMatrix<T>,
 ) -> Result<Rc<CsrMatrix<T>>, AllocError>
-    requires keeps { Keeps T.ring T.value transposed list.now slot.old }
+    requires keeps { Keeps T.ring T.value transposed list.now cached.old }
     ensures is { IfOk result
         (λ m. rows_or_transposed T.ring T.value transposed m.value ≡ plain_of_coo T.ring T.value list.now) }
-    ensures keeps { OnOk result (Keeps T.ring T.value transposed list.now slot.new) }
+    ensures keeps { OnOk result (Keeps T.ring T.value transposed list.now cached.new) }
 {
-    let matrix = match slot.matrix.take() {
+    let matrix = match cached.matrix.take() {
         Some(matrix) => matrix,
         None => Rc::new(alloc, converted(alloc, list, transposed)?)?,
     };
-    if slot.uses > 1 {
-        slot.uses -= 1;
-        slot.matrix = Some(matrix.clone()?);
+    if cached.uses > 1 {
+        cached.uses -= 1;
+        cached.matrix = Some(matrix.clone()?);
     }
     Ok(matrix)
 }
 
-// Converts a list by rows, or by columns read as the rows of the transpose if `transposed`.
+// Converts a list to CSR. If `transposed`, converts it to CSC, whose arrays are those of the transpose in CSR.
 fn converted<T: Ring>(
     alloc: Global,
     list: &CooMatrix<T>,

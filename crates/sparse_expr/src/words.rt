@@ -1,4 +1,4 @@
-//! From words to an expression.
+//! Parsing words in postfix order into an expression.
 
 ghost use Rattle.std.specs.Prelude.{◌≡◌, ◌⊎◌, ◌<◌, ◌≤◌, [], ◌∷◌, ◌++◌, OnOk, IfOk, IfErr, length};
 ghost use Rattle.std.specs.Prelude.{box_value};
@@ -25,7 +25,7 @@ pub(crate) enum Token {
     /// `*`, which takes two operands.
     Times,
     /// `t`, which takes one operand.
-    Turn,
+    Transpose,
     /// `n`, which takes one operand.
     Negate,
 }
@@ -57,7 +57,7 @@ fn operator(word: &[u8]) -> Option<Token>
     } else if word == b"*".as_slice() {
         Some(Token::Times)
     } else if word == b"t".as_slice() {
-        Some(Token::Turn)
+        Some(Token::Transpose)
     } else if word == b"n".as_slice() {
         Some(Token::Negate)
     } else {
@@ -81,13 +81,13 @@ impl Expr {
     /// the difference or the product of the two operands before it; `t` or `n` for the transpose or the negation of the
     /// operand before it.
     ///
-    /// Takes time and memory linear in the words.
+    /// Time and memory are linear in the length of the text.
     ///
     /// # Errors
     ///
-    /// Returns the first error from the left: `BadWord` for any other word, `MissingOperand` for an operator without
-    /// its operands or if there are no words, `LeftOver` if operands are left at the end. `OutOfMemory` if an
-    /// allocation fails.
+    /// Returns the first error from the left: `BadWord` for any other word; `MissingOperand` for an operator that lacks
+    /// operands, or if there are no words; `LeftOver` if more than one operand is left at the end. Returns
+    /// `OutOfMemory` if an allocation fails.
     ///
     /// # Examples
     ///
@@ -120,7 +120,7 @@ impl Expr {
     }
 }
 
-// Replaces a token's operands on the stack by its tree.
+// Replaces the operands of a token on the stack by the token's tree.
 fn apply(alloc: Global, token: Token, stack: &mut Vec<Expr>) -> Result<(), ExprError>
     ensures said { OnOk result
         (flat_map postfix stack.new.items ≡ flat_map postfix stack.old.items ++ token ∷ []) }
@@ -142,7 +142,7 @@ fn apply(alloc: Global, token: Token, stack: &mut Vec<Expr>) -> Result<(), ExprE
             let (a, b) = operands(alloc, stack)?;
             Expr::Mul(a, b)
         }
-        Token::Turn => Expr::Transpose(operand(alloc, stack)?),
+        Token::Transpose => Expr::Transpose(operand(alloc, stack)?),
         Token::Negate => Expr::Neg(operand(alloc, stack)?),
     };
     stack.push(tree)?;
@@ -151,7 +151,7 @@ fn apply(alloc: Global, token: Token, stack: &mut Vec<Expr>) -> Result<(), ExprE
 
 // Pops one tree and boxes it.
 fn operand(alloc: Global, stack: &mut Vec<Expr>) -> Result<Box<Expr>, ExprError>
-    ensures taken { IfOk result (λ a. stack.old.items ≡ stack.new.items ++ box_value a ∷ []) }
+    ensures accepted { IfOk result (λ a. stack.old.items ≡ stack.new.items ++ box_value a ∷ []) }
     ensures refused { IfErr result (λ e. (e ≡ OutOfMemory)
         ⊎ ((e ≡ MissingOperand) × (length stack.old.items < 1))) }
 {
@@ -161,9 +161,9 @@ fn operand(alloc: Global, stack: &mut Vec<Expr>) -> Result<Box<Expr>, ExprError>
     }
 }
 
-// Pops two trees and boxes them; the one pushed first comes first.
+// Pops two trees and boxes them. The one that was pushed first comes first.
 fn operands(alloc: Global, stack: &mut Vec<Expr>) -> Result<(Box<Expr>, Box<Expr>), ExprError>
-    ensures taken { IfOk result
+    ensures accepted { IfOk result
         (λ p. stack.old.items ≡ stack.new.items ++ box_value p.0 ∷ box_value p.1 ∷ []) }
     ensures refused { IfErr result (λ e. (e ≡ OutOfMemory)
         ⊎ ((e ≡ MissingOperand) × (length stack.old.items < 2))) }

@@ -1,4 +1,4 @@
--- A column that is appended: its rows are those of the fill.
+-- The rows of an appended column are those of the fill.
 use Rattle.std.proofs.Common.{◌≡◌, ℕ, ◌+◌, ◌<◌, ◌≤◌, ◌⊎◌, ◌↔◌, List, [], ◌∷◌, ◌++◌, length}
 use Rattle.std.proofs.Common.{slice_index, slice_range, Contains, length-append, sym, ◌∙◌, subst}
 use Rattle.std.proofs.Common.{arith}
@@ -12,7 +12,7 @@ use Rattle.sparse_factor.specs.InnerChildren.{IsInTails}
 use Rattle.sparse_factor.proofs.FillLaws.{low_filled}
 use Rattle.sparse_factor.proofs.Merged.{AreMerged, merged_has, filled_within}
 
--- column j of the fill of a base stands behind the columns before it, as a lane
+-- column j of the fill of a base is appended after the columns before it, as a lane
 pub record IsAppended (base : ℕ → ℕ → Type 0) (n j : ℕ) (offsets rows lane : List ℕ) : Type 0 where
   pub built : IsBuilt n (λ k i. Filled base i k) (j + 1) offsets rows
   pub rising : IsStrictlyIncreasing lane
@@ -23,7 +23,8 @@ pub record IsAppended (base : ℕ → ℕ → Type 0) (n j : ℕ) (offsets rows 
 slice_appended : (xs ys zs : List ℕ) → zs ≡ xs ++ ys → slice_range zs (length xs) (length zs) ≡ ys
 slice_appended xs ys zs is = rw is (grind (arith, common_steps, length-append xs ys))
 
--- the tails of the children of column j and its own rows, read behind the rows before it
+-- the rows after those of the columns before j are the tails of the children of column j and its
+-- base rows
 pub column_appended : {base : ℕ → ℕ → Type 0} {n : ℕ} {offsets rows firsts nexts : List ℕ} {j : ℕ}
     → AreMerged base n offsets rows firsts nexts j → (own : List ℕ)
     → ((i : ℕ) → Contains own i ↔ base i j) → {offsets' rows' lane : List ℕ}

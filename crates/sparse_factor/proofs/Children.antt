@@ -1,50 +1,50 @@
--- Lists of columns whose links fall.
+-- Linked lists of columns, where each link leads to a column before it.
 use Rattle.std.proofs.Common.{◌≡◌, ◌≢◌, ℕ, suc, ◌+◌, ◌-◌, ◌<◌, ◌≤◌, inl, inr, ◌⊎◌, List}
 use Rattle.std.proofs.Common.{slice_index}
 use Rattle.std.proofs.Common.{length, map, get_or, refl, sym, ap, ◌∙◌, subst, arith}
 use Rattle.std.proofs.lemmas.List.{get_or-map, get_or_default}
 use Rattle.sparse_factor.specs.InnerColumns.{IsRun, IsInTail, AreColumns}
-use Rattle.sparse_factor.specs.InnerChildren.{Reaches, here, next, AreFalling, IsTailRun}
+use Rattle.sparse_factor.specs.InnerChildren.{IsOnList, here, next, AreFalling, IsTailRun}
 use Rattle.sparse_factor.proofs.Runs.{run_part}
 
--- the first column of a list is that of its head, and the others follow its link
-pub reach_cases : {nexts : List ℕ} {head m : ℕ} → Reaches nexts head m → (k : ℕ) → head ≡ suc k
-    → (m ≡ k) ⊎ Reaches nexts (slice_index nexts k) m
-reach_cases (here {k}) l e = inl (omega arith)
-reach_cases {nexts} {head} {m} (next {k} r) l e =
+-- the first column of a list is that of its head, and the others are on the list of its link
+pub IsOnList-cases : {nexts : List ℕ} {head m : ℕ} → IsOnList nexts head m → (k : ℕ) → head ≡ suc k
+    → (m ≡ k) ⊎ IsOnList nexts (slice_index nexts k) m
+IsOnList-cases (here {k}) l e = inl (omega arith)
+IsOnList-cases {nexts} {head} {m} (next {k} r) l e =
     let same : k ≡ l = omega arith in
-    inr (subst (λ x. Reaches nexts (slice_index nexts x) m) same r)
+    inr (subst (λ x. IsOnList nexts (slice_index nexts x) m) same r)
 
-pub reach_none : {nexts : List ℕ} {head m : ℕ} → Reaches nexts head m → head ≡ 0 → ⊥
-reach_none here e = omega arith
-reach_none (next r) e = omega arith
+pub IsOnList-none : {nexts : List ℕ} {head m : ℕ} → IsOnList nexts head m → head ≡ 0 → ⊥
+IsOnList-none here e = omega arith
+IsOnList-none (next r) e = omega arith
 
-pub reach_first : {nexts : List ℕ} {head k : ℕ} → head ≡ suc k → Reaches nexts head k
-reach_first {nexts} {k = k} e = subst (λ h. Reaches nexts h k) (sym e) here
+pub IsOnList-head : {nexts : List ℕ} {head k : ℕ} → head ≡ suc k → IsOnList nexts head k
+IsOnList-head {nexts} {k = k} e = subst (λ h. IsOnList nexts h k) (sym e) here
 
--- what the link of its head reaches
-pub reach_more : {nexts : List ℕ} {head link k : ℕ} → head ≢ 0
-    → link ≡ slice_index nexts (head - 1) → Reaches nexts link k → Reaches nexts head k
-reach_more {nexts} {head} {k = k} some is r =
+-- a list contains the columns on the list of its first link
+pub IsOnList-next : {nexts : List ℕ} {head link k : ℕ} → head ≢ 0
+    → link ≡ slice_index nexts (head - 1) → IsOnList nexts link k → IsOnList nexts head k
+IsOnList-next {nexts} {head} {k = k} some is r =
     let e : head ≡ suc (head - 1) = omega (arith, some) in
-    subst (λ h. Reaches nexts h k) (sym e) (next (subst (λ h. Reaches nexts h k) is r))
+    subst (λ h. IsOnList nexts h k) (sym e) (next (subst (λ h. IsOnList nexts h k) is r))
 
--- what a list reaches comes before its head
-pub reach_below : {nexts : List ℕ} {head m : ℕ} → AreFalling nexts → Reaches nexts head m → m < head
-reach_below falling here = omega arith
-reach_below falling (next {k} r) = omega (arith, reach_below falling r, falling k)
+-- the columns on a list are less than its head
+pub IsOnList-below : {nexts : List ℕ} {head m : ℕ} → AreFalling nexts → IsOnList nexts head m → m < head
+IsOnList-below falling here = omega arith
+IsOnList-below falling (next {k} r) = omega (arith, IsOnList-below falling r, falling k)
 
--- a list is kept where the links of its columns are
-pub reach_kept : {nexts : List ℕ} (new : List ℕ) {head m : ℕ} (j : ℕ)
+-- a list is the same if the links of its columns are the same
+pub IsOnList-same_links : {nexts : List ℕ} (new : List ℕ) {head m : ℕ} (j : ℕ)
     → ((k : ℕ) → k < j → slice_index new k ≡ slice_index nexts k)
-    → ((k : ℕ) → k < j → slice_index nexts k ≤ k) → Reaches nexts head m → head ≤ j
-    → Reaches new head m
-reach_kept new j same falling here le = here
-reach_kept {nexts} new j same falling (next {k} {m} r) le =
-    next (subst (λ h. Reaches new h m) (sym (same k (omega arith)))
-    (reach_kept new j same falling r (omega (arith, falling k (omega arith)))))
+    → ((k : ℕ) → k < j → slice_index nexts k ≤ k) → IsOnList nexts head m → head ≤ j
+    → IsOnList new head m
+IsOnList-same_links new j same falling here le = here
+IsOnList-same_links {nexts} new j same falling (next {k} {m} r) le =
+    next (subst (λ h. IsOnList new h m) (sym (same k (omega arith)))
+    (IsOnList-same_links new j same falling r (omega (arith, falling k (omega arith)))))
 
--- the number at a position
+-- the number at an offset
 pub number_at : {C : Type 0} (f : C → ℕ) (xs : List C) (t : ℕ) {n : ℕ} {x : C} → t < length xs
     → x ≡ get_or xs t x → n ≡ f x → n ≡ slice_index (map f xs) t
 number_at f xs t {x = x} lt read is = is ∙ (ap f read ∙ sym (get_or-map f xs t x 0 lt))
@@ -58,7 +58,7 @@ link_at f links count head some within linked read is =
 
 -- ---- the column of a head
 
--- the positions from `from` to `to` are those of the column of the head
+-- the rows from `from` to `to` are the column of the head
 pub record IsColumnAt (offsets rows : List ℕ) (head from to : ℕ) : Type 0 where
   pub head_is : head ≡ suc (head - 1)
   pub from_is : from ≡ slice_index offsets (head - 1)
@@ -66,7 +66,7 @@ pub record IsColumnAt (offsets rows : List ℕ) (head from to : ℕ) : Type 0 wh
   pub run : IsRun rows from to
   pub low : (p : ℕ) → from ≤ p → p < to → head - 1 ≤ slice_index rows p
 
--- they are read from the offsets
+-- the bounds are read from the offsets
 pub column_at : {offsets rows : List ℕ} {head from to : ℕ} → AreColumns offsets rows → head ≢ 0
     → head < length offsets → from ≡ get_or offsets (head - 1) from → to ≡ get_or offsets head to
     → IsColumnAt offsets rows head from to
@@ -90,7 +90,7 @@ column_at {offsets} {rows} {head} {from} {to} are some within low high =
       };
     }
 
--- the tail of a column is its run behind a row on the diagonal
+-- the tail of a column is its run after the row on the diagonal, if it has that row
 pub tail_at : {offsets rows : List ℕ} {head from to : ℕ} → IsColumnAt offsets rows head from to
     → (start : ℕ) → from ≤ start → start ≤ to
     → ((p : ℕ) → from ≤ p → p < start → slice_index rows p ≡ head - 1)

@@ -1,5 +1,5 @@
--- One step of the factorisation over arrays: what the columns before j leave of column j is divided
--- by the pivot, which is its entry on the diagonal.
+-- One step of the factorisation over arrays: column j after the updates is divided by the pivot,
+-- which is its entry on the diagonal.
 use Rattle.std.proofs.Common.{◌≡◌, ◌≢◌, ℕ, ◌+◌, ◌<◌, ◌≤◌, inl, inr, List, length}
 use Rattle.std.proofs.Common.{get_or, set, ap, sym, subst, ◌∙◌, arith, add-one}
 use Rattle.std.proofs.Common.{get_or-set_same, get_or-set_other, length-set}
@@ -8,51 +8,51 @@ use Rattle.sparse_algebra.proofs.Cases.{lt_add_one_cases, lt_or_ge, three}
 use Rattle.sparse_algebra.specs.Algebra.{CommRing}
 use Rattle.sparse_algebra.proofs.RingLemmas.{zero_add}
 use Rattle.sparse_algebra.proofs.SumLemmas.{sum_below-same}
-use Rattle.sparse_pattern.specs.Raw.{Raw, IsPlace}
-use Rattle.sparse_pattern.proofs.Positions.{one_lane}
+use Rattle.sparse_pattern.specs.Raw.{Raw, IsEntry}
+use Rattle.sparse_pattern.proofs.OffsetsInLanes.{one_lane}
 use Rattle.sparse_compressed.specs.Compressed.{Compressed, compressed_of, IsSound}
 use Rattle.sparse_compressed.specs.PlainOfLanes.{plain_of_cols}
-use Rattle.sparse_with_dense.specs.SparseVectors.{AddsMultiple, elements}
-use Rattle.sparse_with_dense.proofs.RingSteps.{add_off, mul_off}
+use Rattle.sparse_dense_ops.specs.SparseVectors.{AddsMultiple, elements}
+use Rattle.sparse_dense_ops.proofs.RingSteps.{add_off, mul_off}
 use Rattle.sparse_algebra.specs.Inverses.{HasInverse}
-use Rattle.sparse_factor.specs.InnerFactors.{term, AreCursors, ArePartFactors, IsColumnMoved}
-use Rattle.sparse_factor.specs.InnerFactors.{IsFilledPattern, IsIncluded, IsLeft}
+use Rattle.sparse_factor.specs.InnerFactors.{term, AreCursors, ArePartFactors, IsColumnGathered}
+use Rattle.sparse_factor.specs.InnerFactors.{IsFilledPattern, IsIncluded, IsUpdated}
 use Rattle.sparse_factor.proofs.ClosedSets.{left-outside, part-outside}
 use Rattle.sparse_factor.proofs.Columns.{no_factorisation}
-use Rattle.sparse_factor.proofs.FilledSets.{no_place_has, no_place_zero, set-closed}
+use Rattle.sparse_factor.proofs.FilledSets.{no_entry_has, no_entry_zero, set-closed}
 use Rattle.sparse_factor.proofs.FilledSets.{zero_outside}
 use Rattle.sparse_factor.proofs.NextColumn.{part_step}
-use Rattle.sparse_factor.proofs.PlaceValues.{place_or_not, place_value}
+use Rattle.sparse_factor.proofs.EntryValues.{entry_or_none, value_at_entry}
 use Rattle.sparse_factor.proofs.RingFacts.{one_mul}
 
 module _ {R : CommRing} {T : Type 0} {f : T → R.Carrier} {z : T} {p : Raw} {j : ℕ} {e : R.Carrier}
     {old new x y : List T} (sound : IsSound (compressed_of p old))
-    (moved : IsColumnMoved R f z p j e old new x y) where
-  moved-sound : IsSound (compressed_of p new)
-  moved-sound = record { valid = sound.valid; count = moved.count ∙ sound.count }
+    (gathered : IsColumnGathered R f z p j e old new x y) where
+  gathered-sound : IsSound (compressed_of p new)
+  gathered-sound = record { valid = sound.valid; count = gathered.count ∙ sound.count }
 
   -- the other columns are the same
-  moved-others : (i c : ℕ) → c ≢ j → (plain_of_cols R f (compressed_of p new)).value i c
+  gathered-others : (i c : ℕ) → c ≢ j → (plain_of_cols R f (compressed_of p new)).value i c
       ≡ (plain_of_cols R f (compressed_of p old)).value i c
-  moved-others i c ne = elim (place_or_not R f sound i c) [
-    | inl place ↦ place_value R f moved-sound z place
-        ∙ ap f (moved.others place.at (λ inside.
+  gathered-others i c ne = elim (entry_or_none R f sound i c) [
+    | inl place ↦ value_at_entry R f gathered-sound z place
+        ∙ ap f (gathered.others place.at (λ inside.
         ne (one_lane p sound.valid c j place.at place.in_lane inside)))
-        ∙ sym (place_value R f sound z place)
-    | inr none ↦ no_place_zero R f (compressed_of p new) moved-sound i c none
-        ∙ sym (no_place_zero R f (compressed_of p old) sound i c none)
+        ∙ sym (value_at_entry R f sound z place)
+    | inr none ↦ no_entry_zero R f (compressed_of p new) gathered-sound i c none
+        ∙ sym (no_entry_zero R f (compressed_of p old) sound i c none)
   ]
 
-  -- column j is the scratch column, times e
-  moved-here : {i : ℕ} → IsPlace p j i
+  -- column j is the old scratch column, times e
+  gathered-here : {i : ℕ} → IsEntry p j i
       → (plain_of_cols R f (compressed_of p new)).value i j ≡ R.mul (f (get_or x i z)) e
-  moved-here place = place_value R f moved-sound z place ∙ moved.moved place.at place.in_lane
+  gathered-here place = value_at_entry R f gathered-sound z place ∙ gathered.gathered place.at place.in_lane
       ∙ ap (λ i. R.mul (f (get_or x i z)) e) place.index
 
 module _ (R : CommRing) {T : Type 0} (f : T → R.Carrier) (z : T) where
   -- the columns of L and the pivots before j are those of a factorisation of the matrix whose lower
   -- triangle `lower` stores by columns; the cursors are at row j, and the scratch column has the
-  -- pivots before j and is zero from there on
+  -- pivots before j and is zero from row j on
   pub record AreColumnsDone (lower l : Compressed T) (inverses : List T) (cursors : List ℕ)
       (column : List T) (j : ℕ) : Type 0 where
     pub zero : f z ≡ R.zero
@@ -69,29 +69,29 @@ module _ (R : CommRing) {T : Type 0} (f : T → R.Carrier) (z : T) where
     pub inverts : (i : ℕ) → i < j
         → R.mul (elements R f z column i) (elements R f z inverses i) ≡ R.one
 
-  -- and from row j on `left` is what they leave of column j
-  pub record IsColumnLeft (lower l : Compressed T) (inverses : List T) (cursors : List ℕ)
+  -- and from row j on `left` is column j after the updates by the columns before it
+  pub record IsColumnUpdated (lower l : Compressed T) (inverses : List T) (cursors : List ℕ)
       (column : List T) (j : ℕ) (left : List T) : Type 0 where
     pub done : AreColumnsDone lower l inverses cursors column j
     pub sound : IsSound lower
     pub within : j < l.pattern.major_dim
     pub long : length left ≡ l.pattern.major_dim
-    pub leaves : IsLeft R l.pattern.major_dim j (plain_of_cols R f l).value
+    pub leaves : IsUpdated R l.pattern.major_dim j (plain_of_cols R f l).value
         (elements R f z column) j (elements R f z left) (λ i. (plain_of_cols R f lower).value i j)
     pub above : (i : ℕ) → i < j → f (get_or left i z) ≡ f (get_or column i z)
 
 module _ {R : CommRing} {T : Type 0} {f : T → R.Carrier} {z : T} {lower l : Compressed T}
     {inverses : List T} {cursors : List ℕ} {column : List T} {j : ℕ} where
-  -- column j of the matrix is added, and the columns before are taken off
-  pub column_left : AreColumnsDone R f z lower l inverses cursors column j → IsSound lower
+  -- column j of the matrix is added to the scratch column and updated by the columns before it
+  pub column_updated : AreColumnsDone R f z lower l inverses cursors column j → IsSound lower
       → j < l.pattern.major_dim → {one : T} (added left : List T) → f one ≡ R.one
       → AddsMultiple R f z (f one) (λ i. (plain_of_cols R f lower).value i j) column added
       → length added ≡ length column → length left ≡ length added
-      → IsLeft R (length added) j (plain_of_cols R f l).value
+      → IsUpdated R (length added) j (plain_of_cols R f l).value
       (elements R f z added) j (elements R f z left) (elements R f z added)
       → ((i : ℕ) → i < j → f (get_or left i z) ≡ f (get_or added i z))
-      → IsColumnLeft R f z lower l inverses cursors column j left
-  column_left done sound lt {one} added left unit adds same_added same_left leaves above =
+      → IsColumnUpdated R f z lower l inverses cursors column j left
+  column_updated done sound lt {one} added left unit adds same_added same_left leaves above =
       let v = (plain_of_cols R f l).value in
       let a : ℕ → R.Carrier = λ i. (plain_of_cols R f lower).value i j in
       let is : (i : ℕ) → i < l.pattern.major_dim
@@ -100,7 +100,7 @@ module _ {R : CommRing} {T : Type 0} {f : T → R.Carrier} {z : T} {lower l : Co
       ∙ ap (R.add (f (get_or column i z))) (one_mul R (f one) (a i) unit) in
       let same : (i : ℕ) → i < j → f (get_or added i z) ≡ f (get_or column i z) =
       λ i less. is i (omega (arith, less, lt))
-      ∙ add_off R _ (a i) (no_place_zero R f lower sound i j (λ place.
+      ∙ add_off R _ (a i) (no_entry_zero R f lower sound i j (λ place.
       let low = done.filled.lower j i (done.included.places i j place) in
       omega (arith, low, less))) in
       record {
@@ -118,7 +118,7 @@ module _ {R : CommRing} {T : Type 0} {f : T → R.Carrier} {z : T} {lower l : Co
         above = λ i less. above i less ∙ same i less;
       }
 
-  module _ {left : List T} (s : IsColumnLeft R f z lower l inverses cursors column j left)
+  module _ {left : List T} (s : IsColumnUpdated R f z lower l inverses cursors column j left)
       {u : T} (is : u ≡ get_or left j u) where
     abbrev n : ℕ
     n = l.pattern.major_dim
@@ -138,25 +138,25 @@ module _ {R : CommRing} {T : Type 0} {f : T → R.Carrier} {z : T} {lower l : Co
         (s.leaves j (omega arith) s.within)
         (λ h. none (subst (λ v. HasInverse R f (f v)) (sym pivot) h))
 
-    -- no row above the diagonal is a place of the column
-    none_above : (i : ℕ) → i < j → IsPlace l.pattern j i → ⊥
+    -- column j has no entry above the diagonal
+    none_above : (i : ℕ) → i < j → IsEntry l.pattern j i → ⊥
     none_above i less place = let le = s.done.filled.lower j i place in omega (arith, le, less)
 
-    -- what is left outside the places of L is zero
-    left_nothing : (i : ℕ) → j ≤ i → i < n → (IsPlace l.pattern j i → ⊥)
+    -- column j after the updates is zero outside the pattern of L
+    updated_zero : (i : ℕ) → j ≤ i → i < n → (IsEntry l.pattern j i → ⊥)
         → f (get_or left i z) ≡ R.zero
-    left_nothing i le within none =
+    updated_zero i le within none =
         let v = plain_of_cols R f l in
         let closed = set-closed R f l s.done.sound s.done.filled in
         let out = zero_outside R f l s.done.sound lower s.sound s.done.included n in
         let zeros = part-outside R f n a v.has closed out j v.value (elements R f z column)
         (omega (arith, s.within)) s.done.factors in
         left-outside R f n a v.has closed out j v.value (elements R f z column) zeros
-        (elements R f z left) i le within (no_place_has R f l s.done.sound i j none)
+        (elements R f z left) i le within (no_entry_has R f l s.done.sound i j none)
         (s.leaves i le within)
 
     module _ {e : T} {new last : List T} (inverts : R.mul (f u) (f e) ≡ R.one)
-        (moved : IsColumnMoved R f z l.pattern j (f e) l.values new left last) where
+        (gathered : IsColumnGathered R f z l.pattern j (f e) l.values new left last) where
       abbrev next : Compressed T
       next = compressed_of l.pattern new
 
@@ -164,34 +164,34 @@ module _ {R : CommRing} {T : Type 0} {f : T → R.Carrier} {z : T} {lower l : Co
       pivots = set last j u
 
       next_sound : IsSound next
-      next_sound = moved-sound s.done.sound moved
+      next_sound = gathered-sound s.done.sound gathered
 
       column_is : (i : ℕ) → j ≤ i → i < n
           → (plain_of_cols R f next).value i j ≡ R.mul (f (get_or left i z)) (f e)
-      column_is i le within = elim (place_or_not R f s.done.sound i j) [
-        | inl place ↦ moved-here s.done.sound moved place
-        | inr none ↦ no_place_zero R f next next_sound i j none
-            ∙ sym (mul_off R _ (f e) (left_nothing i le within none))
+      column_is i le within = elim (entry_or_none R f s.done.sound i j) [
+        | inl place ↦ gathered-here s.done.sound gathered place
+        | inr none ↦ no_entry_zero R f next next_sound i j none
+            ∙ sym (mul_off R _ (f e) (updated_zero i le within none))
       ]
 
       in_pivots : j < length last
-      in_pivots = omega (arith, s.within, moved.same, s.long)
+      in_pivots = omega (arith, s.within, gathered.same, s.long)
 
-      -- what is left in the scratch column from row j on is zero
-      emptied : (i : ℕ) → j ≤ i → i < n → f (get_or last i z) ≡ R.zero
-      emptied i le within = elim (place_or_not R f s.done.sound i j) [
+      -- the scratch column is zero from row j on
+      cleared_below : (i : ℕ) → j ≤ i → i < n → f (get_or last i z) ≡ R.zero
+      cleared_below i le within = elim (entry_or_none R f s.done.sound i j) [
         | inl place ↦ ap (λ i. f (get_or last i z)) (sym place.index)
-            ∙ ap f (moved.cleared place.at place.in_lane) ∙ s.done.zero
-        | inr none ↦ ap f (moved.kept i none) ∙ left_nothing i le within none
+            ∙ ap f (gathered.cleared place.at place.in_lane) ∙ s.done.zero
+        | inr none ↦ ap f (gathered.kept i none) ∙ updated_zero i le within none
       ]
 
       kept_pivots : (c : ℕ) → c ≢ j → elements R f z pivots c ≡ elements R f z column c
       kept_pivots c ne = ap f (get_or-set_other last j c u z ne) ∙ elim (three c j) [
-        | inl less ↦ ap f (moved.kept c (none_above c less)) ∙ s.above c less
+        | inl less ↦ ap f (gathered.kept c (none_above c less)) ∙ s.above c less
         | inr (inl more) ↦ elim (lt_or_ge c n) [
-          | inl within ↦ emptied c (omega arith) within
+          | inl within ↦ cleared_below c (omega arith) within
               ∙ sym (s.done.empty c (omega arith) (omega (arith, within, s.done.rows)))
-          | inr past ↦ ap f (get_or_past last c z (omega (arith, past, moved.same, s.long))
+          | inr past ↦ ap f (get_or_past last c z (omega (arith, past, gathered.same, s.long))
               ∙ sym (get_or_past column c z (omega (arith, past, s.done.rows))))
         ]
         | inr (inr same) ↦ absurd (ne same)
@@ -206,9 +206,9 @@ module _ {R : CommRing} {T : Type 0} {f : T → R.Carrier} {z : T} {lower l : Co
           let unit = ap (λ v. R.mul (f v) (f e)) (sym pivot) ∙ inverts in
           rw add-one (part_step R f n j a (plain_of_cols R f l).value (plain_of_cols R f next).value
           (elements R f z column) (elements R f z pivots) (elements R f z left) e s.within
-          s.done.factors s.leaves unit (moved-others s.done.sound moved) kept_pivots
+          s.done.factors s.leaves unit (gathered-others s.done.sound gathered) kept_pivots
           (new_pivot ∙ ap f pivot) (column_is j (omega arith) s.within ∙ unit)
-          (λ i less. no_place_zero R f next next_sound i j (none_above i less))
+          (λ i less. no_entry_zero R f next next_sound i j (none_above i less))
           (λ i more within. column_is i (omega arith) within))
 
       inverted : (i : ℕ) → i < j + 1
@@ -235,13 +235,13 @@ module _ {R : CommRing} {T : Type 0} {f : T → R.Carrier} {z : T} {lower l : Co
         included = s.done.included;
         sound = next_sound;
         count = length-set inverses j e ∙ s.done.count;
-        rows = length-set last j u ∙ moved.same ∙ s.long;
+        rows = length-set last j u ∙ gathered.same ∙ s.long;
         room = omega (arith, count, s.done.room);
         factors = next_factors;
         placed = placed;
         empty = λ i le within.
             ap f (get_or-set_other last j i u z (λ same. omega (arith, same, le)))
-            ∙ emptied i (omega arith)
-            (omega (arith, within, length-set last j u, moved.same, s.long));
+            ∙ cleared_below i (omega arith)
+            (omega (arith, within, length-set last j u, gathered.same, s.long));
         inverts = inverted;
       }

@@ -1,5 +1,5 @@
--- The law by columns: the equation at (j, j) fixes the pivot j, and those below it fix column j of
--- the triangle, since the pivot has an inverse. Nothing else is cancelled.
+-- A factorisation is unique, column by column: the equation at (j, j) determines pivot j, and those
+-- below it determine column j, since the pivot has an inverse. No other cancellation is needed.
 use Rattle.std.proofs.Common.{◌≡◌, ℕ, zero, suc, ◌<◌, ◌≤◌, inl, inr, ap, sym, subst, ◌∙◌, arith}
 use Rattle.sparse_algebra.proofs.Cases.{lt_or_ge, three}
 use Rattle.sparse_algebra.specs.Algebra.{CommRing}
@@ -11,7 +11,7 @@ use Rattle.sparse_factor.proofs.RingFacts.{mul_off_right, one_mul, cancel_mul, c
 use Rattle.sparse_factor.proofs.RingFacts.{sum_below-past}
 
 module _ (R : CommRing) {X : Type 0} (f : X → R.Carrier) where
-  -- the product at (i, c) is what the columns before c make, and column c's part
+  -- the product at (i, c) is the sum of the terms of the columns before c, and that of column c
   pub whole : (n i c : ℕ) (l : ℕ → ℕ → R.Carrier) (d : ℕ → R.Carrier) → c < n → l c c ≡ R.one
       → ((k : ℕ) → c < k → k < n → l c k ≡ R.zero)
       → sum_below R n (term R l d i c)
@@ -105,7 +105,7 @@ module _ (R : CommRing) {X : Type 0} (f : X → R.Carrier) where
     columns = λ i c lt. p.columns i c (omega arith);
   }
 
-  -- what is left for the pivot j has no inverse: there is no factorisation
+  -- if pivot j has no inverse, there is no factorisation
   pub no_factorisation : (n j : ℕ) (m l l' : ℕ → ℕ → R.Carrier) (d d' : ℕ → R.Carrier)
       (w : R.Carrier)
       → j < n → ArePartFactors R f n j m l d → R.add (sum_below R j (term R l d j j)) w ≡ m j j

@@ -1,16 +1,16 @@
--- The cursors of the columns, while the entries of a row are read.
+-- The cursors of the columns while the entries of row j are read.
 use Rattle.std.proofs.Common.{◌≡◌, ◌≢◌, ℕ, ◌+◌, ◌<◌, ◌≤◌, inl, inr, List, length, get_or, set, ap}
 use Rattle.std.proofs.Common.{slice_index, sym, subst, ◌∙◌, arith, get_or-set_same}
 use Rattle.std.proofs.Common.{get_or-set_other}
 use Rattle.sparse_algebra.proofs.Cases.{three, same_or_not, lt_add_one_cases, le_cases}
-use Rattle.sparse_pattern.specs.Raw.{Raw, end_of, IsPlace, IsValid}
+use Rattle.sparse_pattern.specs.Raw.{Raw, end_of, IsEntry, IsValid}
 use Rattle.sparse_pattern.proofs.PatternLanes.{rises_at}
 use Rattle.sparse_factor.specs.InnerFactors.{AreCursors, IsCursor, IsRowOf}
 
 module _ {p : Raw} {j k c : ℕ} (valid : IsValid p) (lane : k < p.major_dim)
     (cursor : IsCursor p j k c) where
-  -- row j of the column is where its cursor is
-  pub at_cursor : IsPlace p k j → (c < end_of p k) × (slice_index p.indices c ≡ j)
+  -- a column that has row j has it at its cursor
+  pub at_cursor : IsEntry p k j → (c < end_of p k) × (slice_index p.indices c ≡ j)
   at_cursor place = elim (three place.at c) [
     | inl less ↦
         let r = cursor.before place.at place.in_lane.from less in
@@ -38,8 +38,8 @@ module _ {p : Raw} {j k c : ℕ} (valid : IsValid p) (lane : k < p.major_dim)
         omega (arith, r, is);
   }
 
-  -- a column without row j
-  pub cursor_stays : (IsPlace p k j → ⊥) → IsCursor p (j + 1) k c
+  -- in a column without row j the cursor for row j is that for row j + 1
+  pub cursor_stays : (IsEntry p k j → ⊥) → IsCursor p (j + 1) k c
   cursor_stays none = record {
     from = cursor.from;
     to = cursor.to;
@@ -58,7 +58,7 @@ module _ {p : Raw} {j k c : ℕ} (valid : IsValid p) (lane : k < p.major_dim)
     ];
   }
 
--- at first each cursor is where its column begins
+-- the offsets of the columns are their cursors for row 0
 pub first_cursors : (p : Raw) → IsValid p → AreCursors p 0 p.offsets
 first_cursors p valid k lane = record {
   from = omega arith;
@@ -67,8 +67,8 @@ first_cursors p valid k lane = record {
   behind = λ q from to. omega arith;
 }
 
--- the columns of the entries of row j from position q on have their cursors at row j, and all
--- others past it
+-- the columns of the entries of row j from entry q on have their cursors at row j, and all others
+-- past it
 pub record AreCursorsAt (p : Raw) (j : ℕ) (row : List ℕ) (q : ℕ) (cursors : List ℕ) : Type 0 where
   pub waiting : (r : ℕ) → q ≤ r → r < length row
       → IsCursor p j (slice_index row r) (slice_index cursors (slice_index row r))
@@ -84,7 +84,7 @@ module _ {p : Raw} {j : ℕ} {row : List ℕ} (valid : IsValid p) (is : IsRowOf 
         (λ place. let at = is.all k place in none at.0 (omega arith) at.1 at.2);
   }
 
-  -- the cursor of entry q is moved on
+  -- the cursor of entry q advances
   pub cursors_more : {q : ℕ} {cursors : List ℕ} → q < length row
       → AreCursorsAt p j row q cursors → slice_index row q < length cursors
       → AreCursorsAt p j row (q + 1) (set cursors (slice_index row q)

@@ -5,13 +5,13 @@ use Rattle.std.proofs.Math.Nat.{eq-or-lt_of_le}
 use Rattle.sparse_factor.specs.Fill.{InFill}
 use Rattle.sparse_factor.specs.Fill.{Filled, given, fill}
 
--- Filled is inside each closed set
+-- Filled is a subset of each closed set that contains the base
 pub in_fill : {base : ℕ → ℕ → Type 0} {i j : ℕ} → Filled base i j → InFill base i j
 in_fill (given {i} {j} b) = λ set closed holds. holds i j b
 in_fill (fill {i} {j} {k} p q lt le) =
     λ set closed holds. closed i j k (in_fill p set closed holds) (in_fill q set closed holds) lt le
 
--- what is in every closed set is Filled, if a test decides Filled
+-- a pair in every such closed set is Filled, if a test decides Filled
 pub filled_in : (base : ℕ → ℕ → Type 0) (set : ℕ → ℕ → Bool) →
     ((i j : ℕ) → IsTrue (set i j) ↔ Filled base i j) → (i j : ℕ) → InFill base i j → Filled base i j
 filled_in base set tied i j h =
@@ -19,12 +19,12 @@ filled_in base set tied i j h =
     (λ i j k p q lt le. (tied i j).1 (fill ((tied i k).0 p) ((tied j k).0 q) lt le))
     (λ i j b. (tied i j).1 (given b)))
 
--- a row of the fill has a place only where the base's row has one
+-- a row that has a pair in the fill has one in the base
 pub row_base : {base : ℕ → ℕ → Type 0} {i j : ℕ} → Filled base i j → (r : ℕ) × base i r
 row_base (given {i} {j} b) = (j, b)
 row_base (fill p q lt le) = row_base p
 
--- the fills of two bases with the same pairs
+-- the fill of a subset of a base is a subset of its fill
 pub filled_into : {a b : ℕ → ℕ → Type 0} → ((i j : ℕ) → a i j → b i j) → {i j : ℕ} → Filled a i j
     → Filled b i j
 filled_into into (given {i} {j} x) = given (into i j x)
@@ -48,7 +48,7 @@ module _ (base : ℕ → ℕ → Type 0) (low : (i j : ℕ) → base i j → j �
   pub filled_diagonal : (j : ℕ) → Filled base j j ↔ ((r : ℕ) × base j r)
   filled_diagonal j = (row_base, λ b. diagonal j b.0 b.1)
 
--- p is the least row of column k below the diagonal
+-- p is the parent of column k: its least row below the diagonal
 pub record IsParent (base : ℕ → ℕ → Type 0) (k p : ℕ) : Type 0 where
   pub above : k < p
   pub filled : Filled base p k
@@ -59,7 +59,7 @@ abbrev pub HaveParents : (ℕ → ℕ → Type 0) → ℕ → Type 0
 HaveParents base j = (k q : ℕ) → k < j → k < q → Filled base q k → (p : ℕ) × IsParent base k p
 
 module _ (base : ℕ → ℕ → Type 0) where
-  -- two rows of a column before j are both in a child of j
+  -- if rows j and i ≥ j are in a column before j, row i is in a child of j
   in_child : (n i j k : ℕ) → HaveParents base j → j ≤ k + n → k < j → j ≤ i → Filled base i k
       → Filled base j k → (c : ℕ) × (c < j) × IsParent base c j × Filled base i c
   in_child zero i j k parents near lt le f g = absurd (omega arith)
@@ -71,7 +71,7 @@ module _ (base : ℕ → ℕ → Type 0) where
             (fill f is.filled is.above (omega arith)) (fill g is.filled is.above (omega arith))
       ]
 
-  -- a column is its base and the columns of its children
+  -- a row of column j is in its base or in the column of a child of j
   pub column_fill : {i j : ℕ} → Filled base i j → HaveParents base j
       → base i j ⊎ ((c : ℕ) × (c < j) × IsParent base c j × Filled base i c)
   column_fill (given b) parents = inl b

@@ -1,4 +1,4 @@
--- The entries of a column from its cursor on, and what taking off a multiple of them changes.
+-- The entries of a column from its cursor on, and the update by a multiple of them.
 use Rattle.std.proofs.Common.{◌≡◌, ℕ, ◌+◌, ◌-◌, ◌<◌, ◌≤◌, List, length, get_or, All}
 use Rattle.std.proofs.Common.{drop, slice_index, slice_range, ap, sym, subst, ◌∙◌, refl, arith}
 use Rattle.std.proofs.lemmas.List.{get_or-drop, get_or_default, length-drop}
@@ -11,14 +11,14 @@ use Rattle.sparse_pattern.proofs.PatternLanes.{length-lane, get_or-lane}
 use Rattle.sparse_compressed.specs.Compressed.{Compressed, IsSound}
 use Rattle.sparse_compressed.specs.PlainOfLanes.{plain_of_cols}
 use Rattle.sparse_compressed.proofs.LaneValues.{values_of, lane_value_is}
-use Rattle.sparse_with_dense.specs.SparseVectors.{AddsMultiple, sparse_elements}
-use Rattle.sparse_with_dense.proofs.SparseVectors.{sparse_elements-drop, sparse_elements-none}
-use Rattle.sparse_with_dense.proofs.SparseVectors.{drop_range}
-use Rattle.sparse_with_dense.proofs.RingSteps.{add_off}
+use Rattle.sparse_dense_ops.specs.SparseVectors.{AddsMultiple, sparse_elements}
+use Rattle.sparse_dense_ops.proofs.SparseVectors.{sparse_elements-drop, sparse_elements-none}
+use Rattle.sparse_dense_ops.proofs.SparseVectors.{drop_range}
+use Rattle.sparse_dense_ops.proofs.RingSteps.{add_off}
 use Rattle.sparse_factor.specs.InnerFactors.{IsCursor, term}
 
 module _ (R : CommRing) {T : Type 0} (f : T → R.Carrier) (z : T) where
-  -- column k from position c on, as a vector
+  -- column k from offset c on, as a vector
   abbrev pub cut : Compressed T → ℕ → ℕ → ℕ → R.Carrier
   cut m k c = sparse_elements R f (slice_range m.pattern.indices c (end_of m.pattern k))
       (slice_range m.values c (end_of m.pattern k))
@@ -50,7 +50,7 @@ module _ (R : CommRing) {T : Type 0} (f : T → R.Carrier) (z : T) where
         ≡ slice_index m.pattern.indices (start_of m.pattern k + q)
     index_at q lt = get_or-lane m.pattern k (sound.valid.lanes k lane) q lt
 
-    -- from row j on the cut column has the values of the column
+    -- from row j on the cut column has the values of column k
     cut_below : (i : ℕ) → j ≤ i → cut m k c i ≡ (plain_of_cols R f m).value i k
     cut_below i le = cut_is i
         ∙ sparse_elements-drop R f i skipped (lane_of m.pattern k) (values_of m k) (λ q less lt e.
@@ -58,7 +58,7 @@ module _ (R : CommRing) {T : Type 0} (f : T → R.Carrier) (z : T) where
         (omega (arith, less, place)) in omega (arith, above, e, index_at q lt, le))
         ∙ lane_value_is R f z m sound k lane i
 
-    -- and above row j nothing
+    -- above row j the cut column is zero
     cut_above : (i : ℕ) → i < j → cut m k c i ≡ R.zero
     cut_above i less = cut_is i
         ∙ sparse_elements-none R f i (drop skipped (lane_of m.pattern k))
@@ -72,7 +72,7 @@ module _ (R : CommRing) {T : Type 0} (f : T → R.Carrier) (z : T) where
         let there = ap (slice_index m.pattern.indices) same in
         omega (arith, less, below, e, get_or-drop skipped (lane_of m.pattern k) q 0, read, there))
 
-    -- the rows of the cut column are those of the matrix
+    -- the rows of the cut column are rows of the matrix
     pub cut_inside : All (λ i. i < m.pattern.minor_dim)
         (slice_range m.pattern.indices c (end_of m.pattern k))
     cut_inside q e lt =
@@ -85,19 +85,19 @@ module _ (R : CommRing) {T : Type 0} (f : T → R.Carrier) (z : T) where
         ∙ get_or_default m.pattern.indices (c + q) e 0 (omega (arith, room, v.inside)))) bound
 
     module _ (scale : R.Carrier) (x y : List T)
-        (taken : AddsMultiple R f z (R.neg scale) (cut m k c) x y) where
-      pub taken-above : (i : ℕ) → i < j → i < length x → f (get_or y i z) ≡ f (get_or x i z)
-      taken-above i less lt = taken i lt ∙ add_off R _ _
+        (added : AddsMultiple R f z (R.neg scale) (cut m k c) x y) where
+      pub added-above : (i : ℕ) → i < j → i < length x → f (get_or y i z) ≡ f (get_or x i z)
+      added-above i less lt = added i lt ∙ add_off R _ _
           (ap (R.mul (R.neg scale)) (cut_above i less) ∙ mul_zero R _)
 
-      -- the column times a pivot and its entry in row j is taken off
-      pub taken-below : (d : ℕ → R.Carrier)
+      -- the update by the column, times its pivot and its entry in row j
+      pub added-below : (d : ℕ → R.Carrier)
           → scale ≡ R.mul (d k) ((plain_of_cols R f m).value j k) → (i : ℕ) → j ≤ i
           → i < length x → f (get_or y i z)
           ≡ R.add (f (get_or x i z)) (R.neg (term R (plain_of_cols R f m).value d i j k))
-      taken-below d is i le lt =
+      added-below d is i le lt =
           let l = (plain_of_cols R f m).value in
-          taken i lt ∙ ap (R.add (f (get_or x i z))) (
+          added i lt ∙ ap (R.add (f (get_or x i z))) (
           ap (R.mul (R.neg scale)) (cut_below i le) ∙ R.laws.mul_comm _ (l i k)
           ∙ mul_neg R (l i k) scale
           ∙ ap R.neg (ap (R.mul (l i k)) is ∙ sym (R.laws.mul_assoc (l i k) (d k) (l j k)))

@@ -1,4 +1,5 @@
--- The fill of a base that a test decides: it is decided by a test too, and so is the least set.
+-- If a test decides a base, a test decides its fill, so the fill is the least set that contains the
+-- base and is closed under fill.
 use Rattle.std.proofs.Common.{ℕ, zero, suc, ◌+◌, ◌<◌, ◌≤◌, ◌↔◌, inl, inr, Bool, false}
 use Rattle.std.proofs.Common.{IsTrue, ◌&&◌, ◌||◌, ltb, rules, arith}
 use Rattle.std.proofs.Math.Dec.{eqb}
@@ -9,7 +10,7 @@ use Rattle.std.proofs.lemmas.Map.Made.{is_member-Decides}
 use Rattle.sparse_algebra.specs.Plain.{any_below}
 use Rattle.sparse_algebra.proofs.Cases.{and_parts, and_both, or_cases, or_left, or_right}
 use Rattle.sparse_algebra.proofs.PlainLemmas.{any_is}
-use Rattle.sparse_pattern.specs.Raw.{Raw, lane_of, IsValid, IsPlace}
+use Rattle.sparse_pattern.specs.Raw.{Raw, lane_of, IsValid, IsEntry}
 use Rattle.sparse_pattern.proofs.LaneLists.{lane_has}
 use Rattle.sparse_factor.specs.declared.factorization.Triangle.{Triangle}
 use Rattle.sparse_factor.specs.declared.factorization.Triangle.TheVariants.{Upper, Lower, Both}
@@ -28,7 +29,7 @@ le_is j i = (
 
 module _ (base : ℕ → ℕ → Type 0) (has : ℕ → ℕ → Bool)
     (tied : (i j : ℕ) → IsTrue (has i j) ↔ base i j) where
-  -- a test of the pairs (i, j) with j < n
+  -- a test that decides whether the fill contains (i, j), for j < n
   fill_test : ℕ → ℕ → ℕ → Bool
   fill_test zero i j = false
   fill_test (suc n) i j =
@@ -73,13 +74,13 @@ module _ (base : ℕ → ℕ → Type 0) (has : ℕ → ℕ → Bool)
 
 -- ---- the bases of valid patterns
 
--- a test for the places of a pattern
-pub place_test : Raw → ℕ → ℕ → Bool
-place_test p i j = ltb i p.major_dim && is_member eqb (lane_of p i) j
+-- a test that decides whether a pattern has an entry
+pub entry_test : Raw → ℕ → ℕ → Bool
+entry_test p i j = ltb i p.major_dim && is_member eqb (lane_of p i) j
 
-pub place_is : (p : Raw) → IsValid p → (i j : ℕ) → IsTrue (place_test p i j) ↔ IsPlace p i j
-unfolding place_test
-place_is p valid i j =
+pub entry_test_is : (p : Raw) → IsValid p → (i j : ℕ) → IsTrue (entry_test p i j) ↔ IsEntry p i j
+unfolding entry_test
+entry_test_is p valid i j =
     both_ways (and_is (ltb i p.major_dim) (is_member eqb (lane_of p i) j)) (
       λ yes. (lane_has p valid i j (ltb-true i p.major_dim yes.0)).0
           ((is_member-Decides Decides-eqb (lane_of p i) j).0 yes.1),
@@ -90,16 +91,16 @@ place_is p valid i j =
           ),
     )
 
--- and for a place and a number that is not greater than another
+-- a test that decides whether a pattern has an entry and one number is at most another
 low_test : Raw → ℕ → ℕ → ℕ → ℕ → Bool
-low_test p a b i j = place_test p a b && ltb j (i + 1)
+low_test p a b i j = entry_test p a b && ltb j (i + 1)
 
 low_is : (p : Raw) → IsValid p → (a b i j : ℕ)
-    → IsTrue (low_test p a b i j) ↔ (IsPlace p a b × (j ≤ i))
+    → IsTrue (low_test p a b i j) ↔ (IsEntry p a b × (j ≤ i))
 unfolding low_test
 low_is p valid a b i j =
-    let both = and_is (place_test p a b) (ltb j (i + 1)) in
-    let place = place_is p valid a b in
+    let both = and_is (entry_test p a b) (ltb j (i + 1)) in
+    let place = entry_test_is p valid a b in
     let low = le_is j i in
     search rules
 

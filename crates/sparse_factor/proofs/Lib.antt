@@ -1,26 +1,26 @@
 mod FillLaws
 mod LeastFill
-mod WalkLaws
+mod FillPathTheorem
 mod DistinctLists
 mod FactorLaws
 mod Alternatives
 mod Runs
 mod JoinedRuns
 pub mod Pairs
-mod Taken
+mod AddedRows
 mod TransposedCounts
 mod Marks
 mod Tails
-mod Gathered
+mod MergedTails
 mod Children
 mod Merged
-mod HandedOn
+mod LinkedToParent
 mod AppendedColumns
-mod MergedSteps
+mod CountedMerges
 pub mod RingFacts
 pub mod Columns
 mod ClosedSets
-mod Left
+mod ColumnUpdates
 pub mod NextColumn
 pub mod PlainProducts
 mod Cursors
@@ -34,7 +34,7 @@ mod RowEntries
 mod UpperTriangles
 mod FactorsOfFill
 mod Results
-mod JoinedFactors
-mod ColumnMoves
-mod PlaceValues
+mod UniqueFactors
+mod GatheredColumns
+mod EntryValues
 mod ColumnSteps

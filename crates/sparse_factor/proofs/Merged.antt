@@ -1,4 +1,4 @@
--- The columns of a factor that are finished, each on the list of its parent.
+-- The finished columns of a factor, each on the list of its parent's children.
 use Rattle.std.proofs.Common.{◌≡◌, ℕ, ◌<◌, ◌≤◌, ◌⊎◌, inl, inr, ◌↔◌}
 use Rattle.std.proofs.Common.{List, [], ◌∷◌, length, slice_index, Contains, replicate}
 use Rattle.std.proofs.Common.{map, get_or, refl, ap, ◌∙◌, arith}
@@ -6,17 +6,18 @@ use Rattle.std.proofs.lemmas.Grind.{common_steps}
 use Rattle.std.proofs.lemmas.List.{length-map, length-replicate}
 use Rattle.sparse_pattern.specs.Raw.{raw_of}
 use Rattle.sparse_pattern.proofs.BuiltLanes.{IsBuilt}
-use Rattle.sparse_pattern.proofs.Positions.{indices_below}
+use Rattle.sparse_pattern.proofs.OffsetsInLanes.{indices_below}
 use Rattle.sparse_factor.specs.Fill.{Filled, given}
 use Rattle.sparse_factor.specs.InnerColumns.{IsInColumn, AreColumns, AreRowsBelow}
-use Rattle.sparse_factor.specs.InnerChildren.{Reaches, AreFalling, IsInTails}
+use Rattle.sparse_factor.specs.InnerChildren.{IsOnList, AreFalling, IsInTails}
 use Rattle.sparse_factor.proofs.FillLaws.{IsParent, HaveParents, column_fill, child_filled}
 use Rattle.sparse_factor.proofs.FillLaws.{low_filled, row_base}
-use Rattle.sparse_factor.proofs.Children.{reach_none, number_at}
-use Rattle.sparse_factor.proofs.Runs.{lane_run, lane_place}
+use Rattle.sparse_factor.proofs.Children.{IsOnList-none, number_at}
+use Rattle.sparse_factor.proofs.Runs.{lane_run, lane_entry}
 use Rattle.sparse_factor.proofs.Alternatives.{both_ways}
 
--- the columns before j of the fill of a base, which has n columns and no row above the diagonal
+-- the columns before j are those of the fill of a base, which has n columns and no row above the
+-- diagonal; each is on the list of its parent
 pub record AreMerged (base : ℕ → ℕ → Type 0) (n : ℕ) (offsets rows firsts nexts : List ℕ) (j : ℕ) :
     Type 0 where
   pub low : (i k : ℕ) → base i k → k ≤ i
@@ -27,7 +28,7 @@ pub record AreMerged (base : ℕ → ℕ → Type 0) (n : ℕ) (offsets rows fir
   pub falling : AreFalling nexts
   pub heads : (p : ℕ) → slice_index firsts p ≤ j
   pub parents : HaveParents base j
-  pub listed : (k p : ℕ) → Reaches nexts (slice_index firsts p) k ↔ ((k < j) × IsParent base k p)
+  pub listed : (k p : ℕ) → IsOnList nexts (slice_index firsts p) k ↔ ((k < j) × IsParent base k p)
 
 pub zero_at : (n k : ℕ) → slice_index (replicate n 0) k ≡ 0
 zero_at n k = grind (arith, common_steps, length-replicate {A = ℕ} n 0)
@@ -57,7 +58,7 @@ none_merged {n = n} low within f l =
       heads = λ p. omega (arith, first p);
       parents = λ k q lt. absurd (omega arith);
       listed = λ k p. (
-        λ r. absurd (reach_none r (first p)),
+        λ r. absurd (IsOnList-none r (first p)),
         λ h. absurd (omega (arith, h.0)),
       );
     }
@@ -69,7 +70,7 @@ module _ {base : ℕ → ℕ → Type 0} {n : ℕ} {offsets rows firsts nexts : 
 
   pub column_has : (k i : ℕ) → k < j → IsInColumn offsets rows k i ↔ Filled base i k
   column_has k i lt =
-      both_ways (lane_place (raw_of j n offsets rows) k i lt) (are.built.places k i lt)
+      both_ways (lane_entry (raw_of j n offsets rows) k i lt) (are.built.places k i lt)
 
   pub are_columns : AreColumns offsets rows
   are_columns =
@@ -91,14 +92,14 @@ module _ {base : ℕ → ℕ → Type 0} {n : ℕ} {offsets rows firsts nexts : 
       let long = length-map heads f in
       rw same (number_at f heads j (omega (arith, are.first_count, ap length same, long)) read is)
 
-  -- the rows that are merged into column j are those of the fill
+  -- the tails of the children of j and its base rows are column j of the fill
   pub merged_has : (own : List ℕ) → ((i : ℕ) → Contains own i ↔ base i j) → (i : ℕ)
       → (IsInTails offsets rows nexts (slice_index firsts j) i ⊎ Contains own i) ↔ Filled base i j
   merged_has own has i = (
     λ h. elim h [
       | inl tail ↦
-          let (k, reached, is_in) = tail in
-          let (early, is) = (are.listed k j).0 reached in
+          let (k, on_list, is_in) = tail in
+          let (early, is) = (are.listed k j).0 on_list in
           child_filled base i j k is ((column_has k i early).0 is_in.0) is_in.1
       | inr mine ↦ given ((has i).0 mine)
     ],

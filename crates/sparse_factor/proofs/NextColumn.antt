@@ -1,4 +1,4 @@
--- A column more of a factorisation: what is left of column j, times the inverse of its pivot.
+-- The next column of a factorisation: column j after the updates, times the inverse of its pivot.
 use Rattle.std.proofs.Common.{◌≡◌, ◌≢◌, ℕ, suc, ◌<◌, ◌≤◌, inl, inr, ap, sym}
 use Rattle.std.proofs.Common.{subst, ◌∙◌, arith}
 use Rattle.sparse_algebra.proofs.Cases.{le_cases, lt_suc_cases}
@@ -6,13 +6,13 @@ use Rattle.sparse_algebra.specs.Algebra.{CommRing}
 use Rattle.sparse_algebra.specs.Sums.{sum_below}
 use Rattle.sparse_algebra.proofs.SumLemmas.{sum_below-same}
 use Rattle.sparse_algebra.specs.Inverses.{HasInverse}
-use Rattle.sparse_with_dense.proofs.RingSteps.{divided}
-use Rattle.sparse_factor.specs.InnerFactors.{term, ArePartFactors, IsLeft}
+use Rattle.sparse_dense_ops.proofs.RingSteps.{divided}
+use Rattle.sparse_factor.specs.InnerFactors.{term, ArePartFactors, IsUpdated}
 use Rattle.sparse_factor.proofs.RingFacts.{one_mul}
 
 module _ (R : CommRing) {X : Type 0} (f : X → R.Carrier) (n j : ℕ) (m l l' : ℕ → ℕ → R.Carrier)
     (d d' w : ℕ → R.Carrier) (e : X) (lt : j < n) (p : ArePartFactors R f n j m l d)
-    (left : IsLeft R n j l d j w (λ i. m i j)) (inv : R.mul (w j) (f e) ≡ R.one)
+    (left : IsUpdated R n j l d j w (λ i. m i j)) (inv : R.mul (w j) (f e) ≡ R.one)
     (kept : (i c : ℕ) → c ≢ j → l' i c ≡ l i c) (kept_d : (c : ℕ) → c ≢ j → d' c ≡ d c)
     (pivot : d' j ≡ w j) where
   other : {c : ℕ} → c < j → c ≢ j

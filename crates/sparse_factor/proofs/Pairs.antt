@@ -1,4 +1,4 @@
--- Equal pairs of numbers.
+-- The test that two pairs of numbers are equal.
 use Rattle.std.proofs.Common.{◌≡◌, ℕ, Bool, true, ◌&&◌, refl, sym, ap}
 use Rattle.std.proofs.Math.Dec.{eqb}
 use Rattle.std.specs.Bool.{Decides}

@@ -9,7 +9,7 @@ use Rattle.sparse_algebra.specs.Algebra.{CommRing}
 use Rattle.sparse_algebra.specs.Sums.{sum_below}
 use Rattle.sparse_algebra.specs.Plain.{Plain}
 use Rattle.sparse_algebra.proofs.SumLemmas.{sum_below-same, sum_below-zero}
-use Rattle.sparse_with_dense.proofs.RingSteps.{add_off, sum_below-split}
+use Rattle.sparse_dense_ops.proofs.RingSteps.{add_off, sum_below-split}
 use Rattle.sparse_factor.specs.Factorisations.{IsFactorisation, plain_diagonal, plain_ldl}
 use Rattle.sparse_factor.specs.Factorisations.{plain_symmetric}
 use Rattle.sparse_factor.specs.InnerFactors.{term, ArePartFactors}
@@ -41,7 +41,7 @@ module _ (R : CommRing) where
     ldl-value i j = sum_below-same R l.cols _ (term R l.value d i j)
         (λ c lt. ap (λ x. R.mul x (l.value j c)) (scaled i c lt))
 
-  -- a symmetric matrix
+  -- the symmetric matrix is its own transpose
   pub symmetric-transposed : (a : Plain R) (i j : ℕ)
       → (plain_symmetric R a).value i j ≡ (plain_symmetric R a).value j i
   symmetric-transposed a i j = ap (λ k. a.value k (max i j)) (min_comm i j)

@@ -1,4 +1,4 @@
--- What follows of a result from facts about it.
+-- Combining properties of the value and of the error of a result.
 use Rattle.std.proofs.Common.{inl, inr}
 use Rattle.std.specs.Prelude.{◌⊎◌, refl, Result, Ok, Err, IfOk, IfErr, IsErr, OnOk}
 

@@ -1,4 +1,4 @@
--- What the ring laws give of products with zero, of factors with an inverse, and of sums.
+-- Laws of rings: products with zero and one, cancellation of elements with an inverse, and sums.
 use Rattle.std.proofs.Common.{◌≡◌, ℕ, zero, suc, ◌<◌, ◌≤◌, inl, inr, ap, sym, ◌∙◌, arith}
 use Rattle.sparse_algebra.proofs.Cases.{le_cases}
 use Rattle.sparse_algebra.specs.Algebra.{CommRing}
@@ -6,7 +6,7 @@ use Rattle.sparse_algebra.specs.Sums.{sum_below}
 use Rattle.sparse_algebra.proofs.Products.{unit_cancels}
 use Rattle.sparse_algebra.proofs.RingLemmas.{mul_zero, cancel}
 use Rattle.sparse_algebra.specs.Inverses.{HasInverse}
-use Rattle.sparse_with_dense.proofs.RingSteps.{add_off}
+use Rattle.sparse_dense_ops.proofs.RingSteps.{add_off}
 
 module _ (R : CommRing) where
   -- a product with zero on the right
@@ -17,7 +17,7 @@ module _ (R : CommRing) where
   pub one_mul : (a b : R.Carrier) → a ≡ R.one → R.mul a b ≡ b
   one_mul a b e = ap (λ x. R.mul x b) e ∙ R.laws.mul_comm R.one b ∙ R.laws.mul_one b
 
-  -- a factor with an inverse cancels
+  -- an element with an inverse cancels
   pub cancel_mul : {X : Type 0} (f : X → R.Carrier) (a b c : R.Carrier) → HasInverse R f c
       → R.mul a c ≡ R.mul b c → a ≡ b
   cancel_mul f a b c inv h = unit_cancels R c (f inv.0) a b inv.1

@@ -1,4 +1,4 @@
--- Runs of a list: their numbers, and the same runs after the list has grown.
+-- Runs of a list: their elements, and the same runs after elements are appended to the list.
 use Rattle.std.proofs.Common.{◌≡◌, ℕ, zero, suc, ◌+◌, ◌-◌, ◌<◌, ◌≤◌}
 use Rattle.std.proofs.Common.{inl, inr, ◌↔◌, List, [], ◌∷◌, ◌++◌}
 use Rattle.std.proofs.Common.{length, get_or, append_assoc}
@@ -10,7 +10,7 @@ use Rattle.std.proofs.lemmas.Grind.{common_steps}
 use Rattle.std.proofs.lemmas.List.{get_or_append_left}
 use Rattle.std.proofs.lemmas.List.{get_or_default}
 use Rattle.std.proofs.lemmas.List.Edits.{length-between, between_more}
-use Rattle.sparse_pattern.specs.Raw.{Raw, start_of, end_of, IsPlace, IsValidLane}
+use Rattle.sparse_pattern.specs.Raw.{Raw, start_of, end_of, IsEntry, IsValidLane}
 use Rattle.sparse_pattern.proofs.LaneLists.{has_from_contains, contains_from_has}
 use Rattle.sparse_pattern.proofs.PatternLanes.{rises_at}
 use Rattle.sparse_factor.specs.InnerColumns.{IsRun, IsInRun}
@@ -33,7 +33,7 @@ module _ {xs : List ℕ} {low high : ℕ} (run : IsRun xs low high) where
       rw (get_or-run k (omega arith), get_or-run (k + 1) lt)
       (run.rising (low + k) (low + (k + 1)) (omega arith) (omega arith) (omega (arith, length-run)))
 
-  -- the numbers of a run, as a list and by positions
+  -- the elements of a run, as a list and by their offsets
   pub run_has : (x : ℕ) → Contains (slice_range xs low high) x ↔ IsInRun xs low high x
   run_has x =
       let list = slice_range xs low high in (
@@ -66,7 +66,7 @@ module _ {xs : List ℕ} {low high : ℕ} (run : IsRun xs low high) where
     rising = λ p q p_from lt q_to. run.rising p q (omega arith) lt (omega arith);
   }
 
-  -- a run is kept where the list grows
+  -- a run is the same after elements are appended
   pub number_kept : (ys : List ℕ) (p : ℕ) → p < high → get_or (xs ++ ys) p 0 ≡ get_or xs p 0
   number_kept ys p lt = get_or_append_left xs ys 0 p (omega (arith, run.inside))
 
@@ -100,7 +100,7 @@ run_whole xs rising = record {
   rising = λ p q from. rising_at xs rising p q;
 }
 
--- a lane is a run, of the indices of its places
+-- the indices of a lane are a run
 pub lane_run : (d : Raw) (k : ℕ) → IsValidLane d k → IsRun d.indices (start_of d k) (end_of d k)
 lane_run d k lane = record {
   ordered = lane.ordered;
@@ -108,9 +108,9 @@ lane_run d k lane = record {
   rising = rises_at d k lane;
 }
 
-pub lane_place : (d : Raw) (k i : ℕ) → k < d.major_dim
-    → IsInRun d.indices (start_of d k) (end_of d k) i ↔ IsPlace d k i
-lane_place d k i lt = (
+pub lane_entry : (d : Raw) (k i : ℕ) → k < d.major_dim
+    → IsInRun d.indices (start_of d k) (end_of d k) i ↔ IsEntry d k i
+lane_entry d k i lt = (
   λ h. record {
     at = h.at;
     in_lane = record { lane = lt; from = h.from; to = h.to };
@@ -119,14 +119,14 @@ lane_place d k i lt = (
   λ h. record { at = h.at; from = h.in_lane.from; to = h.in_lane.to; is = h.index },
 )
 
--- ---- a run that is copied behind its list
+-- ---- a run that is appended to its list
 
 module _ (xs : List ℕ) (from at : ℕ) {now : List ℕ} (inside : at < length xs)
     (is : now ≡ xs ++ slice_range xs from at) where
   copied_within : at < length now
   copied_within = omega (arith, ap length is, length-append xs (slice_range xs from at), inside)
 
-  -- the next number, as it is read
+  -- the element that is copied next, as it is read
   pub copied_number : {row : ℕ} → row ≡ get_or now at row → row ≡ get_or xs at 0
   copied_number {row} read = read ∙ get_or_default now at row 0 copied_within
       ∙ ap (λ l. get_or l at 0) is ∙ get_or_append_left xs (slice_range xs from at) 0 at inside

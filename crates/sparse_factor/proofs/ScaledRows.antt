@@ -1,4 +1,4 @@
--- Rows of a dense matrix that are multiplied by factors.
+-- Rows of a dense matrix, each multiplied by its own number.
 use Rattle.std.proofs.Common.{◌≡◌, ℕ, ◌+◌, ◌<◌, inl, inr, List, length, get_or, ap, sym, subst, ◌∙◌}
 use Rattle.std.proofs.Common.{◌≤◌, set, get_or-set_same, get_or-set_other, arith}
 use Rattle.std.proofs.lemmas.List.{get_or_default}
@@ -7,13 +7,14 @@ use Rattle.sparse_algebra.proofs.RingLemmas.{mul_zero}
 use Rattle.sparse_algebra.specs.Algebra.{CommRing}
 use Rattle.sparse_coo_dense.specs.Dense.{Dense, value_at, column_of, with_column}
 use Rattle.sparse_coo_dense.specs.DensePlain.{plain_of_dense}
-use Rattle.sparse_with_dense.specs.SparseVectors.{elements}
-use Rattle.sparse_with_dense.proofs.PlainSolutions.{dense_inside, dense_past_cols}
-use Rattle.sparse_with_dense.proofs.RingSteps.{divided}
-use Rattle.sparse_with_dense.proofs.SolvedColumns.{with_column-here, with_column-other}
+use Rattle.sparse_dense_ops.specs.SparseVectors.{elements}
+use Rattle.sparse_dense_ops.proofs.PlainSolutions.{dense_inside, dense_past_cols}
+use Rattle.sparse_dense_ops.proofs.RingSteps.{divided}
+use Rattle.sparse_dense_ops.proofs.SolvedColumns.{with_column-here, with_column-other}
 use Rattle.sparse_factor.specs.InnerFactors.{AreInverses, AreScaledBelow, IsScaled}
 
--- the first i entries of y are those of x, times their factors, and the others are the same
+-- the first i entries of y are those of x times those of `factors`, and the other entries are the
+-- same
 pub record AreScaledTo (R : CommRing) {T : Type 0} (f : T → R.Carrier) (z : T) (i : ℕ)
     (factors x y : List T) : Type 0 where
   pub scaled : (k : ℕ) → k < i
@@ -21,7 +22,7 @@ pub record AreScaledTo (R : CommRing) {T : Type 0} (f : T → R.Carrier) (z : T)
   pub waiting : (k : ℕ) → i ≤ k → elements R f z y k ≡ elements R f z x k
 
 module _ {R : CommRing} {T : Type 0} {f : T → R.Carrier} {z : T} {factors : List T} where
-  -- one entry more
+  -- one more entry
   pub scaled_entry : {i : ℕ} {x y : List T} {u v w : T} → AreScaledTo R f z i factors x y
       → i < length y → i < length factors → u ≡ get_or y i u → v ≡ get_or factors i v
       → f w ≡ R.mul (f u) (f v) → AreScaledTo R f z (i + 1) factors x (set y i w)
@@ -41,7 +42,7 @@ module _ {R : CommRing} {T : Type 0} {f : T → R.Carrier} {z : T} {factors : Li
         ∙ h.waiting k (omega arith);
   }
 
-  -- one column more
+  -- one more column
   pub scaled_more : {j : ℕ} {b x : Dense T} {old : List T} (ws : List T)
       → AreScaledBelow R f z j factors b x → old ≡ column_of x j → length old ≡ x.nrows
       → length ws ≡ length old
@@ -70,7 +71,7 @@ module _ {R : CommRing} {T : Type 0} {f : T → R.Carrier} {z : T} {factors : Li
             ∙ h.behind i l lt (omega arith);
       }
 
-  -- rows multiplied by inverses, as plain matrices
+  -- rows multiplied by the inverses of d, and then by d, are as before
   pub plain_divided : {d : List T} {y w : Dense T} → f z ≡ R.zero → AreInverses R f z d factors
       → AreScaledBelow R f z y.ncols factors y w → (c j : ℕ) → c < y.nrows → c < length d
       → R.mul (elements R f z d c) ((plain_of_dense R f w).value c j)

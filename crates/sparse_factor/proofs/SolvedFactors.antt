@@ -1,4 +1,5 @@
--- The solves with L and its transpose and the division between them solve the system of L D Lᵀ.
+-- Solving with L, multiplying by the inverses of D, and solving with Lᵀ solves the system of L D
+-- Lᵀ.
 use Rattle.std.proofs.Common.{◌≡◌, ℕ, ◌<◌, inl, inr, true, ◌&&◌, ap, sym, ◌∙◌}
 use Rattle.std.proofs.Common.{List, arith, get_or}
 use Rattle.std.specs.Prelude.{nat_le, nat_lt, Result, OnOk, IsErr}
@@ -14,15 +15,15 @@ use Rattle.sparse_coo_dense.specs.DensePlain.{plain_of_dense}
 use Rattle.sparse_compressed.specs.Compressed.{Compressed, IsSound}
 use Rattle.sparse_compressed.specs.PlainOfLanes.{plain_of_cols}
 use Rattle.sparse_compressed.proofs.Arrays.{proper_rows}
-use Rattle.sparse_with_dense.specs.Solutions.{IsSolution, IsSingular, plain_lower}
-use Rattle.sparse_with_dense.proofs.ColumnSteps.{lower_is, lower_zero}
-use Rattle.sparse_with_dense.specs.SparseVectors.{elements}
+use Rattle.sparse_dense_ops.specs.Solutions.{IsSolution, IsSingular, plain_lower}
+use Rattle.sparse_dense_ops.proofs.ColumnSteps.{lower_is, lower_zero}
+use Rattle.sparse_dense_ops.specs.SparseVectors.{elements}
 use Rattle.sparse_factor.specs.Factorisations.{plain_ldl}
 use Rattle.sparse_factor.specs.Factors.{AreFactors, Factors, plain_of_factors}
 use Rattle.sparse_factor.specs.InnerFactors.{AreInverses, AreScaledBelow}
-use Rattle.sparse_factor.proofs.FilledSets.{has_place}
+use Rattle.sparse_factor.proofs.FilledSets.{has_entry}
 use Rattle.sparse_factor.proofs.PlainProducts.{ldl-value}
-use Rattle.sparse_factor.proofs.PlaceValues.{place_value}
+use Rattle.sparse_factor.proofs.EntryValues.{value_at_entry}
 use Rattle.sparse_factor.proofs.Results.{ok_or}
 use Rattle.sparse_factor.proofs.RingFacts.{trivial}
 use Rattle.sparse_factor.proofs.ScaledRows.{plain_divided}
@@ -41,7 +42,7 @@ module _ {R : CommRing} {T : Type 0} {f : T → R.Carrier} {z : T} {s : Factors 
   abbrev t : Plain R
   t = plain_lower R l
 
-  -- the solves read all of L
+  -- the lower triangle t, which the solves read, has all values of L
   lower_same : (i c : ℕ) → c < l.cols → t.value i c ≡ l.value i c
   lower_same i c lt = elim (lt_or_ge i c) [
     | inl less ↦ lower_zero R l i c less
@@ -49,7 +50,7 @@ module _ {R : CommRing} {T : Type 0} {f : T → R.Carrier} {z : T} {s : Factors 
     | inr le ↦ lower_is R l (λ i j. proper_rows R f m j i) i c le
   ]
 
-  -- a diagonal entry without an inverse is one that is not stored, so one is zero
+  -- if the lower triangle is singular, a diagonal entry is not stored, so one is zero
   singular_trivial : IsSingular R f t → R.one ≡ R.zero
   singular_trivial h =
       let k = h.0 in
@@ -58,9 +59,9 @@ module _ {R : CommRing} {T : Type 0} {f : T → R.Carrier} {z : T} {s : Factors 
       lower_is R l (λ i j. proper_rows R f m j i) k k (omega arith) in
       elim (true_or_false (l.has k k)) [
         | inl hit ↦
-            let place = has_place R f m sound k k hit in
+            let place = has_entry R f m sound k k hit in
             let v = get_or m.values place.at z in
-            let value = place_value R f sound z place in
+            let value = value_at_entry R f sound z place in
             let test : nat_le k k ≡ true = grind (arith, nat_tests) in
             let inverts : R.mul (t.value k k) (f v) ≡ R.one =
             ap (λ c. R.mul c (f v)) (same ∙ one) ∙ ap (R.mul R.one) (sym value ∙ one)
@@ -93,8 +94,8 @@ module _ {R : CommRing} {T : Type 0} {f : T → R.Carrier} {z : T} {s : Factors 
         ∙ ap (λ a. R.mul a (y.value c j)) (sym (lower_same i c lt)))
         ∙ ap (λ (a : Plain R). a.value i j) first
 
-  -- the solves with L and its transpose, and the multiplication by the inverses between them; where
-  -- a solve refuses, all values are equal
+  -- solving with L, multiplying by the inverses, and solving with Lᵀ; if a solve returns an error,
+  -- all elements are equal
   pub solved : {E : Type 0} (r u : Result (Unit {0}) E) {es : List T} (x b : Dense T)
       {y w : Dense T} → f z ≡ R.zero → AreInverses R f z s.d es → b.nrows ≡ m.pattern.minor_dim
       → y.nrows ≡ b.nrows → x.ncols ≡ b.ncols → AreScaledBelow R f z y.ncols es y w

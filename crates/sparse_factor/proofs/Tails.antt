@@ -1,13 +1,14 @@
--- A column from the tails of its children, the longest by its run and the others taken up.
+-- A column is merged from the run that is the tail of its longest child, and the list of its other
+-- rows.
 use Rattle.std.proofs.Common.{◌≡◌, ◌≢◌, ℕ, suc, ◌+◌, ◌-◌, ◌⊎◌, inl, inr, ◌↔◌, List, Contains}
 use Rattle.std.proofs.Common.{slice_range, subst, rules, arith}
 use Rattle.std.proofs.lemmas.Bool.{cases_eq}
 use Rattle.sparse_factor.specs.InnerColumns.{IsInRun, IsInColumn}
-use Rattle.sparse_factor.specs.InnerChildren.{Reaches, IsTailRun, IsInTailOf, IsInTails, HasOthers}
-use Rattle.sparse_factor.specs.InnerTaken.{HasTaken}
+use Rattle.sparse_factor.specs.InnerChildren.{IsOnList, IsTailRun, IsInTailOf, IsInTails, HasOthers}
+use Rattle.sparse_factor.specs.InnerCountedPairs.{CountsPairs}
 use Rattle.sparse_factor.proofs.Runs.{run_has}
 use Rattle.sparse_factor.proofs.Alternatives.{both_ways}
-use Rattle.sparse_factor.proofs.Taken.{taken_into, taken_both, run_taken}
+use Rattle.sparse_factor.proofs.AddedRows.{counted_superset, counted_both, run_counted}
 
 -- the rows of the tail of a column, as a list
 pub tail_list : {offsets rows : List ℕ} {head from to : ℕ} → IsTailRun offsets rows head from to
@@ -17,27 +18,27 @@ tail_list tail i = both_ways (run_has tail.run i) (tail.has i)
 -- the steps for the tail of a column
 pub tail_steps : {offsets rows : List ℕ} {head from to : ℕ} → IsTailRun offsets rows head from to
     → {old new : ℕ} → new + from ≡ old + to
-    → HasTaken (λ i k. (head ≡ suc k) × IsInColumn offsets rows k i) old new
+    → CountsPairs (λ i k. (head ≡ suc k) × IsInColumn offsets rows k i) old new
 tail_steps {offsets} {rows} {head} tail size =
-    taken_into (λ i k h.
+    counted_superset (λ i k h.
     let (l, e, is_in) = (tail.has i).0 h.1 in
     let same : l ≡ k = omega (arith, h.0, e) in
     (omega (arith, e, same), subst (λ x. IsInColumn offsets rows x i) same is_in.0))
-    (run_taken tail.run (head - 1) (omega (arith, size, tail.run.ordered)))
+    (run_counted tail.run (head - 1) (omega (arith, size, tail.run.ordered)))
 
--- no other child
+-- an only child: no tail is added
 pub single_others : {offsets rows nexts : List ℕ} {first longest : ℕ} → (first ≢ 0 → longest ≢ 0)
-    → ((k : ℕ) → longest ≡ suc k → Reaches nexts first k)
-    → ((k : ℕ) → Reaches nexts first k → first ≡ suc k) → {old : List ℕ}
+    → ((k : ℕ) → longest ≡ suc k → IsOnList nexts first k)
+    → ((k : ℕ) → IsOnList nexts first k → first ≡ suc k) → {old : List ℕ}
     → HasOthers offsets rows nexts first longest old old
-single_others {longest = longest} some reached single = record {
+single_others {longest = longest} some on_list single = record {
   kept = λ i h. h;
   sound = λ i h. inl h;
   whole = λ i k r ne tail.
       let here = single k r in
       let none : longest ≢ 0 = some (λ e. omega (arith, e, here)) in
       let e : longest ≡ suc (longest - 1) = omega (arith, none) in
-      absurd (ne (omega (arith, e, here, single (longest - 1) (reached (longest - 1) e))));
+      absurd (ne (omega (arith, e, here, single (longest - 1) (on_list (longest - 1) e))));
 }
 
 -- the same rows in another order
@@ -51,18 +52,18 @@ others_sorted others same = record {
   whole = λ i k r ne tail. (same i).1 (others.whole i k r ne tail);
 }
 
--- the run is the tail of the longest
+-- the run is the tail of the longest child
 module _ {offsets rows nexts : List ℕ} {first longest from to : ℕ}
     (tail : IsTailRun offsets rows longest from to)
-    (reached : (k : ℕ) → longest ≡ suc k → Reaches nexts first k) where
-  pub others_has : {own taken : List ℕ} → HasOthers offsets rows nexts first longest own taken
-      → (i : ℕ) → (IsInRun rows from to i ⊎ Contains taken i)
+    (on_list : (k : ℕ) → longest ≡ suc k → IsOnList nexts first k) where
+  pub others_has : {own added : List ℕ} → HasOthers offsets rows nexts first longest own added
+      → (i : ℕ) → (IsInRun rows from to i ⊎ Contains added i)
       ↔ (IsInTails offsets rows nexts first i ⊎ Contains own i)
   others_has others i = (
     λ h. elim h [
       | inl in_run ↦
           let (k, e, is_in) = (tail.has i).0 in_run in
-          inl (k, reached k e, is_in)
+          inl (k, on_list k e, is_in)
       | inr in_list ↦ let was = others.sound i in_list in search rules
     ],
     λ h. elim h [
@@ -76,13 +77,13 @@ module _ {offsets rows nexts : List ℕ} {first longest from to : ℕ}
     ],
   )
 
-  -- the steps for all tails
-  pub all_taken : {old mid new : ℕ}
-      → HasTaken (λ i k. Reaches nexts first k × (longest ≢ suc k) × IsInColumn offsets rows k i)
+  -- the steps for the tails of all children
+  pub tails_counted : {old mid new : ℕ}
+      → CountsPairs (λ i k. IsOnList nexts first k × (longest ≢ suc k) × IsInColumn offsets rows k i)
       old mid → new + from ≡ mid + to
-      → HasTaken (λ i k. Reaches nexts first k × IsInColumn offsets rows k i) old new
-  all_taken others size =
-      taken_into (λ i k h. elim h [
+      → CountsPairs (λ i k. IsOnList nexts first k × IsInColumn offsets rows k i) old new
+  tails_counted others size =
+      counted_superset (λ i k h. elim h [
         | inl more ↦ (more.0, more.2)
-        | inr one ↦ (reached k one.0, one.1)
-      ]) (taken_both others (tail_steps tail size) (λ i k more one. more.1 one.0))
+        | inr one ↦ (on_list k one.0, one.1)
+      ]) (counted_both others (tail_steps tail size) (λ i k more one. more.1 one.0))

@@ -1,8 +1,8 @@
--- A lane of a transposed pattern lists the columns that have a row.
+-- Lane j of a transposed pattern lists the columns that have row j.
 use Rattle.std.proofs.Common.{◌≡◌, ℕ, ◌+◌, ◌-◌, ◌<◌, length, slice_index, ap}
 use Rattle.std.proofs.Common.{◌∙◌, arith}
 use Rattle.std.proofs.lemmas.List.Elements.{Contains-get_or}
-use Rattle.sparse_pattern.specs.Raw.{Raw, start_of, lane_of, IsPlace, IsValid}
+use Rattle.sparse_pattern.specs.Raw.{Raw, start_of, lane_of, IsEntry, IsValid}
 use Rattle.sparse_pattern.specs.TransposedPattern.{IsTransposedPattern}
 use Rattle.sparse_pattern.proofs.LaneLists.{lane_has}
 use Rattle.sparse_pattern.proofs.PatternLanes.{length-lane, get_or-lane, lane_rises}
@@ -18,7 +18,7 @@ lane_is_row p t transposed valid j lt =
           ((lane_has t valid j (slice_index (lane_of t j) q) lt).0
           (Contains-get_or (lane_of t j) q 0 within));
       all = λ k place.
-          let there : IsPlace t j k = (transposed.places k j).1 place in
+          let there : IsEntry t j k = (transposed.places k j).1 place in
           let q = there.at - start_of t j in
           let back : start_of t j + q ≡ there.at = omega (arith, there.in_lane.from) in
           let within : q < length (lane_of t j) =

@@ -1,4 +1,4 @@
--- The symmetric matrix of an upper triangle depends on that triangle alone.
+-- The symmetric matrix depends on the upper triangle alone.
 use Rattle.std.proofs.Common.{◌≡◌, ℕ, ◌≤◌, true, min, max, ap, sym, ◌∙◌, arith}
 use Rattle.std.specs.Prelude.{nat_le}
 use Rattle.std.proofs.Math.Nat.{min-le_left, min-eq_right, max-eq_left, le-max_left}
@@ -9,13 +9,13 @@ use Rattle.sparse_pattern.specs.Raw.{Raw}
 use Rattle.sparse_compressed.specs.Compressed.{Compressed, IsSound}
 use Rattle.sparse_compressed.specs.PlainOfLanes.{plain_of_cols}
 use Rattle.sparse_compressed.proofs.Arrays.{proper_rows}
-use Rattle.sparse_with_dense.proofs.ColumnSteps.{by_test}
+use Rattle.sparse_dense_ops.proofs.ColumnSteps.{by_test}
 use Rattle.sparse_factor.specs.Fill.{InFill, UpperBase, StoresByColumns}
 use Rattle.sparse_factor.specs.Factorisations.{IsFactorisation, plain_symmetric, plain_upper}
 use Rattle.sparse_factor.specs.Factors.{symmetric_of}
 use Rattle.sparse_factor.specs.InnerFactors.{ArePartFactors}
 use Rattle.sparse_factor.proofs.FillLaws.{in_fill_into}
-use Rattle.sparse_factor.proofs.FilledSets.{has_place, place_has}
+use Rattle.sparse_factor.proofs.FilledSets.{has_entry, entry_has}
 use Rattle.sparse_factor.proofs.FillPatterns.{is_le, le_is}
 use Rattle.sparse_factor.proofs.Alternatives.{both_ways}
 
@@ -32,7 +32,7 @@ module _ (R : CommRing) where
       → (plain_symmetric R a).value i j ≡ (plain_upper R a).value (min i j) (max i j)
   symmetric_is a proper i j = sym (upper_is a proper (min i j) (max i j) (min_max i j))
 
-  -- matrices with one upper triangle have one symmetric matrix
+  -- matrices with the same upper triangle have the same symmetric matrix
   pub symmetric_same : (a b : Plain R) → IsProper a → IsProper b
       → plain_upper R b ≡ plain_upper R a → (i j : ℕ)
       → (plain_symmetric R a).value i j ≡ (plain_symmetric R b).value i j
@@ -85,12 +85,12 @@ module _ (R : CommRing) {T : Type 0} (f : T → R.Carrier) (a b : Compressed T) 
       → (plain_upper R (plain_of_cols R f m)).has r c ≡ true → UpperBase m.pattern c r
   has_base m sound c r hit =
       let parts = and_parts ((plain_of_cols R f m).has r c) (nat_le r c) hit in
-      (has_place R f m sound r c parts.0, is_le r c parts.1)
+      (has_entry R f m sound r c parts.0, is_le r c parts.1)
 
   base_has : (m : Compressed T) → IsSound m → (c r : ℕ) → UpperBase m.pattern c r
       → (plain_upper R (plain_of_cols R f m)).has r c ≡ true
   base_has m sound c r base = and_both ((plain_of_cols R f m).has r c) (nat_le r c)
-      (place_has R f m sound r c base.0) (le_is r c base.1)
+      (entry_has R f m sound r c base.0) (le_is r c base.1)
 
   to_a : (c r : ℕ) → UpperBase b.pattern c r → UpperBase a.pattern c r
   to_a c r base = has_base a sa c r

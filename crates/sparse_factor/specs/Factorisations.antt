@@ -4,10 +4,10 @@ use Rattle.sparse_algebra.specs.Algebra.{CommRing}
 use Rattle.sparse_algebra.specs.Sums.{where_true}
 use Rattle.sparse_algebra.specs.Plain.{Plain, plain_kept, plain_product, plain_transpose}
 use Rattle.sparse_algebra.specs.Inverses.{HasInverse}
-use Rattle.sparse_with_dense.specs.Solutions.{HasSameValues}
+use Rattle.sparse_dense_ops.specs.Solutions.{HasSameValues}
 
 module _ (R : CommRing) where
-  -- the matrix on the pairs with row at most column
+  -- the upper triangle: the matrix on the pairs with row at most column
   abbrev pub plain_upper : Plain R → Plain R
   plain_upper a = plain_kept R (λ i j. nat_le i j) a
 

@@ -1,4 +1,4 @@
--- The factors that a factorisation keeps.
+-- The factors L and D, as an `Ldl` stores them.
 use Rattle.std.specs.Prelude.{◌≡◌, ℕ, ◌<◌, List, Bool, length, slice_index_or, refl}
 use Rattle.std.specs.Coded.{Coded, code_by, coded×, coded_list}
 use Rattle.std.specs.Cmp.{IsPartialEquivalence, IsEquivalence, and_per, on_per, and_equiv, on_equiv}
@@ -11,7 +11,7 @@ use Rattle.sparse_compressed.specs.Laws.{compressed_eq-laws, compressed_eq-equiv
 use Rattle.sparse_compressed.specs.PlainOfLanes.{plain_of_cols}
 use Rattle.sparse_factor.specs.Fill.{InFill, UpperBase, StoresByColumns}
 use Rattle.sparse_algebra.specs.Inverses.{HasInverse}
-use Rattle.sparse_with_dense.specs.Solutions.{HasSameValues}
+use Rattle.sparse_dense_ops.specs.Solutions.{HasSameValues}
 use Rattle.sparse_factor.specs.Factorisations.{IsFactorisation, IsUnitLower, plain_ldl}
 use Rattle.sparse_factor.specs.Factorisations.{plain_symmetric}
 
@@ -46,7 +46,7 @@ module _ (R : CommRing) {T : Type 0} (f : T → R.Carrier) (z : T) where
   abbrev pub HavePivots : List T → Type 0
   HavePivots d = (j : ℕ) → j < length d → HasInverse R f (diagonal d j)
 
-  -- L is unit lower triangular, and d has an entry with an inverse for each row of L
+  -- L is unit lower triangular, and d has one entry for each row of L, which has an inverse
   pub record AreFactors (s : Factors T) : Type 0 where
     pub lower : IsUnitLower R (plain_of_cols R f s.l)
     pub count : length s.d ≡ s.l.pattern.minor_dim
@@ -56,7 +56,7 @@ module _ (R : CommRing) {T : Type 0} (f : T → R.Carrier) (z : T) where
   abbrev pub plain_of_factors : Factors T → Plain R
   plain_of_factors s = plain_ldl R (plain_of_cols R f s.l) (diagonal s.d)
 
-  -- the factors of the symmetric matrix of a, whose L has exactly the places of the fill
+  -- the factors of the symmetric matrix of a, where the pattern of L is exactly the fill
   pub record AreFactorsOf (a : Compressed T) (s : Factors T) : Type 0 where
     pub places : StoresByColumns (InFill (UpperBase a.pattern)) s.l.pattern
     pub factors : IsFactorisation R f (symmetric_of R f a) (plain_of_cols R f s.l) (diagonal s.d)

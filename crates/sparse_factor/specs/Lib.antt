@@ -1,10 +1,10 @@
 pub mod Fill
-pub mod Walks
+pub mod FillPaths
 pub mod Symbolic
 pub mod InnerColumns
 pub mod InnerChildren
 pub mod InnerMarks
-pub mod InnerTaken
+pub mod InnerCountedPairs
 pub mod Factorisations
 pub mod Factors
 pub mod InnerFactors

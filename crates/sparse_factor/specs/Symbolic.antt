@@ -16,7 +16,7 @@ symbolic_of input factor = record { input = input; factor = factor }
 abbrev pub symbolic_eq : Symbolic → Symbolic → Bool
 symbolic_eq = eq_of_both (on (λ s. s.input) raw_eq) (on (λ s. s.factor) raw_eq)
 
--- the factor is valid, has the input's shape and stores the fill of the triangle's base
+-- the factor is valid, has the shape of the input, and stores the fill of the triangle's base
 pub record IsFactorOf (triangle : Triangle) (s : Symbolic) : Type 0 where
   pub rows : s.factor.minor_dim ≡ s.input.minor_dim
   pub columns : s.factor.major_dim ≡ s.input.major_dim

@@ -1,15 +1,15 @@
 //! Symbolic factorisations.
 
 ghost use Rattle.std.specs.Prelude.{◌≡◌, ℕ, ◌+◌, ◌≤◌, ◌↔◌, List, length, IfOk, OnOk, IsTrue};
-ghost use Rattle.sparse_pattern.specs.Raw.{IsValid, IsPlace, nnz_of, HasSamePlaces};
+ghost use Rattle.sparse_pattern.specs.Raw.{IsValid, IsEntry, nnz_of, HasSameEntries};
 ghost use Rattle.sparse_factor.specs.Fill.{InFill, UpperBase, LowerBase, TriangleBase};
 ghost use Rattle.sparse_factor.specs.Fill.{StoresByColumns, ListsFill};
 ghost use Rattle.sparse_factor.specs.Symbolic.{Symbolic, symbolic_eq, IsFactorOf};
 ghost use Rattle.sparse_factor.specs.declared.factorization.Triangle.{Triangle};
-ghost use Rattle.sparse_factor.specs.Walks.{StoresWalks, StoresDiagonal};
+ghost use Rattle.sparse_factor.specs.FillPaths.{StoresFillPaths, StoresDiagonal};
 ghost use Rattle.sparse_factor.specs.Fill.{Filled};
 
-use sparse_algebra::learn;
+use sparse_algebra::recall;
 use sparse_coo_dense::steps::Steps;
 use sparse_pattern::counting::Count;
 use sparse_pattern::pattern::SparsityPattern;
@@ -24,19 +24,19 @@ use columns::merged_columns;
 // The largest number of columns for which scratch arrays use 32-bit numbers.
 const MAX_32_BITS: usize = u32::MAX as usize;
 
-/// The entries of a square pattern that a factorisation starts from.
+/// The triangle of a square pattern that a symbolic factorisation starts from.
 #[derive(Clone, Copy, Debug, PartialEq, Eq)]
 pub enum Triangle {
-    /// Those on and above the diagonal.
+    /// The entries on and above the diagonal.
     Upper,
-    /// Those on and below the diagonal.
+    /// The entries on and below the diagonal.
     Lower,
     /// All entries.
     Both,
 }
 
-/// The symbolic Cholesky factorisation of a square pattern stored by columns: the pattern and the pattern of its
-/// factor.
+/// The symbolic Cholesky factorisation of a square pattern, stored by columns: the pattern itself and the pattern of
+/// its factor L.
 ///
 /// # Examples
 ///
@@ -66,23 +66,23 @@ impl Model for CscSymbolicCholesky {
 impl CscSymbolicCholesky {
     /// Returns the symbolic factorisation of a square pattern, read by columns.
     ///
-    /// `pattern.major_dim()` must equal `pattern.minor_dim()`. All places are read, but only those on and above the
+    /// `pattern.major_dim()` must equal `pattern.minor_dim()`. All entries are read, but only those on and above the
     /// diagonal have an effect, so the pattern need not be symmetric, and its diagonal need not be stored. The pattern
-    /// of the factor is the smallest set of pairs (row, column) that has (c, r) for each stored row `r <= c` of each
-    /// column c, and that has (i, j) whenever it has (i, k) and (j, k) with `k < j <= i`.
+    /// of the factor is the smallest set of pairs (row, column) that contains (c, r) for each stored row `r <= c` of
+    /// each column c, and that contains (i, j) whenever it contains (i, k) and (j, k) with `k < j <= i`.
     ///
-    /// Each column is merged from its own entries and the finished columns whose parent in the elimination tree it is
-    /// (left-looking; Rose, Tarjan and Lueker 1976, George and Liu 1981, Davis 2006). Time is linear in the number of
-    /// columns and of the places of pattern and factor, but for a sort of the rows of a column that come from its base
-    /// and all children but the longest, each once. Scratch memory is one transpose of the pattern, three counters for
-    /// each column, and room for at most two columns. Fails only if an allocation fails.
+    /// Each column is merged from its own entries and from its children in the elimination tree (left-looking; Rose,
+    /// Tarjan and Lueker 1976, George and Liu 1981, Davis 2006). Time is linear in the number of columns and in the
+    /// numbers of entries of the pattern and of the factor, except that in each column the rows that come from the
+    /// pattern and from all children but the longest are sorted, each row once. Scratch memory is one transpose of the
+    /// pattern, three counters for each column, and room for at most two columns. Fails only if an allocation fails.
     pub fn factor(alloc: Global, pattern: SparsityPattern) -> Result<Self, AllocError>
         requires square { pattern.major_dim ≡ pattern.minor_dim }
         ensures input { IfOk result (λ s. s.input ≡ pattern) }
         ensures rows { IfOk result (λ s. s.factor.minor_dim ≡ pattern.minor_dim) }
         ensures columns { IfOk result (λ s. s.factor.major_dim ≡ pattern.major_dim) }
         ensures fill { IfOk result (λ s. StoresByColumns (InFill (UpperBase pattern)) s.factor) }
-        ensures walks { IfOk result (λ s. StoresWalks (UpperBase pattern) s.factor) }
+        ensures fill_paths { IfOk result (λ s. StoresFillPaths (UpperBase pattern) s.factor) }
         ensures diagonal { IfOk result (λ s. StoresDiagonal (UpperBase pattern) s.factor) }
         ensures valid { IfOk result (λ s. IsValid s.factor) }
     {
@@ -92,12 +92,13 @@ impl CscSymbolicCholesky {
     /// Returns the symbolic factorisation that starts from the given triangle of a square pattern, read by columns.
     ///
     /// `pattern.major_dim()` must equal `pattern.minor_dim()`. The pattern of the factor is the smallest set of pairs
-    /// (row, column) that has the base and that has (i, j) whenever it has (i, k) and (j, k) with `k < j <= i`. The
-    /// base of the upper triangle is (c, r) for each stored row `r <= c` of each column c, that of the lower triangle
-    /// (r, c) for each stored row `r >= c`, and that of both is their union.
+    /// (row, column) that contains the base of the triangle, and that contains (i, j) whenever it contains (i, k) and
+    /// (j, k) with `k < j <= i`. The base of the upper triangle is (c, r) for each stored row `r <= c` of each column
+    /// c, that of the lower triangle is (r, c) for each stored row `r >= c`, and that of both is their union.
     ///
-    /// [`CscSymbolicCholesky::factor`] starts from the upper triangle, and has the same cost and errors. Scratch memory
-    /// of the lower triangle is without the transpose; that of both triangles has the union beside it.
+    /// [`CscSymbolicCholesky::factor`] starts from the upper triangle, and has the same cost and errors. The lower
+    /// triangle needs no scratch memory for a transpose of the pattern; both triangles need the union of the pattern
+    /// and its transpose as well.
     ///
     /// # Examples
     ///
@@ -121,7 +122,7 @@ impl CscSymbolicCholesky {
         ensures columns { IfOk result (λ s. s.factor.major_dim ≡ pattern.major_dim) }
         ensures fill { IfOk result (λ s.
             StoresByColumns (InFill (TriangleBase triangle pattern)) s.factor) }
-        ensures walks { IfOk result (λ s. StoresWalks (TriangleBase triangle pattern) s.factor) }
+        ensures fill_paths { IfOk result (λ s. StoresFillPaths (TriangleBase triangle pattern) s.factor) }
         ensures diagonal { IfOk result (λ s.
             StoresDiagonal (TriangleBase triangle pattern) s.factor) }
         ensures valid { IfOk result (λ s. IsValid s.factor) }
@@ -130,10 +131,10 @@ impl CscSymbolicCholesky {
         Ok(CscSymbolicCholesky { pattern, l_pattern })
     }
 
-    /// Does the same as [`CscSymbolicCholesky::factor`] and counts the steps: one for each place of the pattern, and
-    /// one for each place that a column takes up from a finished column.
+    /// Does the same as [`CscSymbolicCholesky::factor`] and counts the steps: one for each entry of the pattern, and
+    /// one for each entry of a finished column that is merged into the column's parent in the elimination tree.
     ///
-    /// The count grows by at most the number of places of the pattern plus that of the factor, even if an allocation
+    /// The count grows by at most the number of entries of the pattern plus that of the factor, even if an allocation
     /// fails. Fails only if an allocation fails.
     pub fn factor_counted(
         alloc: Global,
@@ -145,7 +146,7 @@ impl CscSymbolicCholesky {
         ensures rows { IfOk result (λ s. s.factor.minor_dim ≡ pattern.minor_dim) }
         ensures columns { IfOk result (λ s. s.factor.major_dim ≡ pattern.major_dim) }
         ensures fill { IfOk result (λ s. StoresByColumns (InFill (UpperBase pattern)) s.factor) }
-        ensures walks { IfOk result (λ s. StoresWalks (UpperBase pattern) s.factor) }
+        ensures fill_paths { IfOk result (λ s. StoresFillPaths (UpperBase pattern) s.factor) }
         ensures diagonal { IfOk result (λ s. StoresDiagonal (UpperBase pattern) s.factor) }
         ensures valid { IfOk result (λ s. IsValid s.factor) }
         ensures all_read { OnOk result (steps.old + nnz_of pattern ≤ steps.new) }
@@ -163,7 +164,7 @@ impl CscSymbolicCholesky {
         &self.l_pattern
     }
 
-    /// Returns the pattern of the factor, and drops the pattern that it was found for.
+    /// Returns the pattern of the factor, and drops the pattern that was factored.
     ///
     /// # Examples
     ///
@@ -201,7 +202,7 @@ fn fill_of(
     ensures rows { IfOk result (λ l. l.minor_dim ≡ pattern.now.minor_dim) }
     ensures columns { IfOk result (λ l. l.major_dim ≡ pattern.now.major_dim) }
     ensures places { IfOk result (λ l. (i j : ℕ)
-        → IsPlace l j i ↔ Filled (TriangleBase triangle pattern.now) i j) }
+        → IsEntry l j i ↔ Filled (TriangleBase triangle pattern.now) i j) }
     ensures valid { IfOk result IsValid }
 {
     match triangle {
@@ -214,8 +215,8 @@ fn fill_of(
     }
 }
 
-// Returns the fill of the upper triangle of a pattern, which the transpose has on and below the diagonal. Counts a step
-// for each place of the pattern, and for each place that a column takes from a finished column.
+// Returns the fill of the upper triangle of a pattern, which is the lower triangle of the transpose. Counts a step for
+// each entry of the pattern, and for each entry of a finished column that is merged into the column's parent.
 fn fill_of_upper(
     alloc: Global,
     pattern: &SparsityPattern,
@@ -225,20 +226,20 @@ fn fill_of_upper(
     ensures rows { IfOk result (λ l. l.minor_dim ≡ pattern.now.minor_dim) }
     ensures columns { IfOk result (λ l. l.major_dim ≡ pattern.now.major_dim) }
     ensures places { IfOk result (λ l. (i j : ℕ)
-        → IsPlace l j i ↔ Filled (UpperBase pattern.now) i j) }
+        → IsEntry l j i ↔ Filled (UpperBase pattern.now) i j) }
     ensures valid { IfOk result IsValid }
     ensures all_read { OnOk result (steps.old + nnz_of pattern.now ≤ steps.new) }
     ensures no_more { (fill : List (ℕ × ℕ)) → ListsFill (UpperBase pattern.now) fill
         → steps.new ≤ steps.old + nnz_of pattern.now + length fill }
 {
     // Tells the prover that the pattern is valid.
-    learn(pattern.major_offsets());
+    recall(pattern.major_offsets());
     let mirrored = pattern.transpose(alloc)?;
     fill_below(alloc, &mirrored, steps)
 }
 
-// Returns the fill of the places on and below the diagonal, with scratch arrays of a type that holds the number of
-// columns.
+// Returns the fill of the lower triangle of `base`. The scratch arrays have 32-bit elements if the number of columns
+// fits.
 fn fill_below(
     alloc: Global,
     base: &SparsityPattern,
@@ -248,7 +249,7 @@ fn fill_below(
     ensures rows { IfOk result (λ l. l.minor_dim ≡ base.now.minor_dim) }
     ensures columns { IfOk result (λ l. l.major_dim ≡ base.now.major_dim) }
     ensures places { IfOk result (λ l. (i j : ℕ)
-        → IsPlace l j i ↔ Filled (LowerBase base.now) i j) }
+        → IsEntry l j i ↔ Filled (LowerBase base.now) i j) }
     ensures valid { IfOk result IsValid }
     ensures all_read { OnOk result (steps.old + nnz_of base.now ≤ steps.new) }
     ensures no_more { (fill : List (ℕ × ℕ)) → ListsFill (LowerBase base.now) fill
@@ -261,7 +262,7 @@ fn fill_below(
     }
 }
 
-/// A law: two symbolic factorisations of one pattern from one triangle are `==`.
+/// Two symbolic factorisations of the same pattern from the same triangle are `==`.
 ///
 /// So `factor_triangle(alloc, pattern, Triangle::Upper)` is `==` to `factor(alloc, pattern)`.
 pub fn one_factor()
@@ -280,8 +281,8 @@ impl PartialEq for CscSymbolicCholesky {
 
     fn eq(&self, other: &Self) -> bool
         ensures value { result ≡ symbolic_eq self.now other.now }
-        ensures places { IsTrue result ↔ (HasSamePlaces self.now.input other.now.input
-            × HasSamePlaces self.now.factor other.now.factor) }
+        ensures places { IsTrue result ↔ (HasSameEntries self.now.input other.now.input
+            × HasSameEntries self.now.factor other.now.factor) }
     {
         self.pattern == other.pattern && self.l_pattern == other.l_pattern
     }

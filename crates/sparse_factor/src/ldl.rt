@@ -10,7 +10,7 @@ ghost use Rattle.sparse_factor.specs.Factors.{AreFactorsOf, AreOnlyFactorsOf, Ha
 ghost use Rattle.sparse_factor.specs.Factors.{HavePivots, plain_of_factors, symmetric_of};
 ghost use Rattle.sparse_algebra.specs.declared.error.OperationErrorKind.TheVariants.{OutOfMemory};
 ghost use Rattle.sparse_algebra.specs.declared.error.OperationErrorKind.TheVariants.{Singular};
-ghost use Rattle.sparse_with_dense.specs.Solutions.{HasSameValues, IsSolution};
+ghost use Rattle.sparse_dense_ops.specs.Solutions.{HasSameValues, IsSolution};
 
 mod columns;
 mod numeric;
@@ -20,12 +20,12 @@ use crate::factorization::CscSymbolicCholesky;
 use numeric::factor_on_fill;
 use solve::scale_rows;
 use sparse_algebra::error::OperationError;
-use sparse_algebra::learn;
 use sparse_algebra::operand::Op;
+use sparse_algebra::recall;
 use sparse_algebra::scalar::Units;
 use sparse_coo_dense::dense::DMatrix;
 use sparse_csr_csc::csc::CscMatrix;
-use sparse_with_dense::spsolve_csc_lower_triangular;
+use sparse_dense_ops::spsolve_csc_lower_triangular;
 use std::alloc::{AllocError, Global};
 use std::marker::Model;
 
@@ -68,14 +68,14 @@ impl<T: Units> Model for Ldl<T> {
 impl<T: Units> Ldl<T> {
     /// Returns the factorisation of the symmetric matrix whose entries on and above the diagonal are those of `a`.
     ///
-    /// `a` must be square. Entries below its diagonal have no effect. The places of L are exactly the fill of the
-    /// pattern of `a`, as [`CscSymbolicCholesky`] computes it, even where a value is zero. No other values of L and D
-    /// satisfy the equation.
+    /// `a` must be square. Entries below its diagonal have no effect. The pattern of L is exactly the fill of the
+    /// pattern of `a`, as [`CscSymbolicCholesky`] computes it; a value of L that is zero is stored. No other values of
+    /// L and D satisfy the equation.
     ///
-    /// A left-looking factorisation on the pattern of the fill (Davis 2006, chapter 4): one multiplication for each
-    /// place of column k of L from row j on, for each place (j, k) of L. At the peak it holds the factors, the inverses
-    /// of the diagonal of D, the transposed pattern of L, the transposed upper triangle of `a`, and one number for each
-    /// row. The symbolic factorisation before it holds a copy of the pattern of `a`, beside its own memory.
+    /// A left-looking factorisation on the pattern of the fill (Davis 2006, chapter 4): for each entry (j, k) of L one
+    /// multiplication for each entry of column k from row j on. At the peak it holds the factors, the inverses of the
+    /// diagonal of D, the transposed pattern of L, the transposed upper triangle of `a`, and one number for each row.
+    /// The symbolic factorisation before it holds a copy of the pattern of `a`, beside its own memory.
     ///
     /// # Errors
     ///
@@ -136,8 +136,8 @@ impl<T: Units> Ldl<T> {
             (plain_of_factors T.ring T.value T.zero_value self.now)
             (plain_of_dense T.ring T.value b.new) (plain_of_dense T.ring T.value b.old) }
     {
-        learn(self.l.values());
-        // The solves refuse only over the ring in which one is zero, where any X is a solution.
+        recall(self.l.values());
+        // The solves return an error only over the ring in which one is zero; there every X is a solution.
         let _ = spsolve_csc_lower_triangular(Op::NoOp(&self.l), b);
         scale_rows(&self.inverses, b);
         let _ = spsolve_csc_lower_triangular(Op::Transpose(&self.l), b);

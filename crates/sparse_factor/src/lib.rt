@@ -1,5 +1,5 @@
-//! Factorisations: the pattern of the Cholesky factor of a sparse matrix, and the exact factors L D Lᵀ of a symmetric
-//! matrix over a commutative ring.
+//! The pattern of the Cholesky factor of a sparse matrix, and the exact factorisation L D Lᵀ of a symmetric matrix over
+//! a commutative ring.
 #![tactic(auto)]
 
 pub mod factorization;

@@ -1,4 +1,4 @@
--- A matrix's text, made line by line, that goes to a sink through a buffer.
+-- Writing the text of a matrix line by line through a buffer.
 use Rattle.std.proofs.Common.{◌≡◌, ℕ, List, [], ◌∷◌, ◌++◌, Option, refl, sym, ap, ◌∙◌, subst}
 use Rattle.std.proofs.Common.{append_assoc, append-nil, length, Result, Ok, Err, OnOk}
 use Rattle.std.specs.Prelude.{OnErr}
@@ -11,7 +11,7 @@ use Rattle.sparse_io.specs.Sink.{AppendsSome}
 use Rattle.sparse_io.specs.Written.{heading, size_line, triplet_line, written_text, text_of}
 use Rattle.sparse_io.specs.InnerWriting.{head_of, IsBuffered}
 
--- two splits, one after the other
+-- d is appended to a list that is split into b and c, where c and d are split into e and f
 middle : (a b c d e f : List ℕ) → a ≡ b ++ c → c ++ d ≡ e ++ f → a ++ d ≡ (b ++ e) ++ f
 middle a b c d e f p q = ap (λ l. l ++ d) p ∙ append_assoc b c d ∙ ap (λ l. b ++ l) q
     ∙ sym (append_assoc b e f)
@@ -26,14 +26,13 @@ module _ {V : Type 0} (name : List ℕ) (text : V → List ℕ) (m : Coo V) wher
   abbrev begun : Triplets V → List ℕ
   begun ts = head_of name m ++ lines text ts
 
-  -- the head, and the lines of the triplets before those that are left
+  -- the bytes are the head and the lines of all triplets but those left
   pub record IsBegun (bytes : List ℕ) (left : Triplets V) : Type 0 where
-    pub front : Triplets V
-    pub order : m.triplets ≡ front ++ left
-    pub is : bytes ≡ begun front
+    pub leading : Triplets V
+    pub order : m.triplets ≡ leading ++ left
+    pub is : bytes ≡ begun leading
 
-  -- the head, and the lines of the triplets before those that are left, went to the sink, but for
-  -- what the buffer holds
+  -- these bytes went to the sink, except those that the buffer holds
   pub record IsWriting (old new : Option (List ℕ)) (buffer : List ℕ) (left : Triplets V) : Type
       0 where
     pub bytes : List ℕ
@@ -44,7 +43,7 @@ module _ {V : Type 0} {name : List ℕ} {text : V → List ℕ} {m : Coo V} wher
   pub IsBegun-none : {bytes : List ℕ} {left : Triplets V} → bytes ≡ head_of name m → left ≡ m.triplets
       → IsBegun name text m bytes left
   IsBegun-none b l = record {
-    front = [];
+    leading = [];
     order = sym l;
     is = b
         ∙ sym (append-nil (head_of name m));
@@ -55,17 +54,17 @@ module _ {V : Type 0} {name : List ℕ} {text : V → List ℕ} {m : Coo V} wher
       → IsBegun name text m (bytes ++ triplet_line text t) left'
   IsBegun-more {bytes} {t} {left} {left'} b e =
       record {
-        front = b.front ++ t ∷ [];
-        order = b.order ∙ ap (λ ts. b.front ++ ts) e ∙ sym (append_assoc b.front (t ∷ []) left');
-        is = ap (λ l. l ++ triplet_line text t) b.is ∙ append_assoc (head_of name m) (lines text b.front)
+        leading = b.leading ++ t ∷ [];
+        order = b.order ∙ ap (λ ts. b.leading ++ ts) e ∙ sym (append_assoc b.leading (t ∷ []) left');
+        is = ap (λ l. l ++ triplet_line text t) b.is ∙ append_assoc (head_of name m) (lines text b.leading)
             (triplet_line text t)
-            ∙ ap (λ l. head_of name m ++ (lines text b.front ++ l))
+            ∙ ap (λ l. head_of name m ++ (lines text b.leading ++ l))
             (sym (append-nil (triplet_line text t)))
             ∙ ap (λ l. head_of name m ++ l)
-            (sym (flat_map-append (triplet_line text) b.front (t ∷ [])));
+            (sym (flat_map-append (triplet_line text) b.leading (t ∷ [])));
       }
 
-  -- the lines of the triplets that are left come next
+  -- the text continues with the lines of the triplets left
   pub text_of-begun : {bytes : List ℕ} {left : Triplets V} → IsBegun name text m bytes left
       → text_of name text m ≡ bytes ++ lines text left
   unfolding written_text
@@ -73,8 +72,8 @@ module _ {V : Type 0} {name : List ℕ} {text : V → List ℕ} {m : Coo V} wher
       sym (append_assoc (heading name) (size_line m.nrows m.ncols (length m.triplets))
       (lines text m.triplets))
       ∙ ap (begun name text m) b.order ∙ ap (λ l. head_of name m ++ l)
-      (flat_map-append (triplet_line text) b.front left)
-      ∙ sym (append_assoc (head_of name m) (lines text b.front) (lines text left))
+      (flat_map-append (triplet_line text) b.leading left)
+      ∙ sym (append_assoc (head_of name m) (lines text b.leading) (lines text left))
       ∙ ap (λ l. l ++ lines text left) (sym b.is)
 
   pub IsBegun-all : {bytes : List ℕ} {left : Triplets V} → IsBegun name text m bytes left → left ≡ []
@@ -109,7 +108,7 @@ module _ {V : Type 0} {name : List ℕ} {text : V → List ℕ} {m : Coo V} wher
         };
       }
 
-  -- the sink takes the buffer, and no triplet is left
+  -- the text is written once the sink has accepted the buffer and no triplet is left
   pub IsWriting-all : (new : Option (List ℕ)) {old mid : Option (List ℕ)} {buffer : List ℕ} {left : Triplets V}
       → IsWriting name text m old mid buffer left
       → left ≡ [] → Appends mid new buffer → Appends old new (text_of name text m)
@@ -118,7 +117,7 @@ module _ {V : Type 0} {name : List ℕ} {text : V → List ℕ} {m : Coo V} wher
       subst (Appends old new) (sym d.parts ∙ IsBegun-all w.begun none)
       (Appends-trans old mid new d.done buffer d.appended h)
 
-  -- the sink refuses a part of the buffer
+  -- a prefix of the text is written if the sink accepts a prefix of the buffer
   pub IsWriting-refused : {old mid new : Option (List ℕ)} {buffer : List ℕ} {left : Triplets V}
       → IsWriting name text m old mid buffer left
       → AppendsSome mid new buffer → AppendsSome old new (text_of name text m)
@@ -134,7 +133,7 @@ module _ {V : Type 0} {name : List ℕ} {text : V → List ℕ} {m : Coo V} wher
         appended = Appends-trans old mid new d.done h.done d.appended h.appended;
       }
 
--- all of some bytes, and none of them
+-- all of the bytes, and none of them, are a prefix of the bytes
 pub AppendsSome-all : (old new : Option (List ℕ)) (bytes : List ℕ) → Appends old new bytes
     → AppendsSome old new bytes
 AppendsSome-all old new bytes h = record {
@@ -153,7 +152,7 @@ AppendsSome-none old bytes = record {
       Appends-nil old;
 }
 
--- a consequence of what is so on success, or on failure
+-- a consequence of what holds on success, or on failure
 pub on_ok-map : {A E P Q : Type 0} (r : Result A E) → (P → Q) → OnOk r P → OnOk r Q
 on_ok-map (Ok x) f h = f h
 on_ok-map (Err e) f h = h

@@ -1,44 +1,44 @@
--- Data lines that are read one after the other, as a loop does, and the count of them.
+-- Data lines that a loop reads one after the other, and their number.
 use Rattle.std.proofs.Common.{◌≡◌, ℕ, suc, ◌+◌, ◌≤◌, ◌<◌, Bool, true, false, cond}
 use Rattle.std.proofs.Common.{List, [], ◌∷◌, length, Option, Some}
 use Rattle.std.proofs.Common.{None, refl, sym, ap, ◌∙◌, arith}
 use Rattle.std.specs.List.{list_all}
 use Rattle.sparse_parser.specs.declared.data_lines.Line.{Line}
-use Rattle.sparse_parser.specs.Bytes.{front, after}
+use Rattle.sparse_parser.specs.Bytes.{leading, after}
 use Rattle.sparse_parser.specs.InnerBytes.{is_within_line, BeginsLine}
 use Rattle.sparse_parser.specs.Grammar.{is_entry}
 use Rattle.sparse_parser.specs.InnerReading.{words_of, line_words, contents_of, count_of}
 use Rattle.sparse_parser.specs.InnerLines.{IsLine}
-use Rattle.sparse_parser.proofs.Fronts.{length-after-lt}
-use Rattle.sparse_parser.proofs.FrontLines.{outside, contents_of-line, contents_of-nil}
+use Rattle.sparse_parser.proofs.LeadingBytes.{length-after-lt}
+use Rattle.sparse_parser.proofs.FirstLines.{outside, contents_of-line, contents_of-nil}
 
--- a data line was read, and the search went on to the next line
+-- the first line is a data line with these words, and `next` is the text from the next line on
 pub record IsRead (text next : List ℕ) (words : List (List ℕ)) : Type 0 where
   pub same : contents_of text ≡ words ∷ contents_of next
   pub is : is_entry words ≡ true
   pub shorter : length next < length text
 
--- the next line is no data line
+-- the first line is not a data line
 pub record IsRefused (text : List ℕ) : Type 0 where
   pub words : List (List ℕ)
   pub others : List (List (List ℕ))
   pub same : contents_of text ≡ words ∷ others
   pub is : is_entry words ≡ false
 
--- the line at the front of a text that begins with one was read
-pub front_read : (text rest next : List ℕ) → BeginsLine text → 0 < length text
+-- a data line that begins the text was read
+pub first_line_read : (text rest next : List ℕ) → BeginsLine text → 0 < length text
     → is_entry (line_words text) ≡ true → rest ≡ after is_within_line text
     → contents_of next ≡ contents_of rest → length next ≤ length rest
     → IsRead text next (line_words text)
 unfolding line_words
-front_read [] rest next b lt is e same le = absurd (omega arith)
-front_read (c ∷ text) rest next b lt is e same le =
+first_line_read [] rest next b lt is e same le = absurd (omega arith)
+first_line_read (c ∷ text) rest next b lt is e same le =
     let l : length (after is_within_line (c ∷ text)) < length (c ∷ text) =
     length-after-lt is_within_line c text (outside c b.0).1 in
     let r : length rest ≡ length (after is_within_line (c ∷ text)) = ap length e in
     record {
       same = contents_of-line c text b.0 b.1 ∙ ap
-          (λ (ls : List (List (List ℕ))). words_of (front is_within_line (c ∷ text)) ∷ ls)
+          (λ (ls : List (List (List ℕ))). words_of (leading is_within_line (c ∷ text)) ∷ ls)
           (ap contents_of (sym e) ∙ sym same);
       is = is;
       shorter = omega arith;
@@ -48,14 +48,14 @@ pub line_read : (text rest next : List ℕ) (line : Line) → BeginsLine text �
     → IsLine text line rest → contents_of next ≡ contents_of rest → length next ≤ length rest
     → IsRead text next (line_words text)
 line_read text rest next line b lt h same le =
-    front_read text rest next b lt (ap is_entry h.words ∙ h.is) h.after_line same le
+    first_line_read text rest next b lt (ap is_entry h.words ∙ h.is) h.after_line same le
 
 pub line_refused : (text : List ℕ) → BeginsLine text → 0 < length text
     → is_entry (line_words text) ≡ false → IsRefused text
 unfolding line_words
 line_refused [] b lt none = absurd (omega arith)
 line_refused (c ∷ text) b lt none = record {
-  words = words_of (front is_within_line (c ∷ text));
+  words = words_of (leading is_within_line (c ∷ text));
   others = contents_of (after is_within_line (c ∷ text));
   same = contents_of-line c text b.0 b.1;
   is = none;
@@ -67,7 +67,7 @@ no_text (c ∷ text) e = absurd (omega arith)
 
 -- ---- counting
 
--- the count, where n lines were counted before
+-- the number of data lines, if n were counted before these
 abbrev pub count_from : ℕ → List (List (List ℕ)) → Option ℕ
 count_from n lines = cond (list_all is_entry lines) (Some (n + length lines)) None
 

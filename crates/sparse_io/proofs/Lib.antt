@@ -10,4 +10,3 @@ mod RoundTrip
 mod WrittenFields
 mod WrittenLines
 mod Transposed
-mod Refusals

@@ -1,5 +1,5 @@
--- How far a text was read: each data line that is read leaves what is read in the end as it was, and the end of
--- the text or the first line that is refused decides it.
+-- Reading a data line does not change the final result, which the end of the text or the first line
+-- with an error decides.
 use Rattle.std.proofs.Common.{◌≡◌, ◌≢◌, ℕ, suc, ◌+◌, ◌≤◌, Bool, true, false, cond, ◌&&◌}
 use Rattle.std.proofs.Common.{List, [], ◌∷◌, ◌++◌, length, drop, slice_get, Option, Result, Ok, Err}
 use Rattle.std.proofs.Common.{refl, sym, ap, ◌∙◌, append_assoc, arith, inr}
@@ -29,7 +29,7 @@ use Rattle.sparse_parser.specs.InnerReading.{settled_of}
 use Rattle.sparse_parser.proofs.WordLaws.{words_of-nil}
 use Rattle.sparse_io.specs.InnerEntries.{IsMeant, IsLineRead, ended_of, ending, still_read}
 use Rattle.sparse_io.specs.InnerEntries.{Reading, IsReadOn, reading}
-use Rattle.sparse_io.proofs.EntryLoop.{IsRead, IsRefused, front_read, no_text}
+use Rattle.sparse_io.proofs.EntryLoop.{IsRead, IsRefused, first_line_read, no_text}
 
 no_entry : is_entry [] ≡ true → ⊥
 unfolding is_entry
@@ -41,13 +41,13 @@ unfolding line_words
 entry_not_empty [] is none = no_entry (sym (ap is_entry words_of-nil) ∙ is)
 entry_not_empty (c ∷ text) is none = absurd (omega arith)
 
--- a function answers this fault
+-- a result is an error of a kind that equals its own
 pub fault_is : {A : Type 0} {r : Read A} {e k : MatrixMarketErrorKind} → r ≡ Err e → k ≡ e
     → r ≡ Err k
 fault_is f g = f ∙ ap (λ (x : MatrixMarketErrorKind). Err x) (sym g)
 
 module _ (S : Scalar) (h : Header) where
-  -- a line was read, and the next one was found behind its end
+  -- a line was read, and the next line was found after its end
   pub line_is_read : {at : Option (ℕ × ℕ)} {text rest next : List ℕ}
       {given : Read (List (Triplet S.Value))} → IsMeant S h at text given rest
       → BeginsLine next → contents_of next ≡ contents_of rest → length next ≤ length rest
@@ -60,14 +60,14 @@ module _ (S : Scalar) (h : Header) where
     shorter = omega (arith, ap (λ (l : List ℕ). length l) m.after_line);
   }
 
-  -- the search went on from a line that was read to the next one
+  -- a line was read as a data line, and the next line was found after its end
   pub meant_is_read : {at : Option (ℕ × ℕ)} {text rest next : List ℕ}
       {given : Read (List (Triplet S.Value))} → IsMeant S h at text given rest → BeginsLine text
       → contents_of next ≡ contents_of rest → length next ≤ length rest
       → IsRead text next (line_words text)
   meant_is_read {at} {text} {rest} {next} m b same len =
       let some : length text ≢ 0 = entry_not_empty text m.is in
-      front_read text rest next b (omega arith) m.is m.after_line same len
+      first_line_read text rest next b (omega arith) m.is m.after_line same len
 
   pub next_is_read : {at : Option (ℕ × ℕ)} {text next : List ℕ}
       {given : Read (List (Triplet S.Value))} → IsLineRead S h at text given next
@@ -77,11 +77,11 @@ module _ (S : Scalar) (h : Header) where
       record { is = line.is; means = line.means; after_line = refl } in
       meant_is_read m b line.same line.shorter
 
-  -- what is read in the end of a matrix of these sizes
+  -- the final result for a matrix of these sizes
   abbrev outcome : Sizes → Reading S.Value → Read (Coo S.Value)
   outcome s r = still_read S h s r.read r.inside r.places r.matrix.triplets (contents_of r.text)
 
-  -- no line was read yet
+  -- no line has been read yet
   pub read_none : (now : Reading S.Value) → BeginsLine now.text → IsReadOn S h now now
   read_none now b = record {
     begins = b;
@@ -108,7 +108,7 @@ module _ (S : Scalar) (h : Header) where
   module _ (s : Sizes) (inside kept : Bool) (ts ts' new : List (Triplet S.Value))
       (k : kept ≡ (inside && list_all (is_inside S s.0 s.1) new))
       (add : IsTrue kept → ts' ≡ ts ++ new) where
-    -- the triplets of a line are added to those kept, if all lie inside
+    -- the triplets of a line are appended to those read, if all lie within the shape
     ending-more : (us : List (Triplet S.Value))
         → ending S h s inside ts (new ++ us) ≡ ending S h s kept ts' us
     ending-more us =
@@ -131,8 +131,8 @@ module _ (S : Scalar) (h : Header) where
     entries-more (Ok us) = ending-more us
     entries-more (Err e) = refl
 
-  -- one more line was read, and its triplets were added to the matrix or one of them, or of those
-  -- before, lies outside
+  -- one more line was read: its triplets were appended to the matrix, or one of them or of those
+  -- before lies outside the shape
   pub read_line : {now : Reading S.Value} {m : Coo S.Value} {next : List ℕ} {words : List (List ℕ)}
       {kept : Bool} {places : List (ℕ × ℕ)} {first : Option (ℕ × ℕ)}
       {new : List (Triplet S.Value)}
@@ -160,14 +160,14 @@ module _ (S : Scalar) (h : Header) where
             sym (rw (line.same, line.is, sym f, sym found, n, e, sym p) refl);
       }
 
-  -- ---- what is read in the end
+  -- ---- the final result
 
   module _ (s : Sizes) where
-    -- the whole text, with no line read
+    -- the whole text, of which no line has been read
     abbrev pub start : List ℕ → Reading S.Value
     start text = reading 0 true (places_of h.format h.symmetry s.0 s.1) (coo_of s.0 s.1 []) text
 
-    -- what the whole text gives
+    -- the result for the whole text
     abbrev pub total : List ℕ → Read (Coo S.Value)
     total text = among_entries (contents_of text) (listed_of S h s (contents_of text))
 
@@ -216,7 +216,7 @@ module _ (S : Scalar) (h : Header) where
           by true false = refl
           by false u = refl
 
-      -- the matrix after the last line
+      -- the result after the last line
       pub read_end : length now.text ≡ 0
           → total text ≡ ended_of (is_count s.2 now.read) now.inside now.matrix
       unfolding among_entries triplets_of_lines

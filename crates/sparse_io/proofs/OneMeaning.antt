@@ -1,4 +1,4 @@
--- `read` is the one meaning of a text.
+-- A text has exactly one meaning, which is `read` of it.
 use Rattle.std.proofs.Common.{◌≡◌, ℕ, Bool, true, false, cond, List, [], ◌∷◌, Option, Some}
 use Rattle.std.proofs.Common.{None, Err, refl, sym, ap, subst, ◌∙◌, inl, inr}
 use Rattle.std.specs.Prelude.{filter}
@@ -15,7 +15,8 @@ use Rattle.sparse_parser.specs.InnerReading.{is_content, written_of, among_entri
 use Rattle.sparse_parser.specs.InnerReading.{document_of, read, judged}
 use Rattle.sparse_parser.proofs.ContentLaws.{headed_lines, lines_headed}
 
--- what a document says of the lines that are written
+-- the first line of the text that is not blank is the header, and the lines below have these
+-- contents
 pub record IsWritten (text : List ℕ) (header : Header) (contents : List (List (List ℕ))) : Type
     0 where
   pub words : List (List ℕ)

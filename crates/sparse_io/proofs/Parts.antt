@@ -1,4 +1,5 @@
--- A text as its header line and what stands below it, and that as the size line and the data lines.
+-- The meaning of a text by its header line and the text below it, and then by the size line and the
+-- data lines.
 use Rattle.std.proofs.Common.{◌≡◌, ℕ, Bool, true, false, cond, List, [], ◌∷◌, Some, None}
 use Rattle.std.proofs.Common.{Result, Ok, Err, refl, sym, ap, subst, ◌∙◌, inl, inr}
 use Rattle.std.specs.Prelude.{IfOk, IfErr, ◌⊎◌}
@@ -11,7 +12,7 @@ use Rattle.sparse_parser.specs.declared.error.MatrixMarketError.{MatrixMarketErr
 use Rattle.sparse_parser.specs.declared.header.Header.{Header}
 use Rattle.sparse_parser.specs.declared.size.Size.{Size}
 use Rattle.sparse_parser.specs.Errors.{kind_of, kind_of_cause}
-use Rattle.sparse_parser.specs.Bytes.{front, after}
+use Rattle.sparse_parser.specs.Bytes.{leading, after}
 use Rattle.sparse_parser.specs.InnerBytes.{is_space, is_within_line, BeginsLine}
 use Rattle.sparse_parser.specs.Header.{header_of}
 use Rattle.sparse_parser.specs.Grammar.{is_size, is_entry}
@@ -22,11 +23,11 @@ use Rattle.sparse_parser.specs.InnerReading.{Gives, words_of, written_of, conten
 use Rattle.sparse_parser.specs.InnerReading.{among_entries, body_of, judged, document_of, read}
 use Rattle.sparse_parser.specs.InnerReading.{size_at, size_numbers, grammar_kind_of}
 use Rattle.sparse_io.proofs.OneMeaning.{read_means}
-use Rattle.sparse_parser.proofs.Fronts.{IsStopped, IsStopped-after}
+use Rattle.sparse_parser.proofs.LeadingBytes.{IsStopped, IsStopped-after}
 use Rattle.sparse_parser.proofs.LineShapes.{size_none, size_some}
 use Rattle.sparse_parser.proofs.WordLaws.{words_of-nil}
-use Rattle.sparse_parser.proofs.FrontLines.{contents_of-nil, contents_of-line, written_of-nil}
-use Rattle.sparse_parser.proofs.FrontLines.{written_of-first, written_of-after_space}
+use Rattle.sparse_parser.proofs.FirstLines.{contents_of-nil, contents_of-line, written_of-nil}
+use Rattle.sparse_parser.proofs.FirstLines.{written_of-first, written_of-after_space}
 
 module _ (S : Scalar) where
   -- ---- the size line
@@ -36,14 +37,14 @@ module _ (S : Scalar) where
       (among_entries (contents_of rest) (matrix_of S h words (contents_of rest))) (Err ParsingError)
 
   body_parts : (h : Header) (start : List ℕ) → BeginsLine start
-      → body_of S h (contents_of start) ≡ sized h (words_of (front is_within_line start))
+      → body_of S h (contents_of start) ≡ sized h (words_of (leading is_within_line start))
       (after is_within_line start)
   unfolding sized body_of is_size
   body_parts h [] b = rw (contents_of-nil, words_of-nil) refl
   body_parts h (c ∷ start) b = rw (contents_of-line c start b.0 b.1) refl
 
   module _ (h : Header) (text start line rest : List ℕ) (b : BeginsLine start)
-      (same : contents_of start ≡ contents_of text) (l : line ≡ front is_within_line start)
+      (same : contents_of start ≡ contents_of text) (l : line ≡ leading is_within_line start)
       (r : rest ≡ after is_within_line start) where
     body_is : body_of S h (contents_of text) ≡ sized h (words_of line) rest
     body_is = ap (body_of S h) (sym same) ∙ body_parts h start b
@@ -85,13 +86,13 @@ module _ (S : Scalar) where
 
   read_parts : (start : List ℕ) → IsStopped is_space start
       → document_of S (written_of start) ≡ judged S
-      (header_of (words_of (front is_within_line start))) (contents_of (after is_within_line start))
+      (header_of (words_of (leading is_within_line start))) (contents_of (after is_within_line start))
   unfolding document_of contents_of header_of
   read_parts [] stop = rw (written_of-nil, words_of-nil) refl
   read_parts (b ∷ start) stop = rw (written_of-first b start stop) refl
 
   module _ (text start line rest : List ℕ) (s : start ≡ after is_space text)
-      (l : line ≡ front is_within_line start) (r : rest ≡ after is_within_line start) where
+      (l : line ≡ leading is_within_line start) (r : rest ≡ after is_within_line start) where
     read_is : read S text ≡ judged S (header_of (words_of line)) (contents_of rest)
     unfolding read
     read_is =
@@ -114,7 +115,7 @@ module _ (S : Scalar) where
         → s ≡ r → Gives S value result r → Gives S value result s
     Gives-along result r s e h = subst (Gives S value result) (sym e) h
 
-    -- what is given is what the text means
+    -- the result of reading is what the text means
     pub means_ok : (text : List ℕ) (result : Result (Coo T) MatrixMarketError)
         → Gives S value result (read S text)
         → IfOk result (λ m. Means S text (Ok (values_of value m)))

@@ -1,4 +1,4 @@
--- The places of an array that are left, as a walk goes over them.
+-- The entries left of an array, while a loop removes them one by one.
 use Rattle.std.proofs.Common.{◌≡◌, ℕ, zero, suc, ◌+◌, ◌-◌, ◌<◌, ◌≤◌, Bool, true, false, ltb}
 use Rattle.std.proofs.Common.{List, [], ◌∷◌, ◌++◌, length, drop, slice_get, leb, ◌==◌}
 use Rattle.std.proofs.Common.{Some, refl, sym, ap, ◌∙◌, arith}
@@ -12,7 +12,7 @@ use Rattle.sparse_parser.specs.declared.header.Symmetry.TheVariants.{SkewSymmetr
 use Rattle.sparse_parser.specs.ArrayPlaces.{first_row, column, array_places}
 use Rattle.sparse_io.specs.InnerPlaces.{column_left, columns_left, left_from}
 
--- n numbers from a on, where there are some
+-- a nonempty range begins with its first number
 range_more : (a n m : ℕ) → n ≡ suc m → range_with_len a n ≡ a ∷ range_with_len (a + 1) m
 range_more a n m e = rw e refl
 
@@ -49,7 +49,7 @@ module _ (s : Symmetry) (rows cols : ℕ) where
   later SkewSymmetric col = omega arith
   later Hermitian col = omega arith
 
-  -- after a column without places there are no more
+  -- after a column without entries there are none
   columns_empty : (n col : ℕ) → cols - col ≡ n → rows ≤ first_row s col
       → columns_left s rows cols col ≡ []
   columns_empty zero col e le = columns_none col (omega arith)
@@ -66,14 +66,14 @@ module _ (s : Symmetry) (rows cols : ℕ) where
       (column_more row col inside)
       ∙ ap (λ (x : List (ℕ × ℕ)). (row, col) ∷ x) (sym (left_inside (row + 1) col lt))
 
-  -- the columns from the first on are the array
+  -- the columns from the first on are the whole array
   pub columns_all : (all : ℕ) → all ≡ cols → columns_left s rows all 0 ≡ array_places s rows cols
   unfolding array_places
   columns_all all e =
       let k : all - 0 ≡ cols = omega (arith, e) in
       ap (λ (n : ℕ). flat_map (column s rows) (range_with_len 0 n)) k
 
-  -- the places from a column on begin at its first place, if it has one
+  -- the entries from a column on begin with its first entry, if it has one
   pub columns_start : (row col : ℕ) → row ≡ first_row s col → col < cols
       → left_from s rows cols row col ≡ columns_left s rows cols col
   columns_start row col e lt =
@@ -87,14 +87,14 @@ module _ (s : Symmetry) (rows cols : ℕ) where
       left_outside 0 cols (omega arith)
       ∙ sym (columns_empty (cols - col) col refl (omega (arith, e, le)))
 
-  -- the first place of a column is removed
+  -- removing an entry of a column leaves those from the next row on
   pub left_next : (row col : ℕ) → col < cols → row < rows
       → left_from s rows cols (row + 1) col ≡ drop 1 (left_from s rows cols row col)
   left_next row col lt inside =
       sym (ap (λ (l : List (ℕ × ℕ)). drop 1 l) (left_first row col lt inside))
 
   module _ (row col : ℕ) where
-    -- the last place of a column is removed
+    -- removing the last entry of a column leaves the columns after it
     pub left_column : col < cols → row < rows → rows ≤ row + 1
         → columns_left s rows cols (col + 1) ≡ drop 1 (left_from s rows cols row col)
     left_column lt inside last =

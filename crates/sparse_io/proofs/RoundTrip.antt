@@ -1,4 +1,4 @@
--- What is written is read again.
+-- The text written for a matrix means that matrix.
 use Rattle.std.proofs.Common.{eq-eqb, ◌≡◌, ℕ, ◌+◌, ◌^◌, ◌<◌}
 use Rattle.std.proofs.Common.{true, List, [], ◌∷◌, ◌++◌, length}
 use Rattle.std.proofs.Common.{drop, map, slice_get, Ok, Option, Some, refl, sym}
@@ -28,8 +28,8 @@ use Rattle.sparse_io.proofs.WrittenLines.{IsLast, line_words, line_plain, line_b
 use Rattle.sparse_io.proofs.WrittenFields.{IsOfField, integer_of_field, pattern_of_field, remark}
 use Rattle.sparse_io.proofs.WrittenFields.{plain_header, IsNamed, integer_named, pattern_named}
 
--- the sizes and the number of triplets are usizes, and the triplets lie inside with values of the
--- type
+-- the sizes and the number of triplets fit in usize, and the triplets lie within the shape and have
+-- values of the type
 pub record IsWritable (S : Scalar) (m : Coo S.Value) : Type 0 where
   pub rows : m.nrows < 2 ^ 64
   pub cols : m.ncols < 2 ^ 64
@@ -72,7 +72,7 @@ module _ (S : Scalar) (field : Field) (named : IsNamed S.name field) (ws : S.Val
       → triplets_of S header at (triplet_words t) ≡ Ok (t ∷ [])
   unfolding triplets_of mirrored
   triplets-words at t h =
-      let e = h.value.taken at (decimal (t.0 + 1)) (decimal (t.1 + 1)) t.0 t.1
+      let e = h.value.accepted at (decimal (t.0 + 1)) (decimal (t.1 + 1)) t.0 t.1
       (index-decimal (t.0 + 1) h.row) (index-decimal (t.1 + 1) h.col)
       (number-decimal (t.0 + 1) h.row) (number-decimal (t.1 + 1) h.col) in
       rw e refl

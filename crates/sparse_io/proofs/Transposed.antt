@@ -1,4 +1,4 @@
--- Triplets with row and column exchanged lie inside the exchanged sizes.
+-- Triplets within a shape lie within the transposed shape once rows and columns are exchanged.
 use Rattle.std.proofs.Common.{ℕ, ◌<◌, List, [], ◌∷◌, map}
 use Rattle.std.specs.Prelude.{All}
 use Rattle.std.specs.List.{AllByRecursion}

@@ -1,4 +1,4 @@
--- The words and lines of a written text.
+-- The words of a written line, and the lines of a written text.
 use Rattle.std.proofs.Common.{◌≡◌, ℕ, ◌^◌, ◌<◌, true, List, [], ◌∷◌, ◌++◌, Ok, refl, sym, ap}
 use Rattle.std.proofs.Common.{subst, append_assoc, append-nil, arith, inl, inr}
 use Rattle.std.specs.Prelude.{◌⊎◌}
@@ -24,16 +24,16 @@ pub number-decimal : (n : ℕ) → n < 2 ^ 64 → number_of (decimal n) ≡ Ok n
 unfolding number_of
 number-decimal n lt = rw (decimal-value n (small_decimal n lt), lt-ltb n (2 ^ 64) lt) refl
 
--- ---- a line of texts
+-- ---- a line of two words and a text
 
--- two words, and a last one that may be empty
+-- two words, and a text that may be empty
 abbrev pub line_of : List ℕ → List ℕ → List ℕ → List ℕ
 line_of a b c = a ++ (32 ∷ (b ++ (32 ∷ c)))
 
 abbrev words_with : List ℕ → List ℕ → List (List ℕ) → List (List ℕ)
 words_with a b ws = a ∷ b ∷ ws
 
--- the words of a last text: itself, or none
+-- the words of the last text: itself, or none if it is empty
 abbrev pub IsLast : List ℕ → List (List ℕ) → Type 0
 IsLast c ws = (IsText c × (ws ≡ c ∷ [])) ⊎ ((c ≡ []) × (ws ≡ []))
 
@@ -77,7 +77,7 @@ pub line_before : (a b c rest : List ℕ) → (a ++ (32 ∷ (b ++ (32 ∷ (c ++ 
     a b c ++ (10 ∷ rest)
 line_before a b c rest = simp append_assoc
 
--- a line that LF ends, and the lines after it
+-- a line before LF, and the lines after it
 pub before_lf : (line text rest : List ℕ) (lines : List (List ℕ)) → IsOneLine line
     → text ≡ line ++ (10 ∷ rest) → AreLines rest lines → AreLines text (line ∷ lines)
 before_lf line text rest lines plain e h = (plain, inr (10 ∷ [], rest, inl refl, e, h))

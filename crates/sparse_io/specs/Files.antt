@@ -11,7 +11,7 @@ abbrev pub file_fault : ErrorKind → MatrixMarketErrorKind
 file_fault io.OutOfMemory = OutOfMemory
 file_fault kind = IOError kind
 
--- the error comes of a failure in opening or reading a file, with some kind
+-- the error is that of a failure, of any kind, in opening or reading a file
 pub record IsReadFault (e : MatrixMarketErrorKind) : Type 0 where
   pub fault : ErrorKind
   pub is : e ≡ file_fault fault

@@ -1,15 +1,15 @@
--- The places that are left of an array.
+-- The rows and columns of the entries left of an array.
 use Rattle.std.specs.Prelude.{ℕ, ◌+◌, ◌-◌, ◌++◌, List, [], map, nat_lt, if◌then◌else◌}
 use Rattle.std.specs.List.{flat_map, range_with_len}
 use Rattle.sparse_io.specs.declared.reader.places.Places.{Places}
 use Rattle.sparse_parser.specs.declared.header.Symmetry.{Symmetry}
 use Rattle.sparse_parser.specs.ArrayPlaces.{column}
 
--- those of a column from a row on
+-- the entries left of a column, from a row on
 abbrev pub column_left : ℕ → ℕ → ℕ → List (ℕ × ℕ)
 column_left rows row col = map (λ r. (r, col)) (range_with_len row (rows - row))
 
--- those of the columns from one on
+-- the entries of the columns from one on
 abbrev pub columns_left : Symmetry → ℕ → ℕ → ℕ → List (ℕ × ℕ)
 columns_left s rows cols col = flat_map (column s rows) (range_with_len col (cols - col))
 

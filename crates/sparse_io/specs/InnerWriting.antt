@@ -4,11 +4,11 @@ use Rattle.std.specs.Io.KnownBytes.{Appends}
 use Rattle.sparse_coo_dense.specs.Coo.{Coo}
 use Rattle.sparse_io.specs.Written.{heading, size_line}
 
--- the text before the lines of the triplets
+-- the header, the comment below it and the size line
 abbrev pub head_of : {V : Type 0} → List ℕ → Coo V → List ℕ
 head_of name m = heading name ++ size_line m.nrows m.ncols (length m.triplets)
 
--- of the bytes, a prefix was appended, and a buffer holds the rest
+-- a prefix of the bytes was appended, and the buffer holds the rest
 pub record IsBuffered (old new : Option (List ℕ)) (buffer bytes : List ℕ) : Type 0 where
   pub done : List ℕ
   pub parts : bytes ≡ done ++ buffer

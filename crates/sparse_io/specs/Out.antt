@@ -2,8 +2,8 @@
 use Rattle.std.specs.Prelude.{ℕ, Bool, Option}
 use Rattle.std.specs.declared.io.ErrorKind.{ErrorKind}
 
--- the writer, how many writes failed, the kind of the last of these, and whether the last call that
--- reached the writer was a flush that succeeded
+-- the writer, the number of failed writes, the kind of the last of these, and whether the last call
+-- that reached the writer was a flush that succeeded
 pub record OutState (W : Type 0) : Type 0 where
   pub inner : W
   pub failures : ℕ

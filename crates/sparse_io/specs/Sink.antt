@@ -12,7 +12,7 @@ failure_of (Ok zero) [] = None
 failure_of (Ok zero) (byte ∷ bytes) = Some WriteZero
 failure_of (Ok (suc count)) bytes = None
 
--- a failure is counted and its kind is kept; nothing else changes the two
+-- a failure is counted and its kind is kept; without a failure both stay the same
 abbrev pub CountsFailure : Option ErrorKind → ℕ → ℕ → Option ErrorKind → Option ErrorKind → Type 0
 CountsFailure None before after last last' = (after ≡ before) × (last' ≡ last)
 CountsFailure (Some kind) before after last last' = (after ≡ before + 1) × (last' ≡ Some kind)

@@ -15,7 +15,7 @@ pub trait MatrixMarketExport<T> {
     // The shape, and the triplets in the order in which they are written.
     ghost exported: { Self → Coo T };
 
-    /// Returns an iterator over the triplets, in the order of the matrix's form.
+    /// Returns an iterator over the triplets, in the order of the matrix's format.
     fn triplet_iter(&self) -> ExportIter<'_, T>
         ensures all { triplets_left result ≡ (exported self.now).triplets }
         ensures inside { IsInside (exported self.now) };
@@ -33,7 +33,7 @@ pub trait MatrixMarketExport<T> {
         ensures { result ≡ length (exported self.now).triplets };
 }
 
-/// An iterator over the triplets of a matrix, in the order of its form.
+/// An iterator over the triplets of a matrix, in the order of its format.
 #[derive(Drop)]
 pub enum ExportIter<'a, T> {
     /// The triplets of a list, in the order of pushing.

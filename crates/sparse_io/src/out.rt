@@ -16,8 +16,8 @@ use std::marker::Model;
 /// A [`Sink`] over any [`Write`].
 ///
 /// Its bytes are those of the writer. It keeps the kind of the last failure, and whether the writer was flushed since
-/// the last write. No call returns these; contracts see them, and the number of failures, which has no bytes at run
-/// time.
+/// the last write. No call returns these: contracts cite them, and the number of failed writes, which takes no memory
+/// at run time.
 #[derive(Drop)]
 pub struct Out<W> {
     inner: W,
@@ -68,7 +68,7 @@ impl<W> Out<W> {
         self.last = Some(kind);
     }
 
-    // Records and returns what a flush of the writer answered.
+    // Records whether a flush of the writer succeeded. Returns the kind of its error if it failed.
     fn settle(&mut self, answer: io::Result<()>) -> Result<(), ErrorKind>
         ensures recorded { self.new
             ≡ out_state self.old.inner self.old.failures self.old.last (is_ok answer) }
@@ -102,13 +102,13 @@ impl<W: Write> Out<W> {
 }
 
 impl<W: Write> Sink for Out<W> {
-    ghost taken = { λ out. W.contents out.inner };
+    ghost accepted = { λ out. W.contents out.inner };
 
     ghost failures = { λ out. out.failures };
 
     ghost last = { λ out. out.last };
 
-    /// Writes to the writer, and notes that it was not flushed since.
+    /// Writes to the writer, which is then not flushed.
     fn write(&mut self, bytes: &[u8]) -> Result<usize, ErrorKind>
         ensures bound { WritesAtMost result bytes.now }
         ensures bytes { WriteAppends (W.contents self.old.inner) (W.contents self.new.inner) result

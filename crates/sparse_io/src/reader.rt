@@ -29,15 +29,29 @@ mod runs;
 /// Repeated entries are kept, in the order of the text. If the header names a symmetry, each mirrored entry directly
 /// follows its own. Arrays are read column by column, and their zeros are stored.
 ///
-/// A valid text is read in one pass. Memory for the triplets is reserved once: at most for as many lines as the text has
-/// room for, and for twice as many triplets where entries are mirrored.
+/// A valid text is read in one pass. Memory for the triplets is reserved once: for as many lines as the size line
+/// gives, unless the text is too short for half of them, and for twice as many triplets where entries are mirrored.
 ///
 /// # Errors
 ///
-/// Returns the first error in this order: `ParsingError` if the text does not match the grammar; `InvalidHeader`;
-/// `ParsingError` if the size line does not fit the header or a size exceeds `usize`; `NonSquare`; `EntryMismatch`;
-/// then, entry by entry, `ParsingError` for its shape or its numbers, `ZeroError`, `TypeMismatch`, `NotLowerTriangle`,
-/// `DiagonalError`; last `SparseFormatError(IndexOutOfBounds)`. Returns `OutOfMemory` only if an allocation fails.
+/// Returns the first error in this order:
+///
+/// 1. `ParsingError` if the text does not match the grammar;
+/// 2. `InvalidHeader` if the format, the field and the symmetry of the header exclude each other;
+/// 3. `ParsingError` if the size line does not fit the header or a size is 2^64 or more;
+/// 4. `NonSquare` if a matrix with a symmetry is not square;
+/// 5. `EntryMismatch` if the number of data lines is not the one that the size line gives;
+/// 6. for each entry in the order of the text, the first of these:
+///    - `ParsingError` if its words do not fit the header, or its row or column is 2^64 or more;
+///    - `ZeroError` if its row or column is zero;
+///    - `ParsingError` if the field is `integer` and its value is not an integer or does not fit in `i128`;
+///    - `TypeMismatch` if `T` does not have its value; no type has real or complex values;
+///    - `NotLowerTriangle` if the matrix has a symmetry and the entry lies above the diagonal;
+///    - `DiagonalError` if the matrix is skew-symmetric and the entry lies on the diagonal;
+///    - `TypeMismatch` if the matrix is skew-symmetric and `T` does not have the negative of its value;
+/// 7. `SparseFormatError(IndexOutOfBounds)` if a triplet lies outside the shape.
+///
+/// Returns `OutOfMemory` only if an allocation fails.
 ///
 /// # Examples
 ///
@@ -68,7 +82,7 @@ pub fn load_coo_from_matrix_market_str<T: MatrixMarketScalar>(
     document(alloc, text.as_bytes())
 }
 
-// Reads the bytes of a text.
+// Reads a matrix from the bytes of a text.
 fn document<T: MatrixMarketScalar>(
     alloc: Global,
     text: &[u8],
@@ -82,7 +96,7 @@ fn document<T: MatrixMarketScalar>(
     }
 }
 
-// Reads the text below the header.
+// Reads a matrix from the text below the header line.
 fn body<T: MatrixMarketScalar>(
     alloc: Global,
     header: Header,
@@ -98,7 +112,7 @@ fn body<T: MatrixMarketScalar>(
     }
 }
 
-// Returns this cause, or `Grammar` if a later line is not a data line.
+// Returns the cause, or `Grammar` if a line of the text is not a data line.
 #[tactic(auto, unfolding(sparse_parser::specs::InnerReading::grammar_kind_of, sparse_parser::specs::InnerReading::count_of))]
 fn in_grammar(cause: Cause, text: &[u8]) -> Cause
     ensures { kind_of_cause result ≡ grammar_kind_of (kind_of_cause cause) (contents_of text.now) }
@@ -109,8 +123,8 @@ fn in_grammar(cause: Cause, text: &[u8]) -> Cause
     }
 }
 
-// Returns the first error of a text with a refused entry, given the number of data lines read, the refused one
-// included, and the rest of the text.
+// Returns the error of a text with an entry that has the error `fault`, given the number of data lines read, that of
+// the entry included, and the rest of the text. Errors of the grammar and of the number of entries come first.
 #[tactic(auto, unfolding(sparse_parser::specs::InnerReading::settled_of, sparse_parser::specs::InnerReading::count_of))]
 fn settled(
     fault: MatrixMarketError,

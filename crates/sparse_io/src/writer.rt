@@ -23,7 +23,7 @@ mod indices;
 // The capacity of the buffer that a text passes through.
 const CAPACITY: usize = 64 * 1024;
 
-// The room kept for a line: two indices and a value of 20 bytes each make a line of 63 bytes.
+// The room kept for a line. Two indices and a value of 20 bytes each make a line of 63 bytes.
 const LINE_ROOM: usize = 256;
 
 // The length at which the buffer is written out, so that the next line fits.
@@ -78,7 +78,7 @@ fn push_triplet<T: MatrixMarketScalar>(
     text.push_str("\n")
 }
 
-// Appends the lines before those of the triplets.
+// Appends the header, the comment below it and the size line.
 fn push_head<T, S>(text: &mut String, matrix: &S) -> Result<(), AllocError>
 where
     T: MatrixMarketScalar,
@@ -93,7 +93,7 @@ where
     push_sizes(text, matrix.nrows(), matrix.ncols(), matrix.nnz())
 }
 
-// A buffer with the lines before those of the triplets.
+// A buffer with the header, the comment below it and the size line.
 fn head<T, S>(alloc: Global, matrix: &S) -> Result<String, AllocError>
 where
     T: MatrixMarketScalar,
@@ -113,10 +113,10 @@ where
 fn flush<W: Sink>(sink: &mut W, text: &mut String) -> Result<(), MatrixMarketError>
     ensures unfailed { OnOk result (W.failures sink.new ≡ W.failures sink.old) }
     ensures all { OnOk result
-        (Appends (W.taken sink.old) (W.taken sink.new) (string_bytes text.old)) }
+        (Appends (W.accepted sink.old) (W.accepted sink.new) (string_bytes text.old)) }
     ensures empty { OnOk result (string_bytes text.new ≡ []) }
     ensures prefix { OnErr result
-        (AppendsSome (W.taken sink.old) (W.taken sink.new) (string_bytes text.old)) }
+        (AppendsSome (W.accepted sink.old) (W.accepted sink.new) (string_bytes text.old)) }
     ensures refused { IfErr result
         (λ e. IsRefusedWrite (kind_of e) (W.failures sink.old) (W.failures sink.new)
         (W.last sink.new)) }
@@ -127,7 +127,7 @@ fn flush<W: Sink>(sink: &mut W, text: &mut String) -> Result<(), MatrixMarketErr
 }
 
 // Appends a triplet to the buffer, which is written out first if it is full.
-#[tactic(auto, using(crate::proofs::Refusals::refused))]
+#[tactic(auto, using(sparse_algebra::proofs::EarlyReturns::early_return))]
 #[inline(always)]
 fn put_triplet<T, W>(
     sink: &mut W,
@@ -144,11 +144,11 @@ where
     requires col { col < usize.MAX }
     ensures unfailed { OnOk result (W.failures sink.new ≡ W.failures sink.old) }
     ensures buffered { OnOk result
-        (IsBuffered (W.taken sink.old) (W.taken sink.new) (string_bytes text.new)
+        (IsBuffered (W.accepted sink.old) (W.accepted sink.new) (string_bytes text.new)
         (string_bytes text.old
         ++ triplet_line (λ x. T.scalar.text (T.value x)) (row, col, value.now))) }
     ensures prefix { OnErr result
-        (AppendsSome (W.taken sink.old) (W.taken sink.new) (string_bytes text.old)) }
+        (AppendsSome (W.accepted sink.old) (W.accepted sink.new) (string_bytes text.old)) }
     ensures refused { IfErr result
         (λ e. IsRefusedWrite (kind_of e) (W.failures sink.old) (W.failures sink.new)
         (W.last sink.new)) }
@@ -161,7 +161,7 @@ where
 }
 
 /// Writes a matrix to a sink in Matrix Market format: the header, the size line, and a line for each triplet in the
-/// order of the matrix's form.
+/// order of the matrix's format.
 ///
 /// The text passes through one buffer of bounded size.
 ///
@@ -169,7 +169,7 @@ where
 ///
 /// Returns `IOError` with the kind of the first write that fails; short writes are continued. Returns `OutOfMemory` if
 /// an allocation fails. In both cases a prefix of the text has been written.
-#[tactic(auto, using(crate::proofs::Refusals::refused))]
+#[tactic(auto, using(sparse_algebra::proofs::EarlyReturns::early_return))]
 pub fn save_to_matrix_market<T, W, S>(
     alloc: Global,
     sink: &mut W,
@@ -180,11 +180,11 @@ where
     W: Sink,
     S: MatrixMarketExport<T>,
     ensures ok { OnOk result
-        (Appends (W.taken sink.old) (W.taken sink.new)
+        (Appends (W.accepted sink.old) (W.accepted sink.new)
         (text_of T.scalar.name (λ x. T.scalar.text (T.value x)) (S.exported matrix.now))) }
     ensures unfailed { OnOk result (W.failures sink.new ≡ W.failures sink.old) }
     ensures prefix { OnErr result
-        (AppendsSome (W.taken sink.old) (W.taken sink.new)
+        (AppendsSome (W.accepted sink.old) (W.accepted sink.new)
         (text_of T.scalar.name (λ x. T.scalar.text (T.value x)) (S.exported matrix.now))) }
     ensures refused { IfErr result
         (λ e. IsRefusedWrite (kind_of e) (W.failures sink.old) (W.failures sink.new)

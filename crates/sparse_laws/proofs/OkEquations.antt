@@ -1,4 +1,5 @@
--- Equations of what an answer gives at Ok, and the equations of plain matrices that they rest on.
+-- Equations of the value of a call that returns Ok, and the equation of plain matrices that they
+-- use.
 use Rattle.std.proofs.Common.{◌≡◌, ap, sym, ◌∙◌, refl}
 use Rattle.std.specs.Prelude.{Result, Ok, Err, IfOk}
 use Rattle.sparse_algebra.specs.Algebra.{CommRing}
@@ -6,13 +7,13 @@ use Rattle.sparse_algebra.specs.Plain.{Plain, plain_negation}
 use Rattle.sparse_algebra.proofs.PlainLemmas.{same_plain}
 use Rattle.sparse_algebra.proofs.RingLemmas.{neg_unique}
 
--- what is equal to one thing is equal to another
+-- a value at Ok that equals y equals z, if y and z are equal
 pub ok_further : {X Y E : Type 0} (f : X → Y) (r : Result X E) {y z : Y} → y ≡ z
     → IfOk r (λ x. f x ≡ y) → IfOk r (λ x. f x ≡ z)
 ok_further f (Ok x) e h = h ∙ e
 ok_further f (Err x) e h = tt
 
--- the operands of what it is equal to are equal to others
+-- a value at Ok that equals op p y equals op q z, if p equals q and y equals z
 pub ok_of_equals : {X Y E : Type 0} (f : X → Y) (op : Y → Y → Y) (r : Result X E) {p q y z : Y}
     → p ≡ q → y ≡ z → IfOk r (λ x. f x ≡ op p y) → IfOk r (λ x. f x ≡ op q z)
 ok_of_equals f op r {q = q} {y} e e' = ok_further f r (ap (λ p. op p y) e ∙ ap (op q) e')

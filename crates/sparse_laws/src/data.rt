@@ -11,7 +11,7 @@ use sparse_csr_csc::csr::CsrMatrix;
 use sparse_pattern::pattern::SparsityPattern;
 use std::alloc::{AllocError, Global};
 
-/// Returns a pattern copied to a data struct and converted back. It is `==` to the original.
+/// Returns a pattern that was copied to a data struct and converted back. It is `==` to the original.
 pub fn pattern_returns(
     alloc: Global,
     pattern: &SparsityPattern,
@@ -25,7 +25,7 @@ pub fn pattern_returns(
     }
 }
 
-/// Returns a coordinate list copied to a data struct and converted back. It is `==` to the original.
+/// Returns a coordinate list that was copied to a data struct and converted back. It is `==` to the original.
 pub fn coo_returns<T: Copy + Eq>(
     alloc: Global,
     matrix: &CooMatrix<T>,
@@ -39,7 +39,7 @@ pub fn coo_returns<T: Copy + Eq>(
     }
 }
 
-/// Returns a CSR matrix copied to a data struct and converted back. It is `==` to the original.
+/// Returns a CSR matrix that was copied to a data struct and converted back. It is `==` to the original.
 pub fn csr_returns<T: Copy + Eq>(
     alloc: Global,
     matrix: &CsrMatrix<T>,
@@ -53,7 +53,7 @@ pub fn csr_returns<T: Copy + Eq>(
     }
 }
 
-/// Returns a CSC matrix copied to a data struct and converted back. It is `==` to the original.
+/// Returns a CSC matrix that was copied to a data struct and converted back. It is `==` to the original.
 pub fn csc_returns<T: Copy + Eq>(
     alloc: Global,
     matrix: &CscMatrix<T>,

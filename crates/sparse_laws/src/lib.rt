@@ -1,4 +1,4 @@
-//! Laws of the operations on sparse matrices and of their data structs, each stated of the public calls.
+//! Laws of sums, products and data structs, each the contract of a function that calls the public functions.
 #![tactic(auto)]
 
 pub mod data;

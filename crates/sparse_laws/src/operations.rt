@@ -1,12 +1,12 @@
 //! Laws of sums and products of matrices, over every ring.
 //!
-//! Each function computes both sides of an equation by the public calls, and its contract says that they stand for one
-//! plain matrix, with the same places and values. The functions here take matrices by rows, those of [`columns`]
-//! matrices by columns.
+//! Each function computes both sides of an equation with the public functions, and its contract says that both results
+//! are the same plain matrix: the same places and the same values. The functions here take CSR matrices, those of
+//! [`columns`] CSC matrices.
 
 ghost use Rattle.std.specs.Prelude.{◌≡◌, ◌↔◌, ℕ, true, IfOk};
 ghost use Rattle.sparse_algebra.specs.Plain.{plain_product, plain_sum, plain_transpose};
-ghost use Rattle.sparse_pattern.specs.Raw.{Raw, IsPlace};
+ghost use Rattle.sparse_pattern.specs.Raw.{Raw, IsEntry};
 ghost use Rattle.sparse_compressed.specs.Compressed.{Compressed, IsSound};
 ghost use Rattle.sparse_compressed.specs.PlainOfLanes.{plain_of_rows};
 ghost use Rattle.sparse_sums.specs.PatternSums.{IsUnionOf};
@@ -15,12 +15,13 @@ ghost use Rattle.sparse_products.specs.Products.{IsProductOf};
 pub mod columns;
 
 use sparse_algebra::laws::{identity_product_law, product_distributes_law, transpose_product_law};
-use sparse_algebra::learn;
+use sparse_algebra::recall;
 use sparse_algebra::scalar::Ring;
 use sparse_compressed::laws::stands_law;
 use sparse_csr_csc::csr::CsrMatrix;
-use sparse_products::serial::{add_csr, mul_csr, neg_csr, sub_csr};
+use sparse_products::serial::mul_csr;
 use sparse_products::transposes::transposed_csr;
+use sparse_sums::{add_csr, neg_csr, sub_csr};
 use std::alloc::{AllocError, Global};
 
 /// Returns `a * (b + c)` and `a * b + a * c`, which are equal. Fails only if an allocation fails.
@@ -56,7 +57,7 @@ pub fn product_distributes_right<T: Ring>(
         (λ m. plain_of_rows T.ring T.value m.0 ≡ plain_of_rows T.ring T.value m.1) }
 {
     product_distributes_law::<T>();
-    let product = sum_with_factor(alloc, a, b, c)?;
+    let product = sum_times_matrix(alloc, a, b, c)?;
     let products = sum_of_products(alloc, a, c, b, c)?;
     Ok((product, products))
 }
@@ -94,7 +95,7 @@ pub fn identity_times<T: Ring>(alloc: Global, a: &CsrMatrix<T>) -> Result<CsrMat
 {
     stands_law::<T>();
     identity_product_law::<T>();
-    learn(a.values());
+    recall(a.values());
     let identity = CsrMatrix::identity(alloc, a.nrows())?;
     mul_csr(alloc, &identity, a)
 }
@@ -106,7 +107,7 @@ pub fn times_identity<T: Ring>(alloc: Global, a: &CsrMatrix<T>) -> Result<CsrMat
 {
     stands_law::<T>();
     identity_product_law::<T>();
-    learn(a.values());
+    recall(a.values());
     let identity = CsrMatrix::identity(alloc, a.ncols())?;
     mul_csr(alloc, a, &identity)
 }
@@ -179,7 +180,7 @@ fn product_with_sum<T: Ring>(
 }
 
 // Returns `(a + b) * c`.
-fn sum_with_factor<T: Ring>(
+fn sum_times_matrix<T: Ring>(
     alloc: Global,
     a: &CsrMatrix<T>,
     b: &CsrMatrix<T>,
@@ -220,22 +221,22 @@ fn sum_of_products<T: Ring>(
     add_csr(alloc, &first, &second)
 }
 
-/// The places of the product of two patterns are those of the plain product.
+/// The pattern of the product of two matrices has the places of their plain product.
 pub fn product_places_law<T: Ring>()
     ensures { (d : Raw) (a b : Compressed T) → IsSound a → IsSound b
         → a.pattern.minor_dim ≡ b.pattern.major_dim → IsProductOf d a.pattern b.pattern
-        → (i j : ℕ) → IsPlace d i j
+        → (i j : ℕ) → IsEntry d i j
         ↔ ((plain_product T.ring (plain_of_rows T.ring T.value a)
         (plain_of_rows T.ring T.value b)).has i j ≡ true) }
 {
     stands_law::<T>();
 }
 
-/// The places of the union of two patterns are those of the plain sum.
+/// The union of the patterns of two matrices has the places of their plain sum.
 pub fn union_places_law<T: Ring>()
     ensures { (d : Raw) (a b : Compressed T) → IsSound a → IsSound b
         → IsUnionOf d a.pattern b.pattern
-        → (i j : ℕ) → IsPlace d i j
+        → (i j : ℕ) → IsEntry d i j
         ↔ ((plain_sum T.ring (plain_of_rows T.ring T.value a) (plain_of_rows T.ring T.value b)).has
         i j ≡ true) }
 {

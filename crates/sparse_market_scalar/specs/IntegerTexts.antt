@@ -1,4 +1,4 @@
--- The text of an integer is read as that integer.
+-- The decimal text of an integer is read back as that integer.
 use Rattle.std.proofs.Common.{◌≡◌, ℕ, ℤ, pos, negsuc, suc, ◌^◌, ◌<◌, ◌≤◌, Bool, true, false, cond}
 use Rattle.std.proofs.Common.{List, [], ◌∷◌, length, Ok, Err, refl, ap, ◌∙◌, arith, rules}
 use Rattle.std.specs.Prelude.{FitsSigned}
@@ -19,16 +19,16 @@ use Rattle.sparse_parser.specs.Scalars.{fits, IsNumberText}
 use Rattle.sparse_parser.proofs.NumberLaws.{digits-of, index-unsigned}
 use Rattle.sparse_parser.proofs.ByteClasses.{digit_no_sign}
 
--- a number of w bits with a sign
-abbrev pub taken : Width → ℤ → Read ℤ
-taken w z = cond (fits (hbits w) z) (Ok z) (Err TypeMismatch)
+-- the number, if it fits in a signed integer of this width
+abbrev pub accepted : Width → ℤ → Read ℤ
+accepted w z = cond (fits (hbits w) z) (Ok z) (Err TypeMismatch)
 
 only : (b : Bool) (z : ℤ) → OnlyMismatch {A = ℤ} (cond b (Ok z) (Err TypeMismatch))
 only true z = tt
 only false z = refl
 
-pub taken_refuses : (w : Width) (z : ℤ) → OnlyMismatch (taken w z)
-taken_refuses w z = only (fits (hbits w) z) z
+pub accepted_refuses : (w : Width) (z : ℤ) → OnlyMismatch (accepted w z)
+accepted_refuses w z = only (fits (hbits w) z) z
 
 -- ---- decimal digits
 
@@ -79,12 +79,12 @@ fits_wide w (pos n) f = let p = wide_power w in let s =
 fits_wide w (negsuc n) f = let p = wide_power w in let s =
     f.sfits in (lt-ltb n (2 ^ 127) (omega arith), lt-ltb n (2 ^ hbits w) s)
 
-pub number_text : (w : Width) (z : ℤ) → FitsSigned w z → IsNumberText (taken w) (signed_decimal z) z
+pub number_text : (w : Width) (z : ℤ) → FitsSigned w z → IsNumberText (accepted w) (signed_decimal z) z
 number_text w z f =
     let v = signed_value w z f in
     let h = fits_wide w z f in
     record {
       spelled = integer-signed w z f;
       wide = ap (fits 127) v ∙ h.0;
-      back = ap (taken w) v ∙ rw (h.1) refl;
+      back = ap (accepted w) v ∙ rw (h.1) refl;
     }

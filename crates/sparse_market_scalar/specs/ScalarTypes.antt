@@ -6,43 +6,43 @@ use Rattle.std.proofs.Common.{inl, inr}
 use lib.IntN.{neg_ℤ}
 use Rattle.sparse_parser.specs.declared.error.MatrixMarketErrorKind.TheVariants.{TypeMismatch}
 use Rattle.sparse_parser.specs.Scalars.{Scalar}
-use Rattle.sparse_market_scalar.specs.IntegerTexts.{taken, taken_refuses, number_text}
+use Rattle.sparse_market_scalar.specs.IntegerTexts.{accepted, accepted_refuses, number_text}
 
--- plain integers; the least has no negative
+-- plain integers, of which the least has no negative
 abbrev pub signed_scalar : Width → Scalar
 signed_scalar w = record {
   Value = ℤ;
-  from_number = taken w;
+  from_number = accepted w;
   from_pattern = Err TypeMismatch;
-  negated = λ x. taken w (neg_ℤ x);
+  negated = λ x. accepted w (neg_ℤ x);
   conjugated = λ x. Err TypeMismatch;
   name = codes "integer";
   text = signed_decimal;
   IsValue = FitsSigned w;
-  number_refused = taken_refuses w;
+  number_refused = accepted_refuses w;
   pattern_refused = refl;
-  negative_refused = λ x. taken_refuses w (neg_ℤ x);
+  negative_refused = λ x. accepted_refuses w (neg_ℤ x);
   read_back = inl (refl, number_text w);
 }
 
--- wrapping integers in signed form
+-- wrapping integers, whose texts are in signed form
 abbrev pub wrapping_scalar : Width → Scalar
 wrapping_scalar w = record {
   Value = ℤ;
-  from_number = taken w;
+  from_number = accepted w;
   from_pattern = Err TypeMismatch;
   negated = λ x. Ok (int_wrapping_neg w x);
   conjugated = λ x. Err TypeMismatch;
   name = codes "integer";
   text = signed_decimal;
   IsValue = FitsSigned w;
-  number_refused = taken_refuses w;
+  number_refused = accepted_refuses w;
   pattern_refused = refl;
   negative_refused = λ x. tt;
   read_back = inl (refl, number_text w);
 }
 
--- patterns, which have one value and no text
+-- patterns, whose only value has an empty text
 abbrev pub pattern_scalar : Scalar
 pattern_scalar = record {
   Value = Unit {0};

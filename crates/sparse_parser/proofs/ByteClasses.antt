@@ -1,10 +1,11 @@
--- Bytes of one kind are not of another.
+-- Which classes of bytes contain or exclude each other, such as digits, signs, blanks and line
+-- ends.
 use Rattle.std.proofs.Common.{◌≡◌, ℕ, Bool, true, false, eqb, ◌||◌, List, [], ◌∷◌, ◌++◌, arith}
 use Rattle.std.specs.Char.{is_ascii_digit}
 use Rattle.std.proofs.lemmas.Bool.Decides.{nat_tests}
 use Rattle.sparse_parser.specs.Bytes.{is_blank, is_point}
 use Rattle.sparse_parser.specs.InnerBytes.{is_within_line, is_space, is_solid, is_unscaled}
-use Rattle.sparse_parser.proofs.Fronts.{Passes}
+use Rattle.sparse_parser.proofs.LeadingBytes.{Passes}
 
 pub blank_within_line : (b : ℕ) → is_blank b ≡ true → is_within_line b ≡ true
 blank_within_line b e = grind (arith, nat_tests)

@@ -1,4 +1,4 @@
--- The comments and contents among the written lines of a text.
+-- The words of the lines that are neither blank nor comments are the contents of the grammar.
 use Rattle.std.proofs.Common.{◌≡◌, ◌≢◌, ℕ, ◌<◌, true, false, eqb, List}
 use Rattle.std.proofs.Common.{[], ◌∷◌, ◌++◌, length, get_or, drop, Some, refl, sym, ap, subst, ◌∙◌}
 use Rattle.std.proofs.Common.{arith, inl, inr}
@@ -22,12 +22,12 @@ heads c rest (d ∷ word) after lt e = cc
 
 starts : (c : ℕ) (rest word : List ℕ) (words : List (List ℕ)) → is_blank c ≡ false
     → AreWords (c ∷ rest) (word ∷ words) → get_or word 0 0 ≡ c
-starts c rest word words e ([], after, blanks, lt, solid, same, apart, others) =
+starts c rest word words e ([], after, blanks, lt, solid, same, word_end, others) =
     heads c rest word after lt same
-starts c rest word words e (b ∷ before, after, blanks, lt, solid, same, apart, others) =
+starts c rest word words e (b ∷ before, after, blanks, lt, solid, same, word_end, others) =
     false-true e (let h : c ≡ b = cc in rw h blanks.0)
 
--- the words of what begins with c
+-- the first word of a text that begins with the byte c begins with c
 pub first_word_of : (c : ℕ) (rest : List ℕ) → is_blank c ≡ false
     → (word : List ℕ) × (words : List (List ℕ)) × (words_of (c ∷ rest) ≡ word ∷ words)
     × (get_or word 0 0 ≡ c)
@@ -84,7 +84,7 @@ contents_only (line ∷ lines) contents (inr (inr (word, words, more, are, plain
     ∙ ap (λ (c : List (List (List ℕ))). (word ∷ words) ∷ c) (contents_only lines more others)
     ∙ sym e
 
--- the first written line, and the contents of the others
+-- the words of the first line that is not blank, and the contents of the lines below it
 abbrev pub Begins : List (List (List ℕ)) → List (List ℕ) → List (List (List ℕ)) → Type 0
 Begins lines header contents = (others : List (List (List ℕ))) × (lines ≡ header ∷ others)
     × (filter is_content others ≡ contents)
@@ -102,12 +102,12 @@ headed_only (line ∷ lines) header contents (inr (word, words, are, e, others))
       contents_only lines contents others,
     )
 
--- ---- and back
+-- ---- each list of lines has contents, and a header if it has a line that is not blank
 
 commented : (line word : List ℕ) (words : List (List ℕ)) → AreWords line (word ∷ words)
     → get_or word 0 0 ≡ 37
     → (before : List ℕ) × (rest : List ℕ) × AreBlanks before × (line ≡ before ++ (37 ∷ rest))
-commented line word words (before, rest, blanks, lt, solid, same, apart, others) p = (
+commented line word words (before, rest, blanks, lt, solid, same, word_end, others) p = (
   before,
   drop 1 word ++ rest,
   blanks,
@@ -182,7 +182,7 @@ headed_are [] header others e = absurd cc
 headed_are (line ∷ lines) header others e = more_headed line lines header others (words_of line)
     refl (words_are line) e (headed_are lines header others)
 
--- ---- the header and the contents of a text
+-- ---- a text has the header and the contents that `written_of` gives
 
 pub headed_lines : (text : List ℕ) (header : Header) (contents : List (List (List ℕ)))
     (h : IsHeaded text header contents)

@@ -1,4 +1,4 @@
--- The indices and integers of a line, read one after the other.
+-- Indices and integers, read one after the other from a line.
 use Rattle.std.proofs.Common.{◌≡◌, ◌≢◌, ℕ, ℤ, pos, zero, suc, ◌^◌, ◌<◌, Bool, true, false, cond}
 use Rattle.std.proofs.Common.{eqb, List, [], ◌∷◌, ◌++◌, length, Option}
 use Rattle.std.proofs.Common.{Some, None, Ok, Err, refl, sym}
@@ -13,7 +13,7 @@ use Rattle.std.proofs.lemmas.Bool.{lt-ltb}
 use Rattle.std.proofs.lemmas.Bool.Decides.{nat_tests}
 use lib.IntN.{neg_ℤ}
 use Rattle.sparse_parser.specs.declared.error.MatrixMarketErrorKind.TheVariants.{ParsingError}
-use Rattle.sparse_parser.specs.Bytes.{is_blank, is_line_end, front, after}
+use Rattle.sparse_parser.specs.Bytes.{is_blank, is_line_end, leading, after}
 use Rattle.sparse_parser.specs.InnerBytes.{is_solid, is_space, is_within_line}
 use Rattle.sparse_parser.specs.Grammar.{is_integer}
 use Rattle.sparse_parser.specs.Scalars.{fits}
@@ -21,30 +21,30 @@ use Rattle.sparse_parser.specs.Meaning.{integer_of}
 use Rattle.sparse_parser.specs.InnerReading.{line_words, ends_line}
 use Rattle.sparse_parser.specs.InnerNumbers.{IsNumberRead}
 use Rattle.sparse_parser.specs.declared.data_lines.NumberKind.{NumberKind}
-use Rattle.sparse_parser.specs.InnerLines.{is_whole, WriteNumber, IsNumberOf, IsWord, ends_word}
+use Rattle.sparse_parser.specs.InnerLines.{is_whole, IsDigitsValue, IsNumberOf, IsWord, ends_word}
 use Rattle.sparse_parser.specs.InnerIntegers.{IsIndexAt, IsIntegerAt, IsEndAt, IsIntegerLine}
 use Rattle.sparse_parser.specs.InnerIntegers.{IsLastIndex, IsLastNumber}
-use Rattle.sparse_parser.specs.InnerIntegers.{IsPlaceLine, IsValueLine}
-use Rattle.sparse_parser.proofs.Fronts.{Passes-front, front-append-after, front-no, after-no}
+use Rattle.sparse_parser.specs.InnerIntegers.{IsPatternLine, IsValueLine}
+use Rattle.sparse_parser.proofs.LeadingBytes.{Passes-leading, leading-append-after, leading-no, after-no}
 use Rattle.sparse_parser.proofs.ByteClasses.{digit_solid, space_no_digit, Passes-weaker}
-use Rattle.sparse_parser.proofs.EntryLaws.{some_front, is_index-front, found-number, value_word}
+use Rattle.sparse_parser.proofs.EntryLaws.{some_leading, is_index-leading, found-number, value_word}
 use Rattle.sparse_parser.proofs.EntryLaws.{value_word-is_integer, value_word-number}
 use Rattle.sparse_parser.proofs.FirstWord.{word_first, word-after_blanks}
 use Rattle.sparse_parser.proofs.IntegerWords.{AreDigits, integer_word}
 use Rattle.sparse_parser.proofs.FirstWord.{words-after_blanks, line-after_blanks, line_ends}
 use Rattle.sparse_parser.proofs.Digits.{digit_small}
-use Rattle.sparse_parser.proofs.Positions.{after_passed, digit_read}
+use Rattle.sparse_parser.proofs.TextOffsets.{after_passed, digit_read}
 
--- what ends a word is no digit
+-- a text that ends a word has no leading digit
 no_digit : (rest : List ℕ) → ends_word rest ≡ true
-    → (front is_ascii_digit rest ≡ []) × (after is_ascii_digit rest ≡ rest)
+    → (leading is_ascii_digit rest ≡ []) × (after is_ascii_digit rest ≡ rest)
 no_digit [] e = (refl, refl)
 no_digit (b ∷ rest) e = let d = space_no_digit b
-    e in (front-no is_ascii_digit b rest d, after-no is_ascii_digit b rest d)
+    e in (leading-no is_ascii_digit b rest d, after-no is_ascii_digit b rest d)
 
--- the digits at the front of a text were read, and a word ends there
+-- the leading digits of a text were read, and a word ends after them
 record IsDigitsRead (text : List ℕ) (number : ℕ) (rest : List ℕ) : Type 0 where
-  value : number ≡ digits_value 10 (front is_ascii_digit text)
+  value : number ≡ digits_value 10 (leading is_ascii_digit text)
   others : rest ≡ after is_ascii_digit text
   small : number < 2 ^ 64
 
@@ -58,30 +58,30 @@ all_read text rest number r e =
       small = r.small;
     }
 
--- the digits at the front of a text, before a blank or the end of the line
+-- the leading digits of a text are a word if a blank, a line end or the end of the text follows
 digits_word : (text rest : List ℕ) → rest ≡ after is_ascii_digit text → length rest ≢ length text
-    → ends_word rest ≡ true → IsWord text (front is_ascii_digit text) rest
+    → ends_word rest ≡ true → IsWord text (leading is_ascii_digit text) rest
 digits_word text rest r some ends =
-    let lt = some_front is_ascii_digit text (λ e. some (ap length r ∙ e)) in
+    let lt = some_leading is_ascii_digit text (λ e. some (ap length r ∙ e)) in
     let solid = Passes-weaker is_ascii_digit is_solid _ digit_solid
-    (Passes-front is_ascii_digit text) in
-    let same : front is_ascii_digit text ++ rest ≡ text =
-    ap (λ (t : List ℕ). front is_ascii_digit text ++ t) r
-    ∙ front-append-after is_ascii_digit text in
-    subst (λ (t : List ℕ). IsWord t (front is_ascii_digit text) rest) same
-    (word_first (front is_ascii_digit text) rest lt solid ends)
+    (Passes-leading is_ascii_digit text) in
+    let same : leading is_ascii_digit text ++ rest ≡ text =
+    ap (λ (t : List ℕ). leading is_ascii_digit text ++ t) r
+    ∙ leading-append-after is_ascii_digit text in
+    subst (λ (t : List ℕ). IsWord t (leading is_ascii_digit text) rest) same
+    (word_first (leading is_ascii_digit text) rest lt solid ends)
 
--- the digits at the front of a text, before a blank or the end of the line, are an index
+-- such digits are an index
 pub index_first : (text rest : List ℕ) (number : ℕ) → IsNumberRead text number rest
     → length rest ≢ length text → ends_word rest ≡ true → IsIndexAt text number rest
 index_first text rest number r some ends =
     let d = all_read text rest number r ends in
     record {
-      word = front is_ascii_digit text;
+      word = leading is_ascii_digit text;
       at = digits_word text rest d.others some ends;
-      index = is_index-front text (some_front is_ascii_digit text
+      index = is_index-leading text (some_leading is_ascii_digit text
           (λ f. some (ap length d.others ∙ f)));
-      is = sym (found-number (front is_ascii_digit text) (Some number)
+      is = sym (found-number (leading is_ascii_digit text) (Some number)
           (subst (λ (n : ℕ). n < 2 ^ 64) d.value d.small, d.value));
     }
 
@@ -100,7 +100,7 @@ index_at text start rest number s r some ends =
 blank_ends : (b : ℕ) → is_blank b ≡ true → is_space b ≡ true
 blank_ends b e = rw e refl
 
--- an index and the blank after it
+-- an index followed by a blank, and the text after that blank
 pub index_and_blank : (text from : List ℕ) (number end : ℕ) → end < length text
     → is_blank (get_or text end 0) ≡ true → IsNumberRead from number (drop end text)
     → length (drop end text) ≢ length from → IsIndexAt from number (drop (end + 1) text)
@@ -123,7 +123,7 @@ index_and_blank text from number end lt e r some =
       is = i.is;
     }
 
--- the sign is the first byte's
+-- the word of an integer begins with a minus exactly where the text does
 same_sign : (text : List ℕ) → starts_with_minus (value_word text) ≡ starts_with_minus text
 same_sign [] = refl
 same_sign (b ∷ text) = by (eqb b 45) (eqb b 43) (is_ascii_digit b) refl refl refl
@@ -131,13 +131,13 @@ same_sign (b ∷ text) = by (eqb b 45) (eqb b 43) (is_ascii_digit b) refl refl r
     by : (minus plus digit : Bool) → eqb b 45 ≡ minus → eqb b 43 ≡ plus → is_ascii_digit b ≡ digit
         → starts_with_minus (value_word (b ∷ text)) ≡ starts_with_minus (b ∷ text)
     by true true digit m p d = ap starts_with_minus
-        (let w : value_word (b ∷ text) ≡ b ∷ front is_ascii_digit text = rw (p, m) refl in w)
+        (let w : value_word (b ∷ text) ≡ b ∷ leading is_ascii_digit text = rw (p, m) refl in w)
     by true false digit m p d = ap starts_with_minus
-        (let w : value_word (b ∷ text) ≡ b ∷ front is_ascii_digit text = rw (p, m) refl in w)
+        (let w : value_word (b ∷ text) ≡ b ∷ leading is_ascii_digit text = rw (p, m) refl in w)
     by false true digit m p d = ap starts_with_minus
-        (let w : value_word (b ∷ text) ≡ b ∷ front is_ascii_digit text = rw (p, m) refl in w)
+        (let w : value_word (b ∷ text) ≡ b ∷ leading is_ascii_digit text = rw (p, m) refl in w)
     by false false true m p d = ap starts_with_minus
-        (let w : value_word (b ∷ text) ≡ b ∷ front is_ascii_digit text = rw (m, p, d) refl in w)
+        (let w : value_word (b ∷ text) ≡ b ∷ leading is_ascii_digit text = rw (m, p, d) refl in w)
     by false false false m p d =
         let w : value_word (b ∷ text) ≡ [] = rw (m, p, d) refl in
         ap starts_with_minus w ∙ sym m
@@ -156,7 +156,7 @@ integer_is word n true i m e lt = rw (← e, i, m) (negative n lt)
     negative (suc n) lt = rw (lt-ltb n (2 ^ 127) (omega arith)) refl
 integer_is word n false i m e lt = rw (← e, i, m, lt-ltb n (2 ^ 127) (omega arith)) refl
 
--- the digits of an integer with its sign
+-- the value of an integer, from the value of its digits and its sign
 pub signed_integer : (word : List ℕ) (digits : Option ℕ) (kind : NumberKind) (n : ℕ) (minus : Bool)
     (value : Option ℤ) → IsNumberOf word digits kind → digits ≡ Some n
     → minus ≡ starts_with_minus word
@@ -164,7 +164,7 @@ pub signed_integer : (word : List ℕ) (digits : Option ℕ) (kind : NumberKind)
     → MatchOption value (Unit {0}) (λ v. IsTrue (is_whole kind) → integer_of word ≡ Ok v)
 signed_integer word digits kind n minus None number d m is = tt
 signed_integer word digits kind n minus (Some v) number d m is = λ whole.
-    let w : WriteNumber word (Some n) = subst (WriteNumber word) d (number.digits_are whole) in
+    let w : IsDigitsValue word (Some n) = subst (IsDigitsValue word) d (number.digits_are whole) in
     integer_is word n minus (number.integer ∙ whole) (sym m) w.1
     (subst (λ (k : ℕ). k < 2 ^ 64) (sym w.1) w.0)
     ∙ ap (λ (z : ℤ). Ok z) (sym is)
@@ -176,8 +176,8 @@ pub integer_at : (text start unsigned rest : List ℕ) (number : ℕ) (minus : B
     → IsIntegerAt text value rest
 integer_at text start unsigned rest number minus value s u r some ends m v =
     let d = all_read unsigned rest number r ends in
-    let w : SomeIff (Some number) (digits_value 10 (front is_ascii_digit unsigned) < 2 ^ 64)
-    (digits_value 10 (front is_ascii_digit unsigned)) =
+    let w : SomeIff (Some number) (digits_value 10 (leading is_ascii_digit unsigned) < 2 ^ 64)
+    (digits_value 10 (leading is_ascii_digit unsigned)) =
     (subst (λ (n : ℕ). n < 2 ^ 64) d.value d.small, d.value) in
     let a : AreDigits start unsigned rest (value_word start) (Some number) = record {
       unsigned_is = u;
@@ -205,13 +205,13 @@ no_blank_first : (text : List ℕ) → ends_line text ≡ true → text ≡ afte
 no_blank_first [] e = refl
 no_blank_first (b ∷ text) e = sym (after-no is_blank b text (line_end_no_blank b e))
 
--- the line ends at once
+-- a line that has no byte left ends here
 pub end_at : (text rest : List ℕ) → rest ≡ text → ends_line text ≡ true → IsEndAt text rest
 end_at text rest r e =
     let l = line_ends text text (no_blank_first text e) e in
     record { none = l.0; line = r ∙ l.1 }
 
--- a digit, and LF after it
+-- a digit before LF is a number that ends its line
 pub one_digit : (text : List ℕ) (from number : ℕ) → from + 1 < length text
     → is_ascii_digit (get_or text from 0) ≡ true → get_or text (from + 1) 0 ≡ 10
     → number ≡ get_or text from 0 - 48
@@ -224,7 +224,7 @@ one_digit text from number inside digit end is =
       behind = drop (from + 1) text;
       read = record {
         value =
-            ap (λ (n : ℕ). digits_value_after 10 n (front is_ascii_digit (drop (from + 1) text)))
+            ap (λ (n : ℕ). digits_value_after 10 n (leading is_ascii_digit (drop (from + 1) text)))
             first ∙ digit_read 0 text from (omega arith) digit;
         others = after_passed is_ascii_digit text from (omega arith) digit;
         small = omega arith;
@@ -235,7 +235,7 @@ one_digit text from number inside digit end is =
       line = end_at _ _ refl (ap ends_line ends ∙ ap is_line_end end);
     }
 
--- an index, and LF after it
+-- an index before LF ends its line
 pub index_and_end : (text from : List ℕ) (number end : ℕ) → end < length text
     → get_or text end 0 ≡ 10 → IsNumberRead from number (drop end text)
     → length (drop end text) ≢ length from → IsLastIndex from number (drop end text)
@@ -247,7 +247,7 @@ index_and_end text from number end lt e r some =
       line = end_at _ _ refl (ap ends_line ends ∙ ap is_line_end e);
     }
 
--- one word more
+-- the words of a line, from its first word and the words of the text after it
 more : (text word rest : List ℕ) (words : List (List ℕ)) → IsWord text word rest
     → line_words rest ≡ words → line_words text ≡ word ∷ words
 more text word rest words h e = h.words ∙ ap (λ (ws : List (List ℕ)). word ∷ ws) e
@@ -263,9 +263,9 @@ value_line_is text rest end value v e = record {
   after_line = e.line ∙ v.at.line;
 }
 
-pub place_line_is : (text second rest end : List ℕ) (row col : ℕ) → IsIndexAt text row second
-    → IsIndexAt second col rest → IsEndAt rest end → IsPlaceLine text row col end
-place_line_is text second rest end row col r c e = record {
+pub pattern_line_is : (text second rest end : List ℕ) (row col : ℕ) → IsIndexAt text row second
+    → IsIndexAt second col rest → IsEndAt rest end → IsPatternLine text row col end
+pattern_line_is text second rest end row col r c e = record {
   row_word = r.word;
   col_word = c.word;
   words = more text r.word second _ r.at (more second c.word rest [] c.at e.none);

@@ -1,4 +1,4 @@
--- Which first words of a line are integers, and the numbers of their digits.
+-- When the first word of a line is an integer, and the value of its digits.
 use Rattle.std.proofs.Common.{◌≡◌, ◌≢◌, ℕ, ◌+◌, ◌^◌, ◌<◌, ◌&&◌, ◌||◌, Bool, true, false, eqb, List}
 use Rattle.std.proofs.Common.{[], ◌∷◌, ◌++◌, length, Option, None, refl, sym, ap, subst, ◌∙◌, arith}
 use Rattle.std.proofs.Common.{inl, inr, length-append}
@@ -10,12 +10,12 @@ use Rattle.std.proofs.lemmas.List.{nil_from_length}
 use Rattle.std.proofs.lemmas.Bool.Decides.{nat_tests}
 use Rattle.sparse_parser.specs.declared.data_lines.NumberKind.{NumberKind}
 use Rattle.sparse_parser.specs.declared.data_lines.NumberKind.TheVariants.{Index, Signed, Other}
-use Rattle.sparse_parser.specs.Bytes.{front, after}
+use Rattle.sparse_parser.specs.Bytes.{leading, after}
 use Rattle.sparse_parser.specs.InnerBytes.{is_solid}
 use Rattle.sparse_parser.specs.Grammar.{is_index, is_integer, is_number}
 use Rattle.sparse_parser.specs.InnerLines.{IsNumberOf, IsWord, ends_word, is_plain, is_whole}
-use Rattle.sparse_parser.proofs.Fronts.{Passes, IsStopped, Passes-front, IsStopped-after}
-use Rattle.sparse_parser.proofs.Fronts.{front-append-after, after-append}
+use Rattle.sparse_parser.proofs.LeadingBytes.{Passes, IsStopped, Passes-leading, IsStopped-after}
+use Rattle.sparse_parser.proofs.LeadingBytes.{leading-append-after, after-append}
 use Rattle.sparse_parser.proofs.ByteClasses.{digit_solid, sign_solid, sign_no_digit}
 use Rattle.sparse_parser.proofs.ByteClasses.{unsolid_no_digit, Passes-weaker, Passes-append}
 use Rattle.sparse_parser.proofs.EntryLaws.{sign_of, sign_of-append, value_word, value_word-append}
@@ -37,20 +37,20 @@ sign_passes (b ∷ text) = by (eqb b 43 || eqb b 45) refl
 value-passes : (text : List ℕ) → Passes is_solid (value_word text)
 value-passes text = Passes-append is_solid (sign_of text) _ (sign_passes text)
     (Passes-weaker is_ascii_digit is_solid _ digit_solid
-    (Passes-front is_ascii_digit (without_leading_sign text)))
+    (Passes-leading is_ascii_digit (without_leading_sign text)))
 
 length-second : (s t : List ℕ) → 0 < length t → 0 < length (s ++ t)
 length-second s t lt = let e = length-append s t in omega arith
 
--- the digits that stand after a sign, and what stands after them
+-- a word of a sign and digits, the value of the digits, and the text after the word
 pub record AreDigits (text unsigned rest word : List ℕ) (digits : Option ℕ) : Type 0 where
   pub unsigned_is : unsigned ≡ without_leading_sign text
   pub rest_is : rest ≡ after is_ascii_digit unsigned
   pub some : length rest ≢ length unsigned
   pub ends : ends_word rest ≡ true
   pub word_is : word ≡ value_word text
-  pub number : SomeIff digits (digits_value 10 (front is_ascii_digit unsigned) < 2 ^ 64)
-      (digits_value 10 (front is_ascii_digit unsigned))
+  pub number : SomeIff digits (digits_value 10 (leading is_ascii_digit unsigned) < 2 ^ 64)
+      (digits_value 10 (leading is_ascii_digit unsigned))
 
 pub integer_word : (text unsigned rest word : List ℕ) (digits : Option ℕ)
     → AreDigits text unsigned rest word digits → IsWord text word rest
@@ -76,8 +76,8 @@ plain_number text unsigned rest word digits h e =
     let i = value_word-is_integer text unsigned rest word h.unsigned_is h.rest_is h.some
     h.word_is in
     let s = no_sign text (ap length (sym h.unsigned_is) ∙ e) in
-    let w : word ≡ front is_ascii_digit (without_leading_sign text) = h.word_is
-    ∙ ap (λ (x : List ℕ). x ++ front is_ascii_digit (without_leading_sign text)) s in
+    let w : word ≡ leading is_ascii_digit (without_leading_sign text) = h.word_is
+    ∙ ap (λ (x : List ℕ). x ++ leading is_ascii_digit (without_leading_sign text)) s in
     record {
       number = integer-number word i;
       index = ap is_index w ∙ some_value text unsigned rest h.unsigned_is h.rest_is h.some;
@@ -103,7 +103,7 @@ signed_no_index (b ∷ text) n = by (eqb b 43 || eqb b 45) refl
 
     by : (t : Bool) → (eqb b 43 || eqb b 45) ≡ t → is_index (value_word (b ∷ text)) ≡ false
     by true e =
-        let w : value_word (b ∷ text) ≡ b ∷ front is_ascii_digit (without_leading_sign (b ∷ text)) =
+        let w : value_word (b ∷ text) ≡ b ∷ leading is_ascii_digit (without_leading_sign (b ∷ text)) =
         rw e refl in
         ap is_index w ∙ no_index_first b _ (sign_no_digit b e)
     by false e = absurd (n (ap length (none_is e)))
@@ -122,9 +122,9 @@ signed_number text unsigned rest word digits h n =
           h.word_is;
     }
 
--- ---- no integer
+-- ---- when the first word is no integer
 
--- a sign and what stands after it, before more
+-- a sign is removed from a word in the same way if more text follows the word
 sign-split : (word next : List ℕ) → is_integer word ≡ true
     → without_leading_sign (word ++ next) ≡ without_leading_sign word ++ next
 sign-split [] next i = absurd cc
@@ -143,19 +143,19 @@ stops_digits (b ∷ next) stop = unsolid_no_digit b stop
 pub no_integer : (text unsigned rest : List ℕ) → unsigned ≡ without_leading_sign text
     → rest ≡ after is_ascii_digit unsigned
     → (length rest ≡ length unsigned) ⊎ (ends_word rest ≡ false)
-    → is_integer (front is_solid text) ≡ false
-no_integer text unsigned rest u r wrong = by (is_integer (front is_solid text)) refl
+    → is_integer (leading is_solid text) ≡ false
+no_integer text unsigned rest u r wrong = by (is_integer (leading is_solid text)) refl
   where
-    by : (t : Bool) → is_integer (front is_solid text) ≡ t
-        → is_integer (front is_solid text) ≡ false
+    by : (t : Bool) → is_integer (leading is_solid text) ≡ t
+        → is_integer (leading is_solid text) ≡ false
     by false i = i
     by true i =
-        let word = front is_solid text in
+        let word = leading is_solid text in
         let next = after is_solid text in
         let d = digits-of (without_leading_sign word) i in
         let stop = IsStopped-after is_solid text in
         let s : unsigned ≡ without_leading_sign word ++ next = u
-        ∙ ap without_leading_sign (sym (front-append-after is_solid text))
+        ∙ ap without_leading_sign (sym (leading-append-after is_solid text))
         ∙ sign-split word next i in
         let a : rest ≡ next = r ∙ ap (after is_ascii_digit) s
         ∙ after-append is_ascii_digit (without_leading_sign word) next d.1
@@ -176,7 +176,7 @@ other_is word n i = record {
   digits_are = λ e. absurd cc;
 }
 
--- the number of an index, which has no sign
+-- an index has no sign, so the value of its digits is its number
 pub index_digits : (word : List ℕ) (digits : Option ℕ) (kind : NumberKind)
     → IsNumberOf word digits kind → is_plain kind ≡ true → SomeIff digits (digits_value 10 word < 2 ^ 64) (digits_value 10 word)
 index_digits word digits kind h p =

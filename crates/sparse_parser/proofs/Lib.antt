@@ -1,14 +1,14 @@
 pub mod ByteClasses
 pub mod Digits
-mod Positions
+mod TextOffsets
 mod Runs
 mod EntryLaws
 mod FirstWord
 mod IntegerWords
 mod IntegerLaws
-pub mod Fronts
+pub mod LeadingBytes
 pub mod ContentLaws
-pub mod FrontLines
+pub mod FirstLines
 pub mod LineLaws
 pub mod LineShapes
 pub mod NumberLaws

@@ -1,4 +1,4 @@
--- The written lines of a text are one list, however its lines end.
+-- Each text has lines, and `written_of` gives the words of those that are not blank.
 use Rattle.std.proofs.Common.{◌≡◌, ℕ, Bool, true, false, cond, eqb, List}
 use Rattle.std.proofs.Common.{[], ◌∷◌, ◌++◌, ◌<◌, length, get_or, drop, refl, sym, ap, ◌∙◌, arith}
 use Rattle.std.proofs.Common.{inl, inr}
@@ -12,7 +12,7 @@ use Rattle.sparse_parser.specs.InnerReading.{is_some_line, words_of, written_lin
 use Rattle.sparse_parser.specs.InnerReading.{written_of}
 use Rattle.sparse_parser.proofs.WordLaws.{words_of-nil, words_of-blanks}
 
--- a line in front of others, unless it is blank
+-- a line's words before those of the other lines, unless the line is blank
 abbrev pub add : List ℕ → List (List (List ℕ)) → List (List (List ℕ))
 add line lines = cond (is_some_line (words_of line)) (words_of line ∷ lines) lines
 
@@ -58,14 +58,14 @@ lines_only text (line ∷ lines) (plain, inr (end, rest, is_end, e, others)) =
     ap (add line) (lines_only rest lines others)
     ∙ sym (ap written_of e ∙ after_end line end rest plain is_end)
 
--- ---- a text from its first byte on
+-- ---- the first byte of a text
 
 pub head_byte : (b : ℕ) (text : List ℕ) → 0 < length text → get_or text 0 0 ≡ b
     → text ≡ b ∷ drop 1 text
 head_byte b [] lt e = absurd (omega arith)
 head_byte b (c ∷ text) lt e = ap (λ (x : ℕ). x ∷ text) e
 
--- a byte that is not the zero beyond the end
+-- a byte other than 0 is a byte of the text, since 0 is read beyond the end
 pub some_byte : (b : ℕ) (text : List ℕ) → 0 < b → get_or text 0 0 ≡ b → text ≡ b ∷ drop 1 text
 some_byte b [] lt e = absurd (omega arith)
 some_byte b (c ∷ text) lt e = ap (λ (x : ℕ). x ∷ text) e

@@ -1,4 +1,4 @@
--- Which lists of words are size lines or data lines.
+-- Lists of words that are size lines or data lines, by their length and their words.
 use Rattle.std.proofs.Common.{◌≡◌, ℕ, Bool, true, false, List, [], ◌∷◌, Some, None, refl, ap, ◌∙◌}
 use Rattle.std.proofs.lemmas.Bool.{and_left, and_right}
 use Rattle.sparse_parser.specs.declared.header.Header.{Header}

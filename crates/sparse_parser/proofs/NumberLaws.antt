@@ -6,16 +6,16 @@ use Rattle.std.specs.Char.{is_ascii_digit}
 use Rattle.std.specs.Str.Parse.{without_leading_sign}
 use Rattle.std.proofs.lemmas.Bool.{ltb-true}
 use Rattle.sparse_algebra.proofs.Cases.{and_parts}
-use Rattle.sparse_parser.specs.Bytes.{is_point, front, after}
+use Rattle.sparse_parser.specs.Bytes.{is_point, leading, after}
 use Rattle.sparse_parser.specs.InnerBytes.{is_unscaled}
 use Rattle.sparse_parser.specs.Grammar.{is_index, is_integer, is_mantissa}
 use Rattle.sparse_parser.specs.Grammar.{is_unsigned_number, is_number}
-use Rattle.sparse_parser.proofs.Fronts.{Passes, front-append, after-append}
+use Rattle.sparse_parser.proofs.LeadingBytes.{Passes, leading-append, after-append}
 use Rattle.sparse_parser.proofs.ByteClasses.{digit_unscaled, digit_no_sign, digit_no_point}
 use Rattle.sparse_parser.proofs.ByteClasses.{Passes-weaker}
 use Rattle.std.proofs.lemmas.List.{append-nil}
 
--- a word of digits
+-- an index is a nonempty run of digits
 pub digits-of : (word : List ℕ) → is_index word ≡ true → (0 < length word)
     × Passes is_ascii_digit word
 digits-of word e = let p = and_parts _ _ e in (ltb-true _ _ p.0, passes word p.1)
@@ -46,8 +46,8 @@ pub digits-number : (word : List ℕ) → is_index word ≡ true → is_unsigned
 digits-number word e =
     let d = digits-of word e in
     let u = Passes-weaker is_ascii_digit is_unscaled word digit_unscaled d.1 in
-    let f : front is_unscaled word ≡ word = ap (front is_unscaled) (sym (append-nil word))
-    ∙ front-append is_unscaled word [] u tt in
+    let f : leading is_unscaled word ≡ word = ap (leading is_unscaled) (sym (append-nil word))
+    ∙ leading-append is_unscaled word [] u tt in
     let a : after is_unscaled word ≡ [] = ap (after is_unscaled) (sym (append-nil word))
     ∙ after-append is_unscaled word [] u tt in
     rw (f, a, digits-mantissa word d.0 d.1) refl
@@ -68,7 +68,7 @@ index-integer word e = ap is_index (index-unsigned word e) ∙ e
 pub index-number : (word : List ℕ) → is_index word ≡ true → is_number word ≡ true
 index-number word e = integer-number word (index-integer word e)
 
--- what implies a test that fails
+-- a test that implies a failing test fails
 pub false-before : (p q : Bool) → (p ≡ true → q ≡ true) → q ≡ false → p ≡ false
 false-before true q f e = absurd (let g = f refl in cc)
 false-before false q f e = refl

@@ -1,4 +1,4 @@
--- A run of digits that is read at once, and a line end before a number.
+-- Runs of digits that are read at once, and a line that begins right after LF.
 use Rattle.std.proofs.Common.{◌≡◌, ◌≢◌, ℕ, ◌+◌, ◌-◌, ◌*◌, ◌%◌, ◌^◌, ◌≤◌, ◌<◌, false, List, []}
 use Rattle.std.proofs.Common.{◌∷◌, length, get_or, take, drop, slice_range, refl, sym, ap, subst}
 use Rattle.std.proofs.Common.{◌∙◌, arith, length-drop, drop-drop, length-take-le, take-take}
@@ -10,38 +10,38 @@ use Rattle.std.specs.Float.Numeral.{digits_len}
 use Rattle.core.proofs.dec2flt.DigitsLemmas.{digits_len_short}
 use Rattle.core.proofs.dec2flt.Rows.{AllDigits-digits_len, short_fits}
 use Rattle.core.proofs.slice.Prefixes.{prefix_len-le-length}
-use Rattle.sparse_parser.specs.Bytes.{front, after}
+use Rattle.sparse_parser.specs.Bytes.{leading, after}
 use Rattle.sparse_parser.specs.InnerBytes.{is_space, BeginsLine}
 use Rattle.sparse_parser.specs.InnerNumbers.{IsNumberRead}
 use Rattle.sparse_parser.specs.InnerReading.{contents_of}
-use Rattle.sparse_parser.proofs.Fronts.{IsStopped-after, front-append, after-append, after-yes}
-use Rattle.sparse_parser.proofs.Fronts.{front_take, after_drop}
-use Rattle.sparse_parser.proofs.Fronts.{after-no}
-use Rattle.sparse_parser.proofs.FrontLines.{IsSought, sought_first}
+use Rattle.sparse_parser.proofs.LeadingBytes.{IsStopped-after, leading-append, after-append, after-yes}
+use Rattle.sparse_parser.proofs.LeadingBytes.{leading_take, after_drop}
+use Rattle.sparse_parser.proofs.LeadingBytes.{after-no}
+use Rattle.sparse_parser.proofs.FirstLines.{IsSought, sought_first}
 
--- the digits of a run, and what follows them
+-- a run of digits is the longest prefix of digits
 run_is : (text : List ℕ) (from count : ℕ) → count ≡ digits_len (drop from text)
-    → (take count (drop from text) ≡ front is_ascii_digit (drop from text))
+    → (take count (drop from text) ≡ leading is_ascii_digit (drop from text))
     × (drop (from + count) text ≡ after is_ascii_digit (drop from text))
 run_is text from count run =
     let start = drop from text in (
-      ap (λ (n : ℕ). take n start) run ∙ sym (front_take is_ascii_digit start),
+      ap (λ (n : ℕ). take n start) run ∙ sym (leading_take is_ascii_digit start),
       sym (drop-drop count from text) ∙ ap (λ (n : ℕ). drop n start) run
           ∙ sym (after_drop is_ascii_digit start),
     )
 
--- no digit follows the digits
+-- the text after the leading digits has no leading digit
 run_ends : (text rest : List ℕ) → rest ≡ after is_ascii_digit text
-    → (front is_ascii_digit rest ≡ []) × (after is_ascii_digit rest ≡ rest)
+    → (leading is_ascii_digit rest ≡ []) × (after is_ascii_digit rest ≡ rest)
 run_ends text rest r =
     let stop = IsStopped-after is_ascii_digit text in (
-      ap (front is_ascii_digit) r
-          ∙ front-append is_ascii_digit [] (after is_ascii_digit text) tt stop,
+      ap (leading is_ascii_digit) r
+          ∙ leading-append is_ascii_digit [] (after is_ascii_digit text) tt stop,
       ap (after is_ascii_digit) r
           ∙ after-append is_ascii_digit [] (after is_ascii_digit text) tt stop ∙ sym r,
     )
 
--- at most 19 digits were read, up to the last
+-- all leading digits, at most 19, were read
 run_read : (text : List ℕ) (from count number : ℕ) → from ≤ length text
     → count ≡ digits_len (drop from text) → count ≤ 19
     → number ≡ digits_value 10 (take count (drop from text)) % 2 ^ 64
@@ -62,7 +62,7 @@ run_read text from count number inside run short is =
       shorter = omega (arith, length-drop from text, length-drop (from + count) text);
     }
 
--- the digits end within the first bytes, and there are at most 19
+-- all leading digits lie within the first bytes, and there are at most 19
 pub first_read : (most : ℕ) (text rest first : List ℕ) (from count number : ℕ)
     → from ≤ length text → rest ≡ drop from text → first ≡ take most rest
     → count ≡ 0 + digits_len (drop 0 first) → count < most → count ≤ 19
@@ -82,7 +82,7 @@ first_read most text rest first from count number inside r e run short few is =
     run_read text from count number inside (omega arith) (omega arith)
     (omega (arith, ap (digits_value 10) digits))
 
--- at most six digits are read from a window that begins five bytes before them
+-- at most six digits are read from a slice that begins five bytes before them
 pub window_read : (text before window : List ℕ) (from end number : ℕ) → from ≤ length text
     → 5 ≤ from → before ≡ drop (from - 5) text → window ≡ take 12 before
     → end ≡ 5 + digits_len (drop 5 window) → end < 12
@@ -105,7 +105,7 @@ window_read text before window from end number inside room b w run short is =
 visible : (b : ℕ) → 37 < b → is_space b ≡ false
 visible b lt = grind (arith, nat_tests)
 
--- a line end, and a byte after it that begins no comment
+-- a line begins after LF if the next byte begins neither a comment nor a blank line
 pub line_begins : (text : List ℕ) → 1 < length text → get_or text 0 0 ≡ 10 → 37 < get_or text 1 0
     → IsSought text (drop 1 text) × BeginsLine (drop 1 text)
 line_begins [] lt e more = absurd (omega arith)
@@ -118,7 +118,7 @@ line_begins (a ∷ b ∷ text) lt e more =
     ∙ after-yes is_space 10 (b ∷ text) refl ∙ after-no is_space b text seen) in
     (sought_first (a ∷ b ∷ text) (b ∷ text) at, (seen, no_comment))
 
--- the same at a position of a text
+-- the same at an offset of a text
 pub line_begins_at : (text : List ℕ) (from : ℕ) → from + 1 < length text → get_or text from 0 ≡ 10
     → 37 < get_or text (from + 1) 0
     → (contents_of (drop (from + 1) text) ≡ contents_of (drop from text))

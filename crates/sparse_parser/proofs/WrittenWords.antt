@@ -1,4 +1,5 @@
--- The bytes of written words lie past the percent sign: no blank, no line end, no comment.
+-- Written words consist of bytes above the percent sign, which are no blanks and no line ends and
+-- begin no comment.
 use Rattle.std.proofs.Common.{◌≡◌, ◌≢◌, ℕ, ◌<◌, Bool, true, false, not, eqb, List, [], ◌∷◌, ◌++◌}
 use Rattle.std.proofs.Common.{length, get_or, sym, ap, subst, ◌∙◌, append-nil, refl, arith}
 use Rattle.std.specs.List.{AllByRecursion, list_all}
@@ -9,10 +10,10 @@ use Rattle.std.proofs.lemmas.Bool.Decides.{nat_tests}
 use Rattle.sparse_algebra.proofs.Cases.{and_parts}
 use Rattle.sparse_parser.specs.Bytes.{is_blank, is_line_end}
 use Rattle.sparse_parser.specs.Grammar.{IsOneLine, is_index, is_integer}
-use Rattle.sparse_parser.proofs.Fronts.{Passes}
+use Rattle.sparse_parser.proofs.LeadingBytes.{Passes}
 use Rattle.sparse_parser.proofs.NumberLaws.{digits-of}
 
--- bytes past the percent sign
+-- each byte is above the percent sign
 abbrev pub Solid : List ℕ → Type 0
 Solid bytes = AllByRecursion (λ b. 37 < b) bytes
 
@@ -44,7 +45,7 @@ integer_text (b ∷ word) e = by (eqb b 45) (eqb b 43) refl refl
     by false false m p = let k : without_leading_sign (b ∷ word) ≡ b ∷ word =
         rw (m, p) refl in index_text (b ∷ word) (sym (ap is_index k) ∙ e)
 
--- ---- what they do not have
+-- ---- such bytes are no blanks, no line ends and no percent signs
 
 not_blank : (b : ℕ) → 37 < b → is_blank b ≡ false
 not_blank b lt = grind (arith, nat_tests)
@@ -67,7 +68,7 @@ pub not_comment : (word : List ℕ) → IsText word → get_or word 0 0 ≢ 37
 not_comment [] t e = absurd (omega (arith, t.some))
 not_comment (b ∷ word) t e = absurd (let lt = t.solid.0 in omega arith)
 
--- ---- a line without a line end, as a test tells it
+-- ---- a line whose bytes are tested to be no line ends
 
 pub test_plain : (line : List ℕ) → list_all (λ b. not (is_line_end b)) line ≡ true → IsOneLine line
 test_plain [] e = tt

@@ -17,10 +17,10 @@ is_point b = b == 46
 abbrev pub is_exponent_letter : ℕ → Bool
 is_exponent_letter b = (b == 101) || (b == 69)
 
--- the longest prefix whose bytes pass the test, and the rest
-abbrev pub front : (ℕ → Bool) → List ℕ → List ℕ
-front p [] = []
-front p (b ∷ text) = if p b then b ∷ front p text else []
+-- the longest prefix whose bytes all pass the test, and the text after it
+abbrev pub leading : (ℕ → Bool) → List ℕ → List ℕ
+leading p [] = []
+leading p (b ∷ text) = if p b then b ∷ leading p text else []
 
 abbrev pub after : (ℕ → Bool) → List ℕ → List ℕ
 after p [] = []

@@ -1,11 +1,11 @@
--- The grammar of a Matrix Market text, by cases on whole lines.
+-- The grammar of a Matrix Market text: its lines, their words, and the classes of words and lines.
 use Rattle.std.specs.Prelude.{◌≡◌, ◌≢◌, ℕ, ◌<◌, Bool, true, false, ◌&&◌, ◌||◌, not, nat_lt}
 use Rattle.std.specs.Prelude.{count_by, List, [], ◌∷◌, ◌++◌, length, slice_index, ◌⊎◌, Some}
 use Rattle.std.specs.List.{AllByRecursion, list_all, list_any}
 use Rattle.std.specs.Char.{is_ascii_digit}
 use Rattle.std.specs.Str.Parse.{without_leading_sign}
 use Rattle.sparse_parser.specs.declared.header.Header.{Header}
-use Rattle.sparse_parser.specs.Bytes.{is_blank, is_line_end, is_point, is_exponent_letter, front}
+use Rattle.sparse_parser.specs.Bytes.{is_blank, is_line_end, is_point, is_exponent_letter, leading}
 use Rattle.sparse_parser.specs.Bytes.{after}
 use Rattle.sparse_parser.specs.Header.{header_of}
 
@@ -14,11 +14,11 @@ abbrev pub IsLineEnd : List ℕ → List ℕ → Type 0
 IsLineEnd end rest =
     (end ≡ 10 ∷ []) ⊎ ((end ≡ 13 ∷ 10 ∷ []) ⊎ ((end ≡ 13 ∷ []) × (slice_index rest 0 ≢ 10)))
 
--- no byte of the line ends it
+-- no byte of the line is a line end
 abbrev pub IsOneLine : List ℕ → Type 0
 IsOneLine line = AllByRecursion (λ b. is_line_end b ≡ false) line
 
--- the text is these lines, each with its end; the last may lack one, if it isn't empty
+-- the text consists of these lines, each with a line end; the last may lack one if it is not empty
 abbrev pub AreLines : List ℕ → List (List ℕ) → Type 0
 AreLines text [] = text ≡ []
 AreLines text (line ∷ lines) = IsOneLine line × (((0 < length line) × (text ≡ line) × (lines ≡ []))
@@ -28,19 +28,19 @@ AreLines text (line ∷ lines) = IsOneLine line × (((0 < length line) × (text 
 abbrev pub AreBlanks : List ℕ → Type 0
 AreBlanks bytes = AllByRecursion (λ b. is_blank b ≡ true) bytes
 
--- a word is followed by a blank or by the end of its line
-abbrev pub IsApart : List ℕ → Type 0
-IsApart [] = Unit {0}
-IsApart (b ∷ rest) = is_blank b ≡ true
+-- what may follow a word on its line: nothing, or text that begins with a blank
+abbrev pub IsWordEnd : List ℕ → Type 0
+IsWordEnd [] = Unit {0}
+IsWordEnd (b ∷ rest) = is_blank b ≡ true
 
--- the line has these words, separated by blanks
+-- the line consists of these words, separated by blanks
 abbrev pub AreWords : List ℕ → List (List ℕ) → Type 0
 AreWords line [] = AreBlanks line
 AreWords line (word ∷ words) = (before : List ℕ) × (rest : List ℕ) × AreBlanks before
     × (0 < length word) × AllByRecursion (λ b. is_blank b ≡ false) word
-    × (line ≡ before ++ (word ++ rest)) × IsApart rest × AreWords rest words
+    × (line ≡ before ++ (word ++ rest)) × IsWordEnd rest × AreWords rest words
 
--- the words of the lines that are neither blank nor comments
+-- the contents of lines: the words of each line that is neither blank nor a comment
 abbrev pub AreContents : List (List ℕ) → List (List (List ℕ)) → Type 0
 AreContents [] contents = contents ≡ []
 AreContents (line ∷ lines) contents = (AreBlanks line × AreContents lines contents)
@@ -50,7 +50,8 @@ AreContents (line ∷ lines) contents = (AreBlanks line × AreContents lines con
     × AreWords line (word ∷ words) × (slice_index word 0 ≢ 37)
     × (contents ≡ (word ∷ words) ∷ others) × AreContents lines others))
 
--- the first line that isn't blank has the words of the header, and these are the contents below it
+-- the first line that is not blank has the words of the header, and the lines below have these
+-- contents
 abbrev pub AreHeaded : List (List ℕ) → List (List ℕ) → List (List (List ℕ)) → Type 0
 AreHeaded [] header contents = ⊥
 AreHeaded (line ∷ lines) header contents = (AreBlanks line × AreHeaded lines header contents)
@@ -79,17 +80,17 @@ abbrev pub is_mantissa : List ℕ → Bool
 is_mantissa word = list_all (λ b. is_ascii_digit b || is_point b) word
     && (list_any is_ascii_digit word && nat_lt (count_by is_point word) 2)
 
--- nothing, or a letter and then an integer
+-- an exponent: nothing, or a letter followed by an integer
 abbrev pub is_exponent : List ℕ → Bool
 is_exponent [] = true
 is_exponent (letter ∷ power) = is_integer power
 
--- a mantissa, and then nothing or an exponent, which begins at the first letter e or E
+-- a mantissa followed by an exponent, which begins at the first letter e or E
 abbrev pub is_unsigned_number : List ℕ → Bool
-is_unsigned_number word = is_mantissa (front (λ b. not (is_exponent_letter b)) word)
+is_unsigned_number word = is_mantissa (leading (λ b. not (is_exponent_letter b)) word)
     && is_exponent (after (λ b. not (is_exponent_letter b)) word)
 
--- a number: an optional sign before it
+-- a number: an optional sign, then an unsigned number
 unfoldable pub is_number : List ℕ → Bool
 is_number word = is_unsigned_number (without_leading_sign word)
 

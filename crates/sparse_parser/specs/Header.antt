@@ -1,4 +1,4 @@
--- The header that the words of a line spell.
+-- The header that the words of a line give.
 use Rattle.std.specs.Prelude.{ℕ, Bool, true, false, List, [], ◌∷◌, map, Option, Some, None}
 use Rattle.std.specs.Prelude.{option_and_then, if◌then◌else◌, codes}
 use Rattle.std.specs.Str.{bytes_eq}
@@ -47,7 +47,7 @@ fields_of (format ∷ field ∷ symmetry ∷ []) = do
   Some (record { format = f; field = g; symmetry = s })
 fields_of words = None
 
--- the words %%MatrixMarket and matrix, and then the fields
+-- the words %%MatrixMarket and matrix, followed by a format, a field and a symmetry
 unfoldable pub header_of : List (List ℕ) → Option Header
 header_of (banner ∷ object ∷ fields) = if says banner (codes "%%MatrixMarket") then if says object
     (codes "matrix") then fields_of fields else None else None

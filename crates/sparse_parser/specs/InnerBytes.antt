@@ -15,15 +15,15 @@ is_within_word b = not (is_blank b)
 abbrev pub is_solid : ℕ → Bool
 is_solid b = not (is_space b)
 
--- before an exponent
+-- a byte that does not begin an exponent
 abbrev pub is_unscaled : ℕ → Bool
 is_unscaled b = not (is_exponent_letter b)
 
--- the function decides the test, for each byte
+-- the answer of the function for each byte is that of the test p
 abbrev pub Decides : (ℕ → Bool → Type 0) → (ℕ → Bool) → Type 0
 Decides answers p = (b : ℕ) (answer : Bool) → b < 256 → answers b answer → answer ≡ p b
 
--- empty, or at the first word of a line that is not a comment
+-- the text is empty, or begins with the first word of a line that is not a comment
 abbrev pub BeginsLine : List ℕ → Type 0
 BeginsLine [] = Unit {0}
 BeginsLine (b ∷ text) = (is_space b ≡ false) × (b ≢ 37)

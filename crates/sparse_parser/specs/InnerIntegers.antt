@@ -8,26 +8,26 @@ use Rattle.sparse_parser.specs.InnerReading.{line_words}
 use Rattle.sparse_parser.specs.InnerNumbers.{IsNumberRead}
 use Rattle.sparse_parser.specs.InnerLines.{IsWord, ends_word}
 
--- the line begins with an index of this number
+-- the first word of the line is an index of this value, and `rest` is the text after it
 pub record IsIndexAt (text : List ℕ) (number : ℕ) (rest : List ℕ) : Type 0 where
   pub word : List ℕ
   pub at : IsWord text word rest
   pub index : is_index word ≡ true
   pub is : number_of word ≡ Ok number
 
--- the line begins with an integer of this value
+-- the first word of the line is an integer of this value, and `rest` is the text after it
 pub record IsIntegerAt (text : List ℕ) (value : ℤ) (rest : List ℕ) : Type 0 where
   pub word : List ℕ
   pub at : IsWord text word rest
   pub integer : is_integer word ≡ true
   pub is : integer_of word ≡ Ok value
 
--- the line ends here
+-- the line has no word, and `rest` is the text from its end on
 pub record IsEndAt (text rest : List ℕ) : Type 0 where
   pub none : line_words text ≡ []
   pub line : rest ≡ after is_within_line text
 
--- the line is an index of this number
+-- the line has one word, an index of this value, and `rest` is the text from its end on
 pub record IsLastIndex (text : List ℕ) (number : ℕ) (rest : List ℕ) : Type 0 where
   pub behind : List ℕ
   pub at : IsIndexAt text number behind
@@ -41,7 +41,7 @@ pub record IsLastNumber (text : List ℕ) (number : ℕ) (rest : List ℕ) : Typ
   pub word : ends_word behind ≡ true
   pub line : IsEndAt behind rest
 
--- the line is a row, a column and an integer
+-- the line consists of a row, a column and an integer
 pub record IsIntegerLine (text : List ℕ) (row col : ℕ) (value : ℤ) (rest : List ℕ) : Type 0 where
   pub row_word : List ℕ
   pub col_word : List ℕ
@@ -55,8 +55,8 @@ pub record IsIntegerLine (text : List ℕ) (row col : ℕ) (value : ℤ) (rest :
   pub value_is : integer_of value_word ≡ Ok value
   pub after_line : rest ≡ after is_within_line text
 
--- the line is a row and a column
-pub record IsPlaceLine (text : List ℕ) (row col : ℕ) (rest : List ℕ) : Type 0 where
+-- the line consists of a row and a column
+pub record IsPatternLine (text : List ℕ) (row col : ℕ) (rest : List ℕ) : Type 0 where
   pub row_word : List ℕ
   pub col_word : List ℕ
   pub words : line_words text ≡ row_word ∷ col_word ∷ []
@@ -66,7 +66,7 @@ pub record IsPlaceLine (text : List ℕ) (row col : ℕ) (rest : List ℕ) : Typ
   pub col_is : number_of col_word ≡ Ok col
   pub after_line : rest ≡ after is_within_line text
 
--- the line is an integer
+-- the line consists of an integer
 pub record IsValueLine (text : List ℕ) (value : ℤ) (rest : List ℕ) : Type 0 where
   pub value_word : List ℕ
   pub words : line_words text ≡ value_word ∷ []

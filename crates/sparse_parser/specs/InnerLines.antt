@@ -25,27 +25,27 @@ is_whole Index = true
 is_whole Signed = true
 is_whole Other = false
 
--- this is the value of an integer's digits, if it fits in 64 bits
-abbrev pub WriteNumber : List ℕ → Option ℕ → Type 0
-WriteNumber word n = SomeIff n (digits_value 10 (without_leading_sign word) < 2 ^ 64)
+-- the value of an integer's digits, or `None` if it does not fit in 64 bits
+abbrev pub IsDigitsValue : List ℕ → Option ℕ → Type 0
+IsDigitsValue word n = SomeIff n (digits_value 10 (without_leading_sign word) < 2 ^ 64)
     (digits_value 10 (without_leading_sign word))
 
--- a word of this form, and the value of its digits
+-- a number of this kind, and the value of its digits
 pub record IsNumberOf (word : List ℕ) (digits : Option ℕ) (kind : NumberKind) : Type 0 where
   pub number : is_number word ≡ true
   pub index : is_index word ≡ is_plain kind
   pub integer : is_integer word ≡ is_whole kind
-  pub digits_are : IsTrue (is_whole kind) → WriteNumber word digits
+  pub digits_are : IsTrue (is_whole kind) → IsDigitsValue word digits
 
 abbrev pub IsNumber : Number → Type 0
 IsNumber n = IsNumberOf n.word.now n.digits n.kind
 
--- the first word of a line, and the rest of the text
+-- the first word of a line, and the text after it
 pub record IsWord (text word rest : List ℕ) : Type 0 where
   pub words : line_words text ≡ word ∷ line_words rest
   pub line : after is_within_line rest ≡ after is_within_line text
 
--- the first item of a line
+-- what the first word of a line is: a number, the line's end, or no number
 abbrev pub IsFound : List ℕ → Found → Type 0
 IsFound text (found.Number n rest) = IsNumber n × IsWord text n.word.now rest.now
 IsFound text (found.End rest) = (line_words text ≡ []) × (rest.now ≡ after is_within_line text)
@@ -58,7 +58,7 @@ words_in (Two a b) = a.word.now ∷ b.word.now ∷ []
 words_in (Three a b c) = a.word.now ∷ b.word.now ∷ c.word.now ∷ []
 words_in (Four a b c d) = a.word.now ∷ b.word.now ∷ c.word.now ∷ d.word.now ∷ []
 
--- numbers; if there are three or four, the first two are indices
+-- each is a number; of three or four numbers the first two are indices
 abbrev pub AreNumbers : Line → Type 0
 AreNumbers (One a) = IsNumber a
 AreNumbers (Two a b) = IsNumber a × IsNumber b

@@ -13,7 +13,7 @@ use Rattle.sparse_parser.specs.declared.error.MatrixMarketError.{MatrixMarketErr
 use Rattle.sparse_parser.specs.declared.size.Size.{Size}
 use Rattle.sparse_parser.specs.declared.header.Header.{Header}
 use Rattle.sparse_parser.specs.Errors.{kind_of_cause, kind_of}
-use Rattle.sparse_parser.specs.Bytes.{is_blank, is_line_end, front}
+use Rattle.sparse_parser.specs.Bytes.{is_blank, is_line_end, leading}
 use Rattle.sparse_parser.specs.InnerBytes.{is_within_line}
 use Rattle.sparse_parser.specs.Words.{words_between}
 use Rattle.sparse_parser.specs.Header.{header_of}
@@ -26,31 +26,31 @@ abbrev pub is_some_line : List (List ℕ) → Bool
 is_some_line [] = false
 is_some_line (word ∷ words) = true
 
--- the words between the blanks of a line
+-- the words of a line, which are separated by blanks
 unfoldable pub words_of : List ℕ → List (List ℕ)
 words_of line = words_between is_blank line
 
 -- the words of the first line of a text
 unfoldable pub line_words : List ℕ → List (List ℕ)
-line_words text = words_of (front is_within_line text)
+line_words text = words_of (leading is_within_line text)
 
--- the words of the lines that aren't blank
+-- the words of each line that is not blank
 abbrev pub written_lines : List (List ℕ) → List (List (List ℕ))
 written_lines lines = filter is_some_line (map words_of lines)
 
 unfoldable pub written_of : List ℕ → List (List (List ℕ))
 written_of text = written_lines (slice_split is_line_end text)
 
--- the first word doesn't begin with %
+-- the first word does not begin with %
 unfoldable pub is_content : List (List ℕ) → Bool
 is_content [] = true
 is_content (word ∷ words) = not (slice_index word 0 == 37)
 
--- the lines that are neither blank nor comments
+-- the words of each line that is neither blank nor a comment
 unfoldable pub contents_of : List ℕ → List (List (List ℕ))
 contents_of text = filter is_content (written_of text)
 
--- this, if each line is a data line
+-- `r` if each line is a data line, else a parsing error
 unfoldable pub among_entries : {A : Type 0} → List (List (List ℕ)) → Read A → Read A
 among_entries lines r = if list_all is_entry lines then r else Err ParsingError
 
@@ -64,7 +64,8 @@ module _ (S : Scalar) where
   judged None contents = Err ParsingError
   judged (Some header) contents = body_of header contents
 
-  -- the first line that isn't blank, and the lines after it that aren't comments
+  -- the meaning of the words of lines: the first line is the header, and comments below it are
+  -- skipped
   unfoldable pub document_of : List (List (List ℕ)) → Read (Coo S.Value)
   document_of [] = Err ParsingError
   document_of (first ∷ others) = judged (header_of first) (filter is_content others)
@@ -72,23 +73,23 @@ module _ (S : Scalar) where
   unfoldable pub read : List ℕ → Read (Coo S.Value)
   read text = document_of (written_of text)
 
-  -- The result of reading, or an allocation failed.
+  -- the result is the meaning `r`, or an allocation failed
   abbrev pub Gives : {T : Type 0} → (T → S.Value) → Result (Coo T) MatrixMarketError
       → Read (Coo S.Value) → Type 0
   Gives value result r = MatchResult result (λ m. r ≡ Ok (values_of value m))
       (λ e. (kind_of e ≡ OutOfMemory) ⊎ (r ≡ Err (kind_of e)))
 
--- the number of these data lines
+-- the number of lines, or `None` if one of them is not a data line
 unfoldable pub count_of : List (List (List ℕ)) → Option ℕ
 count_of lines = if list_all is_entry lines then Some (length lines) else None
 
--- the first error if the size line is refused and these lines follow
+-- the error of a text whose size line has an error of this kind, given the lines below it
 unfoldable pub grammar_kind_of : MatrixMarketErrorKind → List (List (List ℕ))
     → MatrixMarketErrorKind
 grammar_kind_of kind lines = if list_all is_entry lines then kind else ParsingError
 
--- the first error if an entry is refused, given the number of lines read, its own included, and the
--- lines that follow
+-- the error of a text with an entry that has an error of this kind, given the number of data lines
+-- read, that of the entry included, and the lines below
 unfoldable pub settled_of : MatrixMarketErrorKind → ℕ → Option ℕ → List (List (List ℕ))
     → MatrixMarketErrorKind
 settled_of kind read count lines = if list_all is_entry lines then if is_count count
@@ -98,11 +99,11 @@ abbrev pub size_numbers : Result Size Cause → Read Sizes
 size_numbers (Ok s) = Ok (s.rows, s.cols, s.count)
 size_numbers (Err cause) = Err (kind_of_cause cause)
 
--- the numbers of a size line
+-- the numbers of a size line or its error, or `None` if the words are not those of a size line
 unfoldable pub size_at : Header → List (List ℕ) → Option (Read Sizes)
 size_at h words = if is_size words then Some (sizes_of h words) else None
 
--- a result, with the kind of a cause
+-- a result with the kind of a cause in place of the cause
 abbrev pub found : {A : Type 0} → Result A Cause → Read A
 found (Ok x) = Ok x
 found (Err cause) = Err (kind_of_cause cause)

@@ -29,25 +29,25 @@ use Rattle.sparse_parser.specs.Reads.{Read, ◌>>=◌}
 use Rattle.sparse_parser.specs.Scalars.{Scalar, fits}
 use Rattle.sparse_parser.specs.ArrayPlaces.{places_of, array_count}
 
--- an index within usize
+-- the value of an index, if it fits in usize
 unfoldable pub number_of : List ℕ → Read ℕ
 number_of word =
     if nat_lt (digits_value 10 word) (2 ^ 64) then Ok (digits_value 10 word) else Err ParsingError
 
--- an integer within i128
+-- the value of an integer, if it fits in i128
 unfoldable pub integer_of : List ℕ → Read ℤ
 integer_of word =
     let z = signed_digits_value 10 word in
     if is_integer word && fits 127 z then Ok z else Err ParsingError
 
--- the place counted from 0, of a row and a column counted from 1
+-- the row and the column counted from 0, given those of the text, which count from 1; 0 is an error
 unfoldable pub place_of : Read ℕ → Read ℕ → Read (ℕ × ℕ)
 place_of row col = do
   r ← row
   c ← col
   if (r == 0) || (c == 0) then Err ZeroError else Ok (r - 1, c - 1)
 
--- the words are a value of the field
+-- the number of words is that of a value of the field
 abbrev pub is_of_field : Field → List (List ℕ) → Bool
 is_of_field Integer (v ∷ []) = true
 is_of_field Real (v ∷ []) = true
@@ -57,14 +57,14 @@ is_of_field field words = false
 
 -- ---- sizes
 
--- the rows, the columns, and the number of data lines if it fits in a usize
+-- the numbers of rows and columns, and the number of data lines if it fits in usize
 abbrev pub Sizes : Type 0
 Sizes = ℕ × ℕ × Option ℕ
 
 unfoldable pub within_usize : ℕ → Option ℕ
 within_usize n = if nat_lt n (2 ^ 64) then Some n else None
 
--- the sizes given by a size line
+-- the sizes that the numbers of a size line give
 unfoldable pub numbers_of_size : Format → Symmetry → List (List ℕ) → Read Sizes
 numbers_of_size Coordinate s (rows ∷ cols ∷ count ∷ []) = do
   r ← number_of rows
@@ -87,13 +87,14 @@ is_fitting Hermitian rows cols = rows == cols
 abbrev pub fitting : Symmetry → Sizes → Read Sizes
 fitting y s = if is_fitting y s.0 s.1 then Ok s else Err NonSquare
 
--- checks the header, then the numbers of the size line, then that a symmetry has a square matrix
+-- checks the header, then the numbers of the size line, then that a matrix with a symmetry is
+-- square
 unfoldable pub sizes_of : Header → List (List ℕ) → Read Sizes
 sizes_of h words =
     if is_allowed h then (numbers_of_size h.format h.symmetry words >>= fitting h.symmetry)
     else Err InvalidHeader
 
--- the number of data lines is the one given
+-- the number of data lines is the one that the size line gives
 abbrev pub is_count : Option ℕ → ℕ → Bool
 is_count (Some n) lines = lines == n
 is_count None lines = false
@@ -105,7 +106,7 @@ abbrev pub Triplet : Type 0 → Type 0
 Triplet V = ℕ × ℕ × V
 
 module _ (S : Scalar) where
-  -- the value of a field that these words spell
+  -- the value of an entry of this field with these words
   unfoldable pub field_value : Field → List (List ℕ) → Read S.Value
   field_value Integer (word ∷ words) = integer_of word >>= S.from_number
   field_value Pattern words = S.from_pattern
@@ -117,7 +118,7 @@ module _ (S : Scalar) where
     v ← value
     Ok (p.0, p.1, v)
 
-  -- the entry of a data line; an array's has the given place
+  -- the entry of a data line; `at` is the row and column of an array's entry
   unfoldable pub entry_of : Format → Field → Option (ℕ × ℕ) → List (List ℕ)
       → Read (Triplet S.Value)
   entry_of Coordinate field at (row ∷ col ∷ words) =
@@ -145,7 +146,7 @@ module _ (S : Scalar) where
       → Read (List (Triplet S.Value))
   triplets_of h at words = entry_of h.format h.field at words >>= mirrored h.symmetry
 
-  -- the triplets of data lines; those of an array have these places
+  -- the triplets of data lines; `places` has the rows and columns of an array's entries
   unfoldable pub triplets_of_lines : Header → List (ℕ × ℕ) → List (List (List ℕ))
       → Read (List (Triplet S.Value))
   triplets_of_lines h places [] = Ok []
@@ -163,7 +164,7 @@ module _ (S : Scalar) where
       if list_all (is_inside s.0 s.1) ts then Ok (coo_of s.0 s.1 ts)
       else Err (SparseFormatError IndexOutOfBounds)
 
-  -- the matrix of these sizes: the number of data lines, the entries in order, then the bounds
+  -- the matrix, after these checks: the number of data lines, each entry in order, then the bounds
   unfoldable pub listed_of : Header → Sizes → List (List (List ℕ)) → Read (Coo S.Value)
   listed_of h s lines =
       if is_count s.2 (length lines)
@@ -174,14 +175,14 @@ module _ (S : Scalar) where
   unfoldable pub matrix_of : Header → List (List ℕ) → List (List (List ℕ)) → Read (Coo S.Value)
   matrix_of h size lines = sizes_of h size >>= λ s. listed_of h s lines
 
-  -- the meaning of a text; one that is not a document cannot be parsed
+  -- the meaning of a text; a text that is not a document means a parsing error
   abbrev pub Means : List ℕ → Read (Coo S.Value) → Type 0
   Means text r = (((header : Header) (size : List (List ℕ)) (lines : List (List (List ℕ)))
       → IsDocument text header size lines → ⊥) × (r ≡ Err ParsingError))
       ⊎ ((header : Header) × (size : List (List ℕ)) × (lines : List (List (List ℕ)))
       × IsDocument text header size lines × (r ≡ matrix_of header size lines))
 
--- a matrix with the values that contracts see of its scalars
+-- a matrix with its scalars replaced by their values in contracts
 module _ {T V : Type 0} (value : T → V) where
   abbrev pub value_triplet : Triplet T → Triplet V
   value_triplet t = (t.0, t.1, value t.2)

@@ -16,14 +16,14 @@ pub record IsNumberText {V : Type 0} (from : ℤ → Read V) (text : List ℕ) (
   pub wide : fits 127 (signed_digits_value 10 text) ≡ true
   pub back : from (signed_digits_value 10 text) ≡ Ok x
 
--- the texts of values are read back: either all are integers, or all are empty
+-- each value is read back from its text: all texts are integers, or all are empty
 abbrev pub ReadBack : {V : Type 0} → (ℤ → Read V) → Read V → List ℕ → (V → List ℕ)
     → (V → Type 0) → Type 0
 ReadBack {V} from nothing name text IsValue =
     ((name ≡ codes "integer") × ((x : V) → IsValue x → IsNumberText from (text x) x))
     ⊎ ((name ≡ codes "pattern") × ((x : V) → IsValue x → (text x ≡ []) × (nothing ≡ Ok x)))
 
--- a scalar type: the numbers that it accepts, and the texts of its own values
+-- a scalar type: the numbers that it accepts, and the texts of its values
 pub record Scalar : Type 1 where
   pub Value : Type 0
   pub from_number : ℤ → Read Value

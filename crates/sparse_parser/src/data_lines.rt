@@ -1,8 +1,8 @@
-//! Data lines.
+//! Parsing a data line into its numbers.
 
 ghost use Rattle.std.specs.Prelude.{◌≡◌, IsTrue, false, true, MatchOption, Ok};
 ghost use Rattle.sparse_parser.specs.declared.data_lines.Found.TheVariants as found;
-ghost use Rattle.sparse_parser.specs.Bytes.{is_blank, front, after};
+ghost use Rattle.sparse_parser.specs.Bytes.{is_blank, leading, after};
 ghost use Rattle.sparse_parser.specs.InnerBytes.{is_solid};
 ghost use Rattle.sparse_parser.specs.Grammar.{is_integer, is_number, is_entry};
 ghost use Rattle.sparse_parser.specs.Meaning.{integer_of, number_of};
@@ -23,11 +23,11 @@ pub enum NumberKind {
     Index,
     /// A sign and digits.
     Signed,
-    /// Digits with a point or an exponent.
+    /// Digits with a point, an exponent or both.
     Other,
 }
 
-/// A number of a data line: its bytes, and the value of its digits if it is an integer and they fit in 64 bits.
+/// A number of a data line: its word, and the value of its digits if it is an integer and they fit in 64 bits.
 #[derive(Clone, Copy)]
 pub struct Number<'a> {
     word: &'a [u8],
@@ -35,12 +35,12 @@ pub struct Number<'a> {
     kind: NumberKind,
 }
 
-/// The first item of a line.
+/// The first word of a line, or the line's end.
 #[derive(Clone, Copy)]
 pub enum Found<'a> {
-    /// A number, and the rest of the text.
+    /// A number, and the text after it.
     Number(Number<'a>, &'a [u8]),
-    /// The end of the line, and the rest of the text.
+    /// No word is left on the line. The text from the line's end on.
     End(&'a [u8]),
     /// A word that is not a number.
     Fault,
@@ -136,7 +136,7 @@ pub fn data_line(text: &[u8]) -> Option<(Line<'_>, &[u8])>
     }
 }
 
-// The first item of a line, after leading blanks.
+// The first word of a line, or the line's end, after leading blanks.
 fn next_number(text: &[u8]) -> Found<'_>
     ensures { IsFound text.now result }
 {
@@ -150,10 +150,10 @@ fn next_number(text: &[u8]) -> Found<'_>
     other_number(text)
 }
 
-// The integer at the start of a line, after leading blanks.
+// The first word of a line if it is an integer, and the text after it. Leading blanks are skipped.
 #[inline(always)]
 fn leading_integer(text: &[u8]) -> Option<(Number<'_>, &[u8])>
-    ensures { MatchOption result (is_integer (front is_solid (after is_blank text.now)) ≡ false)
+    ensures { MatchOption result (is_integer (leading is_solid (after is_blank text.now)) ≡ false)
         (λ x. IsFound text.now (found.Number x.0 x.1)) }
 {
     let text = after_blanks(text);
@@ -171,11 +171,11 @@ fn leading_integer(text: &[u8]) -> Option<(Number<'_>, &[u8])>
     Some((Number { word, digits, kind }, rest))
 }
 
-// The first word of a text as a number with a point or an exponent.
+// The first word of a text, which is not an integer, as a number with a point or an exponent.
 #[cold]
 fn other_number(text: &[u8]) -> Found<'_>
     requires start { StartsWord text.now }
-    requires no_integer { is_integer (front is_solid text.now) ≡ false }
+    requires no_integer { is_integer (leading is_solid text.now) ≡ false }
     ensures { IsFound text.now result }
 {
     let (word, rest) = split_solid(text);

@@ -1,4 +1,4 @@
-//! Numbers at a position of a text: runs of digits.
+//! Runs of digits at a byte offset of a text.
 
 ghost use Rattle.std.specs.Prelude.{◌≤◌, ◌+◌, MatchOption, length, drop};
 ghost use Rattle.sparse_parser.specs.InnerNumbers.{IsNumberRead, HasStopped};
@@ -9,7 +9,7 @@ use core::dec2flt::read_digits;
 /// 19 digits always fit in 64 bits.
 pub const SHORT: usize = 19;
 
-/// Returns the value of at most 19 digits at a position, and the position after them.
+/// Returns the value of at most 19 digits at an offset, and the offset after them.
 #[inline(always)]
 pub fn digits_at(text: &[u8], from: usize) -> (usize, usize)
     requires { from ≤ length text.now }
@@ -24,10 +24,10 @@ pub fn digits_at(text: &[u8], from: usize) -> (usize, usize)
     many_digits_at(text, from)
 }
 
-// The value of at most six digits at a position, and the position after them, or `None` if there are more.
+// The value of at most six digits at an offset, and the offset after them, or `None` if there are more.
 //
-// No branch depends on how many there are: `read_digits` has no loop to go through where less than eight of at least
-// twelve bytes are left. So it gets five bytes before the digits too.
+// No branch depends on the number of digits: where fewer than eight bytes are left in a slice of at least twelve,
+// `read_digits` has no loop. The slice therefore begins five bytes before the digits.
 #[inline(always)]
 fn few_digits_at(text: &[u8], from: usize) -> Option<(usize, usize)>
     requires before { 5 ≤ from }
@@ -46,7 +46,7 @@ fn few_digits_at(text: &[u8], from: usize) -> Option<(usize, usize)>
     }
 }
 
-// The value of at most 19 digits, where more than six may follow.
+// The value of at most 19 digits at an offset, and the offset after them, where more than six digits may follow.
 #[cold]
 fn many_digits_at(text: &[u8], from: usize) -> (usize, usize)
     requires { from ≤ length text.now }
@@ -56,7 +56,7 @@ fn many_digits_at(text: &[u8], from: usize) -> (usize, usize)
     long_digits_at(text, from)
 }
 
-/// Returns the same for numbers that are often long: up to three times eight digits are read.
+/// Returns the same as [`digits_at`], for numbers that are often long: up to 24 bytes are read, eight at a time.
 #[inline(always)]
 pub fn long_digits_at(text: &[u8], from: usize) -> (usize, usize)
     requires { from ≤ length text.now }
@@ -74,7 +74,7 @@ pub fn long_digits_at(text: &[u8], from: usize) -> (usize, usize)
     first_digits_at(text, from)
 }
 
-/// Returns the value of at most 19 digits at a position, read one by one, and the position after them.
+/// Returns the value of at most 19 digits at an offset, read one by one, and the offset after them.
 #[inline(always)]
 pub fn first_digits_at(text: &[u8], from: usize) -> (usize, usize)
     requires { from ≤ length text.now }

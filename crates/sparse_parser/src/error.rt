@@ -19,13 +19,13 @@ use thiserror::Error;
 /// The kind of an error in reading or writing a Matrix Market text.
 #[derive(Clone, Copy, Debug, PartialEq, Eq)]
 pub enum MatrixMarketErrorKind {
-    /// The text does not match the grammar, or a number in it is out of range.
+    /// The text does not match the grammar, a line does not fit the header, or a number is out of range.
     ParsingError,
-    /// The format, the field and the symmetry of the header do not go together.
+    /// The header has a format, a field and a symmetry that exclude each other.
     InvalidHeader,
     /// The number of entries is not the one given by the size line.
     EntryMismatch,
-    /// The scalar type does not have a value of the text.
+    /// A value of the text, or that of a mirrored entry, is not a value of the scalar type.
     TypeMismatch,
     /// An index is zero; indices count from 1.
     ZeroError,
@@ -174,7 +174,7 @@ pub struct MatrixMarketError {
 }
 
 impl MatrixMarketError {
-    /// Returns the error with this cause.
+    /// Returns an error with this cause.
     pub fn new(cause: Cause) -> MatrixMarketError
         ensures { kind_of result ≡ kind_of_cause cause }
     {

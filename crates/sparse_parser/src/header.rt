@@ -1,4 +1,4 @@
-//! The header line.
+//! Parsing the header line.
 
 ghost use Rattle.std.specs.Prelude.{◌≡◌, true, false, [], ◌∷◌, MatchOption};
 ghost use Rattle.sparse_parser.specs.declared.error.MatrixMarketErrorKind.TheVariants.{InvalidHeader};
@@ -16,7 +16,7 @@ use crate::lines::next_word;
 pub enum Format {
     /// Each data line gives a row, a column and a value.
     Coordinate,
-    /// Each data line gives a value; their places follow column by column.
+    /// Each data line gives a value; rows and columns follow from the order, column by column.
     Array,
 }
 
@@ -46,7 +46,7 @@ pub struct Header {
     pub symmetry: Symmetry,
 }
 
-// Whether a word is a name, in any ASCII case.
+// Whether a word is the given name, in any ASCII case.
 #[tactic(auto, unfolding(crate::specs::Header::says))]
 fn says(word: &[u8], name: &str) -> bool
     ensures { result ≡ says word.now name.now }

@@ -1,20 +1,20 @@
 //! The fast path for data lines: indices, and integers that fit in 64 bits, of at most 19 digits each.
 //!
-//! The lines are read by positions in one text, which takes half as many instructions as a slice for each number.
+//! The functions take a byte offset into one text, which takes half as many instructions as a slice for each number.
 
 ghost use Rattle.std.specs.Prelude.{◌≡◌, ◌≢◌, ◌≤◌, true, MatchOption, length, drop};
 ghost use Rattle.std.specs.Str.Parse.{without_leading_sign};
 ghost use Rattle.sparse_parser.specs.Bytes.{is_blank, after};
 ghost use Rattle.sparse_parser.specs.InnerLines.{ends_word};
 ghost use Rattle.sparse_parser.specs.InnerIntegers.{IsIndexAt, IsEndAt, IsLastIndex, IsLastNumber};
-ghost use Rattle.sparse_parser.specs.InnerIntegers.{IsIntegerLine, IsPlaceLine, IsValueLine};
+ghost use Rattle.sparse_parser.specs.InnerIntegers.{IsIntegerLine, IsPatternLine, IsValueLine};
 
 use crate::digit_runs::{digits_at, long_digits_at};
 use crate::lines::{ends_line, ends_word, is_blank, text_from};
 use crate::numbers::{starts_with_minus, with_sign};
 
-/// Parses the line at a position as two indices and an integer. Returns the row, the column, the value and the position
-/// of the line's end, or `None` if the line has another form.
+/// Parses the line at an offset as two indices and an integer. Returns the row, the column, the value and the offset of
+/// the line's end, or `None` if the fast path does not apply.
 #[inline(always)]
 pub fn integer_line(text: &[u8], from: usize) -> Option<(usize, usize, i64, usize)>
     requires { from ≤ length text.now }
@@ -28,22 +28,22 @@ pub fn integer_line(text: &[u8], from: usize) -> Option<(usize, usize, i64, usiz
     Some((row, col, value, end))
 }
 
-/// Parses the line at a position as two indices. Returns the row, the column and the position of the line's end, or
-/// `None` if the line has another form.
+/// Parses the line at an offset as two indices. Returns the row, the column and the offset of the line's end, or `None`
+/// if the fast path does not apply.
 #[inline(always)]
-pub fn place_line(text: &[u8], from: usize) -> Option<(usize, usize, usize)>
+pub fn pattern_line(text: &[u8], from: usize) -> Option<(usize, usize, usize)>
     requires { from ≤ length text.now }
     ensures inside { MatchOption result (Unit {0}) (λ line. line.2 ≤ length text.now) }
     ensures line { MatchOption result (Unit {0})
-        (λ line. IsPlaceLine (drop from text.now) line.0 line.1 (drop line.2 text.now)) }
+        (λ line. IsPatternLine (drop from text.now) line.0 line.1 (drop line.2 text.now)) }
 {
     let (row, at) = index_at(text, from)?;
     let (col, end) = last_index(text, at)?;
     Some((row, col, end))
 }
 
-/// Parses the line at a position as an integer, after blanks. Returns the value and the position of the line's end, or
-/// `None` if the line has another form.
+/// Parses the line at an offset as an integer, after blanks. Returns the value and the offset of the line's end, or
+/// `None` if the fast path does not apply.
 #[inline(always)]
 pub fn value_line(text: &[u8], from: usize) -> Option<(i64, usize)>
     requires { from ≤ length text.now }
@@ -57,8 +57,8 @@ pub fn value_line(text: &[u8], from: usize) -> Option<(i64, usize)>
     Some((value, end))
 }
 
-// The value of at most 19 digits at a position, and the position of the line's end. One digit before LF is a case of
-// its own, since small values are common.
+// The value of at most 19 digits at an offset, and the offset of the line's end. One digit followed by LF is tested
+// first, since small values are common.
 #[inline(always)]
 fn last_number(text: &[u8], from: usize) -> Option<(usize, usize)>
     requires { from ≤ length text.now }
@@ -78,8 +78,8 @@ fn last_number(text: &[u8], from: usize) -> Option<(usize, usize)>
     Some((number, end))
 }
 
-// The index at a position, after blanks, and a position behind it. Most often one blank comes before the next number,
-// and it is passed over too.
+// The index at an offset, after blanks, and the offset after it. A single blank after the index, the most frequent
+// case, is skipped too.
 #[inline(always)]
 fn index_at(text: &[u8], from: usize) -> Option<(usize, usize)>
     requires { from ≤ length text.now }
@@ -98,7 +98,7 @@ fn index_at(text: &[u8], from: usize) -> Option<(usize, usize)>
     Some((number, end))
 }
 
-// The index at a position, after blanks, and the position of the line's end. Most often LF comes at once.
+// The index at an offset, after blanks, and the offset of the line's end. Most often LF follows the index directly.
 #[inline(always)]
 fn last_index(text: &[u8], from: usize) -> Option<(usize, usize)>
     requires { from ≤ length text.now }
@@ -118,8 +118,8 @@ fn last_index(text: &[u8], from: usize) -> Option<(usize, usize)>
     Some((number, end))
 }
 
-// The index of any form at a position, after blanks, and the position behind it, which is `from` if there is no index.
-// Two words are returned in registers, and an option would not be.
+// The index at an offset, after any number of blanks, and the offset after it, which is `from` if there is no index.
+// Two words are returned in registers; an option would not be.
 #[cold]
 fn spaced_index_at(text: &[u8], from: usize) -> (usize, usize)
     requires { from ≤ length text.now }
@@ -135,7 +135,7 @@ fn spaced_index_at(text: &[u8], from: usize) -> (usize, usize)
     (number, end)
 }
 
-// The first position without a blank, from a position on.
+// The offset of the first byte that is not a blank, from an offset on.
 #[inline(always)]
 fn skip_blanks(text: &[u8], from: usize) -> usize
     requires { from ≤ length text.now }
@@ -149,7 +149,7 @@ fn skip_blanks(text: &[u8], from: usize) -> usize
     at
 }
 
-// The position after a sign, if there is one at a position.
+// The offset after the sign at an offset, or that offset if there is no sign.
 #[inline(always)]
 fn after_sign_at(text: &[u8], at: usize) -> usize
     requires { at ≤ length text.now }
@@ -160,7 +160,7 @@ fn after_sign_at(text: &[u8], at: usize) -> usize
     at + usize::from(is_signed)
 }
 
-// The position of the line's end, if a number ends here and only blanks come before it.
+// The offset of the line's end, if a word ends at an offset and only blanks come before the line's end.
 #[inline(always)]
 fn number_end(text: &[u8], from: usize) -> Option<usize>
     requires { from ≤ length text.now }
@@ -180,7 +180,7 @@ fn number_end(text: &[u8], from: usize) -> Option<usize>
     line_end(text, from)
 }
 
-// The position of the line's end, if only blanks come before it.
+// The offset of the line's end, if only blanks come before it.
 #[cold]
 fn line_end(text: &[u8], from: usize) -> Option<usize>
     requires { from ≤ length text.now }

@@ -1,7 +1,7 @@
 //! Lines of a text, and the words of a line.
 
 ghost use Rattle.std.specs.Prelude.{◌≡◌, ◌≤◌, ◌-◌, ℕ, Bool, [], ◌∷◌, length, drop, MatchOption};
-ghost use Rattle.sparse_parser.specs.Bytes.{is_blank, is_line_end, front, after};
+ghost use Rattle.sparse_parser.specs.Bytes.{is_blank, is_line_end, leading, after};
 ghost use Rattle.sparse_parser.specs.InnerBytes.{is_space, is_within_line, is_within_word};
 ghost use Rattle.sparse_parser.specs.InnerBytes.{is_solid, Decides, BeginsLine};
 ghost use Rattle.sparse_parser.specs.InnerReading.{words_of, contents_of, ends_line};
@@ -30,9 +30,9 @@ pub fn is_line_end(byte: u8) -> bool
 
 /// Splits a text after its longest prefix whose bytes all pass a test.
 #[inline(always)]
-pub fn split_front<F: Fn(u8) -> bool>(text: &[u8], passes: F) -> (&[u8], &[u8])
+pub fn split_prefix<F: Fn(u8) -> bool>(text: &[u8], passes: F) -> (&[u8], &[u8])
     requires { F.IsAlwaysCallable passes }
-    ensures front { (p : ℕ → Bool) → Decides (F.post passes) p → result.0.now ≡ front p text.now }
+    ensures leading { (p : ℕ → Bool) → Decides (F.post passes) p → result.0.now ≡ leading p text.now }
     ensures after { (p : ℕ → Bool) → Decides (F.post passes) p → result.1.now ≡ after p text.now }
 {
     let mut at = 0;
@@ -42,7 +42,7 @@ pub fn split_front<F: Fn(u8) -> bool>(text: &[u8], passes: F) -> (&[u8], &[u8])
     text.split_at(at)
 }
 
-/// Returns the text from a position on.
+/// Returns the text from a byte offset on.
 #[inline(always)]
 pub fn text_from(text: &[u8], at: usize) -> &[u8]
     requires { at ≤ length text.now }
@@ -79,7 +79,7 @@ pub fn ends_word(text: &[u8]) -> bool
 pub fn after_blanks(text: &[u8]) -> &[u8]
     ensures { result.now ≡ after is_blank text.now }
 {
-    let (_, rest) = split_front(text, |byte| is_blank(byte));
+    let (_, rest) = split_prefix(text, |byte| is_blank(byte));
     rest
 }
 
@@ -87,16 +87,16 @@ pub fn after_blanks(text: &[u8]) -> &[u8]
 pub fn after_space(text: &[u8]) -> &[u8]
     ensures { result.now ≡ after is_space text.now }
 {
-    let (_, rest) = split_front(text, |byte| is_space(byte));
+    let (_, rest) = split_prefix(text, |byte| is_space(byte));
     rest
 }
 
 /// Splits a text before its first line end.
 pub fn split_line(text: &[u8]) -> (&[u8], &[u8])
-    ensures line { result.0.now ≡ front is_within_line text.now }
+    ensures line { result.0.now ≡ leading is_within_line text.now }
     ensures rest { result.1.now ≡ after is_within_line text.now }
 {
-    split_front(text, |byte| !is_line_end(byte))
+    split_prefix(text, |byte| !is_line_end(byte))
 }
 
 /// Skips blank lines and comments. Returns the text from the first word of the next line on; it is empty if no line is
@@ -109,8 +109,8 @@ pub fn next_line(text: &[u8]) -> &[u8]
     text_from(text, next_line_at(text, 0))
 }
 
-/// Skips blank lines and comments from a position on. Returns the position of the first word of the next line, or of
-/// the text's end if no line is left.
+/// Skips blank lines and comments from an offset on. Returns the offset of the first word of the next line, or of the
+/// text's end if no line is left.
 #[inline(always)]
 pub fn next_line_at(text: &[u8], from: usize) -> usize
     requires { from ≤ length text.now }
@@ -119,14 +119,14 @@ pub fn next_line_at(text: &[u8], from: usize) -> usize
     ensures begins { BeginsLine (drop result text.now) }
     ensures same { contents_of (drop result text.now) ≡ contents_of (drop from text.now) }
 {
-    // Most often one LF comes before a number.
+    // Most often a single LF comes before a number.
     if text.len() - from > 1 && text[from] == b'\n' && text[from + 1] > b'%' {
         return from + 1;
     }
     sought_line_at(text, from)
 }
 
-// The same after line ends and blanks of any number.
+// The same after any number of line ends and blanks.
 #[cold]
 fn sought_line_at(text: &[u8], from: usize) -> usize
     requires { from ≤ length text.now }
@@ -138,7 +138,7 @@ fn sought_line_at(text: &[u8], from: usize) -> usize
     text.len() - sought_line(text_from(text, from)).len()
 }
 
-// The text from the next line on, after line ends and blanks of any number.
+// The text from the first word of the next line on. Blank lines and comments are skipped.
 fn sought_line(text: &[u8]) -> &[u8]
     ensures begins { BeginsLine result.now }
     ensures same { contents_of result.now ≡ contents_of text.now }
@@ -155,18 +155,18 @@ fn sought_line(text: &[u8]) -> &[u8]
 
 // Splits a line before its first blank.
 fn split_word(line: &[u8]) -> (&[u8], &[u8])
-    ensures word { result.0.now ≡ front is_within_word line.now }
+    ensures word { result.0.now ≡ leading is_within_word line.now }
     ensures rest { result.1.now ≡ after is_within_word line.now }
 {
-    split_front(line, |byte| !is_blank(byte))
+    split_prefix(line, |byte| !is_blank(byte))
 }
 
 /// Splits a text before its first blank or line end.
 pub fn split_solid(text: &[u8]) -> (&[u8], &[u8])
-    ensures word { result.0.now ≡ front is_solid text.now }
+    ensures word { result.0.now ≡ leading is_solid text.now }
     ensures rest { result.1.now ≡ after is_solid text.now }
 {
-    split_front(text, |byte| !is_space(byte))
+    split_prefix(text, |byte| !is_space(byte))
 }
 
 /// Returns the first word of a line and the rest of the line, or `None` if the line is blank.

@@ -11,16 +11,16 @@ ghost use Rattle.std.specs.Int.{w128};
 ghost use lib.IntN.{neg_ℤ};
 ghost use Rattle.sparse_parser.specs.Grammar.{is_index, is_integer, is_mantissa, is_exponent};
 ghost use Rattle.sparse_parser.specs.Grammar.{is_number};
-ghost use Rattle.sparse_parser.specs.Bytes.{front, after, is_exponent_letter, is_point};
+ghost use Rattle.sparse_parser.specs.Bytes.{leading, after, is_exponent_letter, is_point};
 
 use crate::digit_runs::{SHORT, first_digits_at};
-use crate::lines::{split_front, text_from};
+use crate::lines::{split_prefix, text_from};
 
 /// Parses all leading digits. Returns their value, or `None` if it exceeds 64 bits, and the rest of the text.
 pub fn leading_number(text: &[u8]) -> (Option<usize>, &[u8])
     ensures number { SomeIff result.0
-        (digits_value 10 (front is_ascii_digit text.now) < 2 ^ 64)
-        (digits_value 10 (front is_ascii_digit text.now)) }
+        (digits_value 10 (leading is_ascii_digit text.now) < 2 ^ 64)
+        (digits_value 10 (leading is_ascii_digit text.now)) }
     ensures rest { result.1.now ≡ after is_ascii_digit text.now }
 {
     let (number, end) = first_digits_at(text, 0);
@@ -31,12 +31,12 @@ pub fn leading_number(text: &[u8]) -> (Option<usize>, &[u8])
     (Some(number), rest)
 }
 
-// The same for a text after digits with the value `before`.
+// The same for a text whose digits continue a number with the value `before`.
 #[cold]
 fn long_number(before: usize, text: &[u8]) -> (Option<usize>, &[u8])
     ensures number { SomeIff result.0
-        (digits_value_after 10 before (front is_ascii_digit text.now) < 2 ^ 64)
-        (digits_value_after 10 before (front is_ascii_digit text.now)) }
+        (digits_value_after 10 before (leading is_ascii_digit text.now) < 2 ^ 64)
+        (digits_value_after 10 before (leading is_ascii_digit text.now)) }
     ensures rest { result.1.now ≡ after is_ascii_digit text.now }
 {
     let mut number = before;
@@ -51,7 +51,7 @@ fn long_number(before: usize, text: &[u8]) -> (Option<usize>, &[u8])
     (Some(number), &text[at..])
 }
 
-// The value with one more digit, if it fits in 64 bits.
+// The value of a number with one more digit, if it fits in 64 bits.
 fn with_digit(number: usize, digit: u8) -> Option<usize>
     ensures { SomeIff result (number * 10 + digit < 2 ^ 64) (number * 10 + digit) }
 {
@@ -62,7 +62,7 @@ fn with_digit(number: usize, digit: u8) -> Option<usize>
 fn after_digits(text: &[u8]) -> &[u8]
     ensures { result.now ≡ after is_ascii_digit text.now }
 {
-    let (_, rest) = split_front(text, |byte| byte.is_ascii_digit());
+    let (_, rest) = split_prefix(text, |byte| byte.is_ascii_digit());
     rest
 }
 
@@ -77,8 +77,9 @@ pub fn starts_with_minus(text: &[u8]) -> bool
     }
 }
 
-/// Returns a number or its negative, or `None` if the number exceeds `i64`. The sign is selected without a branch, since
-/// signs are hard to predict.
+/// Returns a number or its negative, or `None` if the number exceeds `i64`.
+///
+/// The sign is selected without a branch, since signs are hard to predict.
 #[inline(always)]
 pub fn with_sign(number: usize, is_negative: bool) -> Option<i64>
     ensures { MatchOption result (Unit {0})
@@ -105,11 +106,11 @@ pub fn integer(word: &[u8]) -> Option<i128>
 pub fn is_number(word: &[u8]) -> bool
     ensures { result ≡ is_number word.now }
 {
-    let (mantissa, exponent) = split_front(after_sign(word), |byte| !is_exponent_letter(byte));
+    let (mantissa, exponent) = split_prefix(after_sign(word), |byte| !is_exponent_letter(byte));
     is_mantissa(mantissa) && is_exponent(exponent)
 }
 
-// Whether a word has digits with at most one point, and at least one digit.
+// Whether a word consists of digits with at most one point, and has at least one digit.
 fn is_mantissa(word: &[u8]) -> bool
     ensures { result ≡ is_mantissa word.now }
 {
@@ -136,7 +137,7 @@ fn points(word: &[u8]) -> usize
     word.iter().filter(|byte| **byte == b'.').count()
 }
 
-// Whether a text is empty, or a letter and an integer.
+// Whether a text is empty or an exponent: a letter and an integer.
 fn is_exponent(text: &[u8]) -> bool
     ensures { result ≡ is_exponent text.now }
 {
@@ -152,7 +153,7 @@ fn is_exponent_letter(byte: u8) -> bool
     byte == b'e' || byte == b'E'
 }
 
-/// Returns the text without its leading sign.
+/// Returns the text without its leading sign, if it has one.
 #[inline(always)]
 pub fn after_sign(text: &[u8]) -> &[u8]
     ensures { result.now ≡ without_leading_sign text.now }

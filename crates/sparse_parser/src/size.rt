@@ -1,4 +1,4 @@
-//! The size line.
+//! Parsing the size line.
 
 ghost use Rattle.std.specs.Prelude.{◌≡◌, [], ◌∷◌, ◌<◌, IsTrue, MatchOption, None, Some, false};
 ghost use Rattle.std.specs.Prelude.{true};
@@ -61,7 +61,7 @@ impl Size {
         Ok(size)
     }
 
-    // The numbers, if they are as many as the format needs and fit in `usize`.
+    // The numbers of a size line, if they are as many as the format needs and fit in `usize`.
     #[tactic(auto, unfolding(crate::specs::Meaning::numbers_of_size))]
     fn numbers(format: Format, symmetry: Symmetry, words: SizeWords<'_>) -> Result<Size, Cause>
         requires { AreIndices words }
@@ -74,7 +74,7 @@ impl Size {
         }
     }
 
-    // The numbers of a matrix in the coordinate format, if they fit in `usize`.
+    // The numbers of a size line in the coordinate format, if they fit in `usize`.
     #[tactic(auto, unfolding(crate::specs::Meaning::numbers_of_size))]
     fn coordinate(rows: &[u8], cols: &[u8], count: &[u8]) -> Result<Size, Cause>
         requires rows { IsTrue (is_index rows.now) }
@@ -93,7 +93,7 @@ impl Size {
         }
     }
 
-    // The numbers of a matrix in the array format, if they fit in `usize`.
+    // The numbers of a size line in the array format, if they fit in `usize`.
     #[tactic(auto, unfolding(crate::specs::Meaning::numbers_of_size))]
     fn array(symmetry: Symmetry, rows: &[u8], cols: &[u8]) -> Result<Size, Cause>
         requires rows { IsTrue (is_index rows.now) }
@@ -147,7 +147,7 @@ fn number(word: &[u8]) -> Result<usize, Cause>
     index(word).ok_or(Cause::SizeTooLarge)
 }
 
-// Whether the shapes are equal, if the symmetry needs that.
+// Whether the matrix is square, if the symmetry requires that.
 fn fits(symmetry: Symmetry, rows: usize, cols: usize) -> bool
     ensures { result ≡ is_fitting symmetry rows cols }
 {

@@ -1,4 +1,4 @@
--- The pairs of valid data rise in lane order.
+-- The list of the entries of a valid pattern is strictly increasing, by lane and then by index.
 use Rattle.std.proofs.Common.{◌≡◌, ℕ, zero, suc, ◌+◌, ◌-◌, ◌<◌, ◌≤◌, inl, inr, List}
 use Rattle.std.proofs.Common.{length, get_or, refl, arith, length-append}
 use Rattle.std.specs.Prelude.{AllPairs}
@@ -23,7 +23,7 @@ module _ (d : Raw) where
       → get_or (pairs_of i) k e ≡ (i, get_or (lane_of d i) k 0)
   pair_at i k e lt = get_or-map {Y = ℕ × ℕ} (λ j. (i, j)) (lane_of d i) k 0 e (in_lane i k lt)
 
-  -- no pair from lane i on has an earlier lane
+  -- the entries of the lanes from i on have lanes of at least i
   lanes_from : (i n k : ℕ) (e : ℕ × ℕ) → k < length (entries_from d.offsets d.indices i n)
       → i ≤ (get_or (entries_from d.offsets d.indices i n) k e).0
   lanes_from i zero k e lt = absurd (omega arith)

@@ -1,4 +1,4 @@
--- The pairs in lane order are the places.
+-- The list of entries in lane order contains each entry of the pattern, and nothing else.
 use Rattle.std.proofs.Common.{◌≡◌, ℕ, zero, suc, ◌+◌, ◌≤◌, ◌⊎◌, inl, inr, ◌↔◌, List, [], ◌∷◌}
 use Rattle.std.proofs.Common.{length, slice_index, Contains, ap, subst, arith}
 use Rattle.std.proofs.Common.{length-append}
@@ -6,11 +6,11 @@ use Rattle.std.proofs.lemmas.List.{length-map}
 use Rattle.std.proofs.lemmas.List.Elements.{Contains-append_left, Contains-append_right}
 use Rattle.std.proofs.lemmas.List.Elements.{Contains-append_cases}
 use Rattle.sparse_algebra.proofs.Cases.{le_cases}
-use Rattle.sparse_pattern.specs.Raw.{Raw, start_of, lane_of, IsValid, IsPlace, entries_from}
+use Rattle.sparse_pattern.specs.Raw.{Raw, start_of, lane_of, IsValid, IsEntry, entries_from}
 use Rattle.sparse_pattern.specs.Raw.{entries_of, paired}
 use Rattle.sparse_pattern.proofs.PatternLanes.{length-lane}
-use Rattle.sparse_pattern.proofs.SamePlaces.{Has, has_head, has_later, has_cases, has_from_place}
-use Rattle.sparse_pattern.proofs.SamePlaces.{place_from_has}
+use Rattle.sparse_pattern.proofs.SameEntries.{Has, has_head, has_later, has_cases, has_from_entry}
+use Rattle.sparse_pattern.proofs.SameEntries.{entry_from_has}
 
 pub length-paired : (i : ℕ) (js : List ℕ) → length (paired i js) ≡ length js
 length-paired i js = length-map js (λ j. (i, j))
@@ -63,33 +63,33 @@ has_from_map i j i' (x ∷ xs) h = elim (contains_cases (i', x) (i, j) (paired i
 ]
 
 module _ (d : Raw) (valid : IsValid d) (i j : ℕ) where
-  place_from_entry : (k n : ℕ) → k + n ≡ d.major_dim
-      → Contains (entries_from d.offsets d.indices k n) (i, j) → IsPlace d i j
-  place_from_entry k zero e h = absurd (omega (arith, h.1))
-  place_from_entry k (suc n) e h = elim (Contains-append_cases (paired k (lane_of d k))
+  entry_from_contains : (k n : ℕ) → k + n ≡ d.major_dim
+      → Contains (entries_from d.offsets d.indices k n) (i, j) → IsEntry d i j
+  entry_from_contains k zero e h = absurd (omega (arith, h.1))
+  entry_from_contains k (suc n) e h = elim (Contains-append_cases (paired k (lane_of d k))
       (entries_from d.offsets d.indices (k + 1) n) (i, j) h) [
         | inl here ↦
             let r = has_from_map i j k (lane_of d k) here in
-            subst (λ l. IsPlace d l j) r.0 (place_from_has d k j (omega arith)
+            subst (λ l. IsEntry d l j) r.0 (entry_from_has d k j (omega arith)
             (valid.lanes k (omega arith)) r.1)
-        | inr later ↦ place_from_entry (k + 1) n (omega arith) later
+        | inr later ↦ entry_from_contains (k + 1) n (omega arith) later
       ]
 
-  entry_from_place : IsPlace d i j → (k n : ℕ) → k ≤ i → k + n ≡ d.major_dim
+  contains_from_entry : IsEntry d i j → (k n : ℕ) → k ≤ i → k + n ≡ d.major_dim
       → Contains (entries_from d.offsets d.indices k n) (i, j)
-  entry_from_place place k zero le e = absurd (omega (arith, place.in_lane.lane))
-  entry_from_place place k (suc n) le e = elim (le_cases k i le) [
+  contains_from_entry place k zero le e = absurd (omega (arith, place.in_lane.lane))
+  contains_from_entry place k (suc n) le e = elim (le_cases k i le) [
     | inl lt ↦ Contains-append_right (paired k (lane_of d k))
         (entries_from d.offsets d.indices (k + 1) n) (i, j)
-        (entry_from_place place (k + 1) n (omega arith) (omega arith))
+        (contains_from_entry place (k + 1) n (omega arith) (omega arith))
     | inr same ↦
-        let has = has_from_place d i j (valid.lanes i place.in_lane.lane) place in
+        let has = has_from_entry d i j (valid.lanes i place.in_lane.lane) place in
         Contains-append_left (paired k (lane_of d k)) (entries_from d.offsets d.indices (k + 1) n)
         (i, j) (rw same (contains_map i j (lane_of d i) has))
   ]
 
-  pub entries_are_places : Contains (entries_of d) (i, j) ↔ IsPlace d i j
-  entries_are_places = (
-    place_from_entry 0 d.major_dim (omega arith),
-    λ place. entry_from_place place 0 d.major_dim (omega arith) (omega arith),
+  pub Contains-entries_of : Contains (entries_of d) (i, j) ↔ IsEntry d i j
+  Contains-entries_of = (
+    entry_from_contains 0 d.major_dim (omega arith),
+    λ place. contains_from_entry place 0 d.major_dim (omega arith) (omega arith),
   )

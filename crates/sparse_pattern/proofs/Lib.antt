@@ -3,11 +3,11 @@ mod StableOrders
 pub mod CountLemmas
 pub mod Cursors
 pub mod PatternLanes
-mod LanePositions
-pub mod Positions
+mod LaneOffsets
+pub mod OffsetsInLanes
 mod EntryOrder
 pub mod LaneOrder
-pub mod SamePlaces
+pub mod SameEntries
 mod NextEntry
 mod PackedWords
 pub mod FirstFaults
@@ -17,4 +17,4 @@ mod PlacedValues
 pub mod LaneLists
 pub mod PushedLanes
 pub mod BuiltLanes
-mod MirroredPlaces
+mod MirroredEntries

@@ -1,4 +1,4 @@
--- An iterator that moves on to the next lane has the same places left.
+-- An iterator that goes on to the next lane has the same entries left.
 use Rattle.std.proofs.Common.{◌≡◌, ℕ, suc, ◌+◌, ◌-◌, ◌<◌, List, [], ◌∷◌, length, slice_index}
 use Rattle.std.proofs.Common.{slice_range, ap, sym, arith}
 use Rattle.sparse_pattern.specs.Raw.{entries_from}

@@ -1,4 +1,4 @@
--- A lane of valid data, as a list and by its positions.
+-- A valid lane, as a list of indices and by its offsets.
 use Rattle.std.proofs.Common.{◌≡◌, ℕ, zero, suc, ◌+◌, ◌-◌, ◌<◌, ◌≤◌, length, get_or, subst, arith}
 use Rattle.std.proofs.lemmas.Grind.{common_steps}
 use Rattle.std.proofs.lemmas.List.Edits.{length-between}
@@ -14,17 +14,17 @@ module _ (d : Raw) (i : ℕ) (valid : IsValidLane d i) where
       let room : k < end_of d i - start_of d i = omega (arith, length-lane) in
       grind (arith, common_steps, room)
 
-  -- positions of a lane rise
-  pub positions_rise : (p n : ℕ) → start_of d i ≤ p → p + suc n < end_of d i
+  -- the indices of a lane increase with the offset
+  pub offsets_rise : (p n : ℕ) → start_of d i ≤ p → p + suc n < end_of d i
       → get_or d.indices p 0 < get_or d.indices (p + suc n) 0
-  positions_rise p zero from to =
+  offsets_rise p zero from to =
       let e : p + 1 - 1 ≡ p = omega arith in
       let step = valid.rising (p + 1) (omega arith) to in
       subst (λ q. get_or d.indices q 0 < get_or d.indices (p + 1) 0) e step
-  positions_rise p (suc n) from to =
+  offsets_rise p (suc n) from to =
       let e : p + suc (suc n) - 1 ≡ p + suc n = omega arith in
       let step = valid.rising (p + suc (suc n)) (omega arith) to in
-      let before = positions_rise p n from (omega arith) in
+      let before = offsets_rise p n from (omega arith) in
       let step' = subst (λ q. get_or d.indices q 0 < get_or d.indices (p + suc (suc n)) 0) e step in
       omega arith
 
@@ -33,7 +33,7 @@ module _ (d : Raw) (i : ℕ) (valid : IsValidLane d i) where
   rises_at p q from lt to =
       let e : p + suc (q - p - 1) ≡ q = omega arith in
       subst (λ r. get_or d.indices p 0 < get_or d.indices r 0) e
-      (positions_rise p (q - p - 1) from (omega arith))
+      (offsets_rise p (q - p - 1) from (omega arith))
 
   pub lane_rises : (a b : ℕ) → a < b → b < length (lane_of d i)
       → get_or (lane_of d i) a 0 < get_or (lane_of d i) b 0

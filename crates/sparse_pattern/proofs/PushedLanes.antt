@@ -1,4 +1,4 @@
--- A pattern in the making that gains a lane at its end.
+-- A valid pattern to which a lane is appended is valid, and has the entries of both.
 use Rattle.std.proofs.Common.{◌≡◌, ℕ, ◌+◌, ◌-◌, ◌<◌, ◌≤◌, inl, inr, ◌↔◌, List, [], ◌∷◌, ◌++◌}
 use Rattle.std.proofs.Common.{length, take, get_or, slice_range, Contains, length-append, ap, sym}
 use Rattle.std.proofs.Common.{subst, ◌∙◌, refl, arith}
@@ -8,7 +8,7 @@ use Rattle.std.proofs.lemmas.List.{length_push, drop_at, take_all}
 use Rattle.std.proofs.lemmas.List.Elements.{Contains-get_or}
 use Rattle.sparse_algebra.proofs.Cases.{lt_add_one_cases}
 use Rattle.sparse_pattern.specs.Raw.{Raw, raw_of, start_of, end_of, lane_of, IsValidLane, IsValid}
-use Rattle.sparse_pattern.specs.Raw.{IsPlace}
+use Rattle.sparse_pattern.specs.Raw.{IsEntry}
 use Rattle.sparse_pattern.proofs.LaneLists.{lane_has}
 
 module _ (m n : ℕ) (offsets indices lane : List ℕ) (valid : IsValid (raw_of n m offsets indices))
@@ -96,9 +96,9 @@ module _ (m n : ℕ) (offsets indices lane : List ℕ) (valid : IsValid (raw_of 
     ];
   }
 
-  pub places_kept : (i j : ℕ) → i < n
-      → IsPlace pushed i j ↔ IsPlace (raw_of n m offsets indices) i j
-  places_kept i j lt =
+  pub entries_kept : (i j : ℕ) → i < n
+      → IsEntry pushed i j ↔ IsEntry (raw_of n m offsets indices) i j
+  entries_kept i j lt =
       let start = offset_kept i (omega arith) in
       let end = offset_kept (i + 1) (omega arith) in
       let inside = (valid.lanes i lt).inside in (
@@ -133,8 +133,8 @@ module _ (m n : ℕ) (offsets indices lane : List ℕ) (valid : IsValid (raw_of 
       (drop_at indices lane (length indices) refl)
       ∙ take_all (length (indices ++ lane) - length indices) lane (omega arith)
 
-  pub places_last : (j : ℕ) → IsPlace pushed n j ↔ Contains lane j
-  places_last j =
+  pub entries_last : (j : ℕ) → IsEntry pushed n j ↔ Contains lane j
+  entries_last j =
       let has = lane_has pushed valid_pushed n j (omega arith) in (
         λ h. subst (λ l. Contains l j) lane_is (has.1 h),
         λ h. has.0 (subst (λ l. Contains l j) (sym lane_is) h),

@@ -1,8 +1,8 @@
--- A list of indices that gains a lane at its end.
+-- A list of indices to which a lane is appended.
 use Rattle.std.specs.Prelude.{◌≡◌, ℕ, List, ◌++◌, Contains, ◌↔◌}
 use Rattle.std.specs.List.Sorted.{IsStrictlyIncreasing}
 
--- the list gains a rising lane at its end, of the indices for which P holds
+-- new is old followed by a lane: the indices for which P holds, strictly increasing
 pub record GainsLane (old new : List ℕ) (P : ℕ → Type 0) : Type 0 where
   pub lane : List ℕ
   pub pushed : new ≡ old ++ lane

@@ -12,18 +12,19 @@ use Rattle.sparse_pattern.specs.declared.pattern.faults.SparsityPatternFormatErr
 use Rattle.sparse_pattern.specs.declared.error.SparseFormatErrorKind as kinds
 use Rattle.sparse_pattern.specs.declared.error.SparseFormatErrorKind.TheVariants as variants
 
--- where a fault can occur: the number of offsets, the first and the last offset, the end of a lane,
--- and an index, first compared with its bound and then with the index before it
-pub data Spot : Type 0 where
-  OffsetCount : Spot
-  FirstLast : Spot
-  LaneEnd : ℕ → Spot
-  Bound : ℕ → ℕ → Spot
-  Fall : ℕ → ℕ → Spot
-  Repeat : ℕ → ℕ → Spot
+-- the rules of a pattern: for the number of offsets, for the first and the last offset, for the end of
+-- lane i, and for the index at offset p of lane i, which must be in bounds, not less than the index
+-- before it, and not equal to it
+pub data Rule : Type 0 where
+  OffsetCount : Rule
+  FirstLast : Rule
+  LaneEnd : ℕ → Rule
+  Bound : ℕ → ℕ → Rule
+  Fall : ℕ → ℕ → Rule
+  Repeat : ℕ → ℕ → Rule
 
--- the data has a fault here
-abbrev pub HasFault : Raw → Spot → Type 0
+-- the data violates the rule
+abbrev pub HasFault : Raw → Rule → Type 0
 HasFault d OffsetCount = length d.offsets ≢ d.major_dim + 1
 HasFault d FirstLast = (slice_index d.offsets 0 ≢ 0)
     ⊎ (slice_index d.offsets d.major_dim ≢ length d.indices)
@@ -35,8 +36,8 @@ HasFault d (Fall i p) = IsInLane d i p × (start_of d i < p)
 HasFault d (Repeat i p) = IsInLane d i p × (start_of d i < p)
     × (slice_index d.indices p ≡ slice_index d.indices (p - 1))
 
--- the error for a fault here
-abbrev pub error_of : Spot → SparsityPatternFormatError
+-- the error for a violated rule
+abbrev pub error_of : Rule → SparsityPatternFormatError
 error_of OffsetCount = InvalidOffsetArrayLength
 error_of FirstLast = InvalidOffsetFirstLast
 error_of (LaneEnd i) = NonmonotonicOffsets
@@ -44,7 +45,7 @@ error_of (Bound i p) = MinorIndexOutOfBounds
 error_of (Fall i p) = NonmonotonicMinorIndices
 error_of (Repeat i p) = DuplicateEntry
 
--- the kind of the error that a matrix with this fault gives
+-- the kind of the error for a matrix whose pattern has this error
 abbrev pub kind_of : SparsityPatternFormatError → kinds.SparseFormatErrorKind
 kind_of InvalidOffsetArrayLength = variants.InvalidStructure
 kind_of InvalidOffsetFirstLast = variants.InvalidStructure
@@ -53,9 +54,9 @@ kind_of MinorIndexOutOfBounds = variants.IndexOutOfBounds
 kind_of DuplicateEntry = variants.DuplicateEntry
 kind_of NonmonotonicMinorIndices = variants.InvalidStructure
 
--- the order of faults: lane by lane, the end of a lane before its indices, and for each index its
+-- the order of the rules: lane by lane, the end of a lane before its indices, and for each index its
 -- bound first
-abbrev pub rank_of : Spot → ℕ × ℕ × ℕ
+abbrev pub rank_of : Rule → ℕ × ℕ × ℕ
 rank_of OffsetCount = (0, 0, 0)
 rank_of FirstLast = (1, 0, 0)
 rank_of (LaneEnd i) = (i + 2, 0, 0)
@@ -63,8 +64,8 @@ rank_of (Bound i p) = (i + 2, p + 1, 0)
 rank_of (Fall i p) = (i + 2, p + 1, 1)
 rank_of (Repeat i p) = (i + 2, p + 1, 2)
 
--- this error is the first fault of the data
+-- e is the error of the first fault of the data
 pub record IsFirstFault (d : Raw) (e : SparsityPatternFormatError) : Type 0 where
-  pub spot : Spot
-  pub first : IsFirst rank_of (HasFault d) spot
-  pub is : e ≡ error_of spot
+  pub rule : Rule
+  pub first : IsFirst rank_of (HasFault d) rule
+  pub is : e ≡ error_of rule

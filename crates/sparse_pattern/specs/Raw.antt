@@ -1,4 +1,4 @@
--- The raw data of a pattern, and the places that it describes.
+-- The raw data of a pattern, and the entries that it describes.
 use Rattle.std.specs.Prelude.{◌≡◌, ℕ, zero, suc, ◌+◌, ◌-◌, ◌<◌, ◌≤◌, ◌⊎◌, ◌↔◌, ◌==◌, Bool, List, []}
 use Rattle.std.specs.Prelude.{◌++◌, map, length, replicate, slice_index, slice_range}
 use Rattle.std.specs.Cmp.Lexicographic.{pointwise}
@@ -15,11 +15,11 @@ abbrev pub raw_of : ℕ → ℕ → List ℕ → List ℕ → Raw
 raw_of major_dim minor_dim offsets indices =
     record { major_dim = major_dim; minor_dim = minor_dim; offsets = offsets; indices = indices }
 
--- the data of this shape without indices
+-- the data of the pattern of this shape without entries
 abbrev pub empty_raw : ℕ → ℕ → Raw
 empty_raw major_dim minor_dim = raw_of major_dim minor_dim (replicate (major_dim + 1) 0) []
 
--- where lane i begins in the indices, and where it ends
+-- the offsets at which lane i begins and ends
 abbrev pub start_of : Raw → ℕ → ℕ
 start_of d i = slice_index d.offsets i
 
@@ -33,14 +33,14 @@ lane_of d i = slice_range d.indices (start_of d i) (end_of d i)
 abbrev pub nnz_of : Raw → ℕ
 nnz_of d = length d.indices
 
--- position p is in lane i
+-- offset p is in lane i
 pub record IsInLane (d : Raw) (i p : ℕ) : Type 0 where
   pub lane : i < d.major_dim
   pub from : start_of d i ≤ p
   pub to : p < end_of d i
 
--- (i, j) is a place: some position of lane i has the index j
-pub record IsPlace (d : Raw) (i j : ℕ) : Type 0 where
+-- (i, j) is an entry: lane i has the index j at some offset
+pub record IsEntry (d : Raw) (i j : ℕ) : Type 0 where
   pub at : ℕ
   pub in_lane : IsInLane d i at
   pub index : slice_index d.indices at ≡ j
@@ -64,14 +64,14 @@ pub record IsValid (d : Raw) : Type 0 where
 abbrev pub paired : ℕ → List ℕ → List (ℕ × ℕ)
 paired i js = map (λ j. (i, j)) js
 
--- the pairs of the n lanes from lane i on, in order
+-- the entries (lane, index) of the n lanes from lane i on, in order
 abbrev pub entries_from : List ℕ → List ℕ → ℕ → ℕ → List (ℕ × ℕ)
 entries_from offsets indices i zero = []
 entries_from offsets indices i (suc n) =
     paired i (slice_range indices (slice_index offsets i) (slice_index offsets (i + 1)))
     ++ entries_from offsets indices (i + 1) n
 
--- all pairs, lane by lane
+-- all entries (lane, index), lane by lane
 abbrev pub entries_of : Raw → List (ℕ × ℕ)
 entries_of d = entries_from d.offsets d.indices 0 d.major_dim
 
@@ -84,8 +84,8 @@ abbrev pub raw_eq : Raw → Raw → Bool
 raw_eq = eq_of_both (eq_of_both (on (λ d. d.minor_dim) ◌==◌) (on (λ d. d.offsets) (pointwise ◌==◌)))
     (on (λ d. d.indices) (pointwise ◌==◌))
 
--- the same shape and the same places
-pub record HasSamePlaces (a b : Raw) : Type 0 where
+-- the same shape and the same entries
+pub record HasSameEntries (a b : Raw) : Type 0 where
   pub major_dim : a.major_dim ≡ b.major_dim
   pub minor_dim : a.minor_dim ≡ b.minor_dim
-  pub places : (i j : ℕ) → IsPlace a i j ↔ IsPlace b i j
+  pub places : (i j : ℕ) → IsEntry a i j ↔ IsEntry b i j

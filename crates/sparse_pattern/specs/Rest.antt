@@ -1,4 +1,4 @@
--- The places that an iterator has yet to yield.
+-- The entries that an iterator has yet to yield.
 use Rattle.std.specs.Prelude.{ℕ, ◌+◌, ◌-◌, ◌<◌, ◌≤◌, List, ◌++◌, map, length, slice_index}
 use Rattle.sparse_pattern.specs.Raw.{entries_from}
 

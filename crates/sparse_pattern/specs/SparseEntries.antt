@@ -1,4 +1,4 @@
--- Entries: what a matrix has at a pair of indices.
+-- The values of `SparseEntry`, `SparseEntryMut` and `Found`, and the ghost names of their references.
 use Rattle.std.specs.Prelude.{Option, Some, None}
 use Rattle.std.specs.Borrow.{GName}
 use mathlib.Core.Option as maybe
@@ -20,13 +20,13 @@ module _ {T : Type 0} where
   entry_mut_value zero_value (entry_mut.NonZero x) = x.now
   entry_mut_value zero_value entry_mut.Zero = zero_value
 
-  -- the result of a lookup as an entry; None if out of bounds
+  -- the result of a look-up as a `SparseEntryMut`; None if the pair is out of bounds
   abbrev pub entry_of_found : Found T → Option (SparseEntryMut T)
   entry_of_found (Value x) = Some (entry_mut.NonZero x)
   entry_of_found (Nothing NotStored) = Some entry_mut.Zero
   entry_of_found (Nothing OutOfBounds) = None
 
-  -- the name of the reference in an entry, if it has one
+  -- the ghost name of the reference to the stored value, if there is one
   abbrev pub entry_name : Option (SparseEntryMut T) → maybe.Option GName
   entry_name (Some (entry_mut.NonZero x)) = maybe.some x.ghost_name
   entry_name (Some entry_mut.Zero) = maybe.none

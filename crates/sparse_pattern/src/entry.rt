@@ -1,21 +1,21 @@
-//! Entries: what a matrix has at a pair of indices.
+//! What a matrix has at a row and a column: a stored entry, or zero.
 
 ghost use Rattle.std.specs.Prelude.{◌≡◌};
 ghost use Rattle.sparse_pattern.specs.SparseEntries.{entry_value, entry_mut_value, entry_of_found};
 
 use sparse_algebra::scalar::Zero;
 
-/// The entry of a matrix at a row and a column.
+/// What a matrix has at a row and a column: a stored entry, or zero.
 #[derive(Debug, PartialEq, Eq, Drop)]
 pub enum SparseEntry<'a, T> {
-    /// The place is stored. Its value may be zero.
+    /// An entry is stored. Its value may be zero.
     NonZero(&'a T),
-    /// The place is not stored.
+    /// No entry is stored.
     Zero,
 }
 
 impl<'a, T: Zero + Copy> SparseEntry<'a, T> {
-    /// Returns the stored value, or zero if the place is not stored.
+    /// Returns the stored value, or zero if no entry is stored.
     pub fn into_value(self) -> T
         ensures { result ≡ entry_value T.zero_value self.entry }
     {
@@ -26,17 +26,17 @@ impl<'a, T: Zero + Copy> SparseEntry<'a, T> {
     }
 }
 
-/// The entry of a matrix at a row and a column, with its value borrowed mutably.
+/// What a matrix has at a row and a column: a stored entry, its value borrowed mutably, or zero.
 #[derive(Drop)]
 pub enum SparseEntryMut<'a, T> {
-    /// The place is stored. Its value may be zero.
+    /// An entry is stored. Its value may be zero.
     NonZero(&'a mut T),
-    /// The place is not stored.
+    /// No entry is stored.
     Zero,
 }
 
 impl<'a, T: Zero + Copy> SparseEntryMut<'a, T> {
-    /// Returns the stored value, or zero if the place is not stored.
+    /// Returns the stored value, or zero if no entry is stored.
     pub fn into_value(self) -> T
         ensures { result ≡ entry_mut_value T.zero_value self.entry }
     {
@@ -65,7 +65,7 @@ pub enum Missing {
     NotStored,
 }
 
-/// Returns the entry that was found, or `None` if the pair is out of bounds.
+/// Returns the result of a look-up as a [`SparseEntryMut`], or `None` if the pair is out of bounds.
 pub fn into_entry<'a, T>(found: Found<'a, T>) -> Option<SparseEntryMut<'a, T>>
     ensures { result ≡ entry_of_found found.entry }
 {

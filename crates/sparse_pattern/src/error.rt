@@ -14,7 +14,7 @@ use thiserror::Error;
 pub enum SparseFormatErrorKind {
     /// A row or a column index is out of bounds.
     IndexOutOfBounds,
-    /// The same place is given more than once.
+    /// The same row and column occur more than once.
     DuplicateEntry,
     /// The arrays have lengths, offsets or an order that the format does not allow.
     InvalidStructure,
@@ -22,7 +22,8 @@ pub enum SparseFormatErrorKind {
     OutOfMemory,
 }
 
-/// The error returned when data does not describe a sparse matrix. It has a kind and a message; contracts see the kind.
+/// The error returned when data does not describe a sparse matrix. It has a kind and a message; in contracts its value
+/// is the kind.
 #[derive(Debug, Drop, Error)]
 #[error("{message}")]
 pub struct SparseFormatError {

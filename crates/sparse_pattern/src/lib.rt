@@ -1,4 +1,4 @@
-//! Sparsity patterns, and the entries and format errors shared by all sparse matrices.
+//! Sparsity patterns, counting sorts, and the entries and format errors shared by all sparse matrices.
 #![tactic(auto)]
 
 pub mod counting;

@@ -3,7 +3,7 @@
 ghost use Rattle.std.specs.Prelude.{◌≡◌, ◌<◌, ◌↔◌, length, IfOk, IfErr, IfSome, IsOk, IsSome};
 ghost use Rattle.std.specs.Prelude.{IsTrue, OnOk};
 ghost use Rattle.sparse_pattern.specs.Raw.{IsValid, IsValidLane, raw_of, empty_raw, lane_of};
-ghost use Rattle.sparse_pattern.specs.Raw.{start_of, end_of, raw_eq, HasSamePlaces};
+ghost use Rattle.sparse_pattern.specs.Raw.{start_of, end_of, raw_eq, HasSameEntries};
 ghost use Rattle.sparse_pattern.specs.PatternFaults.{IsFirstFault};
 
 use std::alloc::{AllocError, Global};
@@ -17,8 +17,8 @@ mod transpose;
 pub use faults::{SparsityPatternFormatError, check, one_first_fault};
 pub use iter::SparsityPatternIter;
 
-/// The stored places of a compressed matrix, lane by lane. The lanes are the rows of a CSR matrix or the columns of a
-/// CSC matrix.
+/// The pattern of a compressed matrix: the minor indices of its entries, lane by lane. The lanes are the rows of a CSR
+/// matrix or the columns of a CSC matrix.
 ///
 /// The offsets start with 0, never decrease, and end with the number of indices. The minor indices of each lane are
 /// strictly increasing and less than `minor_dim`.
@@ -54,7 +54,7 @@ impl Model for SparsityPattern {
 }
 
 impl SparsityPattern {
-    /// Returns a pattern without places.
+    /// Returns a pattern without entries.
     ///
     /// Allocates `major_dim + 1` offsets. Fails only if that allocation fails.
     pub fn zeros(alloc: Global, major_dim: usize, minor_dim: usize) -> Result<Self, AllocError>
@@ -101,7 +101,7 @@ impl SparsityPattern {
             (raw_of major_dim minor_dim major_offsets.items minor_indices.items)) }
         ensures fault { IfErr result (IsFirstFault
             (raw_of major_dim minor_dim major_offsets.items minor_indices.items)) }
-        ensures taken { IsValid (raw_of major_dim minor_dim major_offsets.items minor_indices.items)
+        ensures accepted { IsValid (raw_of major_dim minor_dim major_offsets.items minor_indices.items)
             → IsOk result }
     {
         faults::check(major_dim, minor_dim, &major_offsets, &minor_indices)?;
@@ -142,7 +142,7 @@ impl SparsityPattern {
         self.minor_dim
     }
 
-    /// Returns the number of stored places.
+    /// Returns the number of entries.
     pub fn nnz(&self) -> usize
         ensures { result ≡ length self.now.indices }
     {
@@ -186,8 +186,8 @@ impl SparsityPattern {
 
     /// Returns the pattern described by the offsets and the indices, without checking them.
     ///
-    /// The data must be valid, as [`SparsityPattern::try_from_offsets_and_indices`] requires; the contract demands a
-    /// proof of it.
+    /// The data must be valid: [`SparsityPattern::try_from_offsets_and_indices`] would accept it. The contract requires
+    /// a proof of this.
     pub fn from_offset_and_indices_unchecked(
         major_dim: usize,
         minor_dim: usize,
@@ -197,7 +197,7 @@ impl SparsityPattern {
         requires { IsValid (raw_of major_dim minor_dim major_offsets.items minor_indices.items) }
         ensures { result ≡ raw_of major_dim minor_dim major_offsets.items minor_indices.items }
     {
-        // The number of lanes is the length of the offsets less one: only the contract reads this argument.
+        // The number of lanes is the number of offsets minus one; only the contract uses this argument.
         let _ = major_dim;
         SparsityPattern {
             major_offsets,
@@ -217,7 +217,7 @@ impl SparsityPattern {
         })
     }
 
-    /// Returns the positions where a lane begins and ends. `lane` must be within bounds.
+    /// Returns the offsets at which a lane begins and ends. `lane` must be less than `major_dim()`.
     #[doc(hidden)]
     pub fn lane_bounds(&self, lane: usize) -> (usize, usize)
         requires { lane < self.now.major_dim }
@@ -241,7 +241,7 @@ impl PartialEq for SparsityPattern {
 
     fn eq(&self, other: &Self) -> bool
         ensures value { result ≡ raw_eq self.now other.now }
-        ensures places { IsTrue result ↔ HasSamePlaces self.now other.now }
+        ensures places { IsTrue result ↔ HasSameEntries self.now other.now }
     {
         self.minor_dim == other.minor_dim
             && self.major_offsets == other.major_offsets

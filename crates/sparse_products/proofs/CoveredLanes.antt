@@ -1,13 +1,13 @@
--- The places of a product that a pattern has, lane after lane.
+-- Whether a pattern contains that of a product, lane by lane.
 use Rattle.std.proofs.Common.{ℕ, ◌+◌, ◌<◌, inl, inr, List, length, take, get_or, Contains, subst}
 use Rattle.std.proofs.lemmas.List.{take_more}
 use Rattle.std.proofs.lemmas.List.Elements.{Contains-push_cases}
-use Rattle.sparse_pattern.specs.Raw.{Raw, lane_of, IsValid, IsPlace}
+use Rattle.sparse_pattern.specs.Raw.{Raw, lane_of, IsValid, IsEntry}
 use Rattle.sparse_pattern.proofs.LaneLists.{lane_has}
 use Rattle.sparse_products.specs.InnerProducts.{IsInLanes}
-use Rattle.sparse_products.specs.InnerUpdates.{HasProductPlaces}
+use Rattle.sparse_products.specs.InnerUpdates.{ContainsProduct}
 
--- what holds of the first n elements and of the next holds of the first n + 1
+-- what holds of the first n elements and of the next one holds of the first n + 1
 pub element_more : (P : ℕ → Type 0) (xs : List ℕ) (n : ℕ) → n < length xs → P (get_or xs n 0)
     → ((j : ℕ) → Contains (take n xs) j → P j) → (j : ℕ) → Contains (take (n + 1) xs) j → P j
 element_more P xs n lt here before j h =
@@ -18,13 +18,13 @@ element_more P xs n lt here before j h =
     ]
 
 module _ (d a b : Raw) (va : IsValid a) where
-  -- lane i of d has the indices of the lanes of b that lane i of a names
+  -- lane i of d contains lane k of b for each k in lane i of a
   abbrev pub HasLanes : ℕ → Type 0
-  HasLanes i = (j : ℕ) → IsInLanes b (lane_of a i) j → IsPlace d i j
+  HasLanes i = (j : ℕ) → IsInLanes b (lane_of a i) j → IsEntry d i j
 
-  pub product_places : ((i : ℕ) → i < a.major_dim → HasLanes i) → HasProductPlaces d a b
-  product_places all i j k left right = all i left.in_lane.lane j
+  pub product_of_lanes : ((i : ℕ) → i < a.major_dim → HasLanes i) → ContainsProduct d a b
+  product_of_lanes all i j k left right = all i left.in_lane.lane j
       (k, (lane_has a va i k left.in_lane.lane).1 left, right)
 
-  pub places_of_product : HasProductPlaces d a b → (i : ℕ) → i < a.major_dim → HasLanes i
-  places_of_product all i lt j h = all i j h.0 ((lane_has a va i h.0 lt).0 h.1) h.2
+  pub lanes_of_product : ContainsProduct d a b → (i : ℕ) → i < a.major_dim → HasLanes i
+  lanes_of_product all i lt j h = all i j h.0 ((lane_has a va i h.0 lt).0 h.1) h.2

@@ -1,4 +1,4 @@
--- A list after a part of it was written.
+-- A list of which a part was written.
 use Rattle.std.proofs.Common.{◌≡◌, ℕ, ◌+◌, ◌-◌, ◌<◌, ◌≤◌, ◌⊎◌, inl, inr, List, [], ◌++◌, length}
 use Rattle.std.proofs.Common.{take, drop, get_or, ap, ◌∙◌, arith}
 use Rattle.std.proofs.lemmas.List.{get_or_append_left, get_or-append_right, get_or-take}
@@ -14,13 +14,13 @@ module _ {X : Type 0} (a k : ℕ) (xs ys : List X) (z : X) (inside : a + k ≤ l
   front : length (take a xs) ≡ a
   front = length-take-le a xs (omega arith)
 
-  -- within the part
+  -- an index inside the part reads what was written
   pub in_part : a ≤ p → p < a + k → get_or (put_mid a k xs ys) p z ≡ get_or ys (p - a) z
   in_part from to =
       get_or-append_right (take a xs) (ys ++ drop k (drop a xs)) a p z front from
       ∙ get_or_append_left ys (drop k (drop a xs)) z (p - a) (omega arith)
 
-  -- outside the part
+  -- an index outside the part reads what was there before
   pub off_part : (p < a) ⊎ (a + k ≤ p) → get_or (put_mid a k xs ys) p z ≡ get_or xs p z
   off_part away = elim away [
     | inl below ↦ get_or_append_left (take a xs) (ys ++ drop k (drop a xs)) z p
@@ -33,13 +33,13 @@ module _ {X : Type 0} (a k : ℕ) (xs ys : List X) (z : X) (inside : a + k ≤ l
         ∙ ap (λ q. get_or xs q z) e
   ]
 
--- what a list has gained
+-- the elements of `old ++ lane` from the length of `old` on are `lane`
 pub tail_is : {X : Type 0} (xs old lane : List X) (n : ℕ) → length old ≡ n → xs ≡ old ++ lane
     → take (length xs - n) (drop n xs) ≡ lane
 tail_is xs old lane n at is = take_all (length xs - n) (drop n xs) (omega (arith, length-drop n xs))
     ∙ ap (λ l. drop n l) is ∙ drop_at old lane n at
 
--- copies of a value that means zero mean zero everywhere
+-- a list of copies of a value that represents zero represents zero everywhere
 pub all_zero : {X Y : Type 0} (f : X → Y) (none : Y) (z v : X) → f z ≡ none → f v ≡ none
     → (xs ys : List X) (m k : ℕ) → xs ≡ [] → ys ≡ take m xs ++ replicate k v → (j : ℕ)
     → f (get_or ys j z) ≡ none

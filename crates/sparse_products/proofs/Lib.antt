@@ -6,10 +6,9 @@ mod ProductPlaces
 mod ProductRows
 mod ProductSums
 mod CoveredLanes
-mod Walks
+mod AddedTerms
 mod LaneParts
-mod TakenRows
+mod ExtractedRows
 mod Updating
-mod MadeProducts
-pub mod Refusals
+mod ZeroUpdates
 mod Transposing

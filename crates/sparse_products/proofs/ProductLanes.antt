@@ -1,27 +1,27 @@
--- The pattern of a product, lane after lane.
+-- The pattern of a product, lane by lane.
 use Rattle.std.proofs.Common.{◌≡◌, ℕ, ◌+◌, ◌<◌, ◌↔◌, ◌⊎◌, inl, inr, List, [], ◌∷◌, ◌++◌, length}
 use Rattle.std.proofs.Common.{take, get_or, All, Contains, subst, sym, refl}
 use Rattle.std.proofs.lemmas.List.Elements.{Contains-get_or}
-use Rattle.sparse_pattern.specs.Raw.{Raw, raw_of, lane_of, IsValid, IsPlace}
+use Rattle.sparse_pattern.specs.Raw.{Raw, raw_of, lane_of, IsValid, IsEntry}
 use Rattle.sparse_pattern.specs.InnerGainedLanes.{GainsLane}
-use Rattle.sparse_pattern.proofs.BuiltLanes.{IsBuilt, lane_gained, all_built, place_within}
+use Rattle.sparse_pattern.proofs.BuiltLanes.{IsBuilt, lane_gained, all_built, minor_index_below}
 use Rattle.sparse_pattern.proofs.LaneLists.{lane_has}
 use Rattle.sparse_sums.proofs.Merging.{more}
 use Rattle.sparse_products.specs.Products.{IsProductOf}
 use Rattle.sparse_products.specs.InnerProducts.{IsInLanes}
 use Rattle.sparse_sums.proofs.GainedLanes.{gains_same}
 
--- (i, j) is a place of the product
-abbrev pub IsJoined : Raw → Raw → ℕ → ℕ → Type 0
-IsJoined a b i j = (k : ℕ) × IsPlace a i k × IsPlace b k j
+-- the pattern of the product of a and b has (i, j)
+abbrev pub IsInProduct : Raw → Raw → ℕ → ℕ → Type 0
+IsInProduct a b i j = (k : ℕ) × IsEntry a i k × IsEntry b k j
 
--- the first n lanes of the product of a and b
+-- offsets and indices are those of the first n lanes of the product of a and b
 abbrev pub IsProductBelow : ℕ → Raw → Raw → List ℕ → List ℕ → Type 0
-IsProductBelow n a b offsets indices = IsBuilt b.minor_dim (IsJoined a b) n offsets indices
+IsProductBelow n a b offsets indices = IsBuilt b.minor_dim (IsInProduct a b) n offsets indices
 
--- the lanes that lane i of a names have the indices of lane i of the product
+-- the union of lane k of b for each k in lane i of a is lane i of the product
 pub in_lanes_is : (a b : Raw) → IsValid a → (i j : ℕ) → i < a.major_dim
-    → IsInLanes b (lane_of a i) j ↔ IsJoined a b i j
+    → IsInLanes b (lane_of a i) j ↔ IsInProduct a b i j
 in_lanes_is a b valid i j lt = (
   λ h. (h.0, (lane_has a valid i h.0 lt).0 h.1, h.2),
   λ h. (h.0, (lane_has a valid i h.0 lt).1 h.1, h.2),
@@ -32,32 +32,32 @@ pub lane_more : {n : ℕ} {offsets indices indices' : List ℕ} (a b : Raw) (off
     → GainsLane indices indices' (IsInLanes b (lane_of a n))
     → offsets' ≡ offsets ++ length indices' ∷ [] → IsProductBelow (n + 1) a b offsets' indices'
 lane_more {n} {offsets} {indices} {indices'} a b offsets' va vb lt below gains is =
-    lane_gained b.minor_dim (IsJoined a b) n offsets offsets' indices indices' below
-    (λ j h. place_within b vb h.0 j h.2) (gains_same (λ j. in_lanes_is a b va n j lt) gains) is
+    lane_gained b.minor_dim (IsInProduct a b) n offsets offsets' indices indices' below
+    (λ j h. minor_index_below b vb h.0 j h.2) (gains_same (λ j. in_lanes_is a b va n j lt) gains) is
 
--- all lanes make the product
+-- the pattern of all lanes is that of the product
 pub all_lanes : {n : ℕ} {offsets indices : List ℕ} (a b d : Raw) → n ≡ a.major_dim
     → d ≡ raw_of a.major_dim b.minor_dim offsets indices → IsProductBelow n a b offsets indices
     → IsProductOf d a b
 all_lanes {n} {offsets} {indices} a b d whole is below =
-    all_built b.minor_dim (IsJoined a b) n a.major_dim d offsets indices whole is
+    all_built b.minor_dim (IsInProduct a b) n a.major_dim d offsets indices whole is
     (λ i j h. h.1.in_lane.lane) below
 
 pub lane_below : (d : Raw) → IsValid d → (i : ℕ) → i < d.major_dim
     → All (λ k. k < d.minor_dim) (lane_of d i)
-lane_below d valid i lt k z inside = place_within d valid i (get_or (lane_of d i) k z)
+lane_below d valid i lt k z inside = minor_index_below d valid i (get_or (lane_of d i) k z)
     ((lane_has d valid i (get_or (lane_of d i) k z) lt).0
     (Contains-get_or (lane_of d i) k z inside))
 
--- the lanes that a list names, with one name more
+-- the union of the lanes of p + 1 elements of a list is that of the first p and lane k
 pub in_lanes_then : (d : Raw) (lanes : List ℕ) (p k : ℕ) → p < length lanes → k ≡ get_or lanes p 0
     → (j : ℕ)
-    → IsInLanes d (take (p + 1) lanes) j ↔ (IsInLanes d (take p lanes) j ⊎ IsPlace d k j)
+    → IsInLanes d (take (p + 1) lanes) j ↔ (IsInLanes d (take p lanes) j ⊎ IsEntry d k j)
 in_lanes_then d lanes p k lt is j =
     let front = λ (l : ℕ). more lanes p k l lt is in (
       λ h. elim ((front h.0).0 h.1) [
         | inl was ↦ inl (h.0, was, h.2)
-        | inr same ↦ inr (subst (λ l. IsPlace d l j) (sym same) h.2)
+        | inr same ↦ inr (subst (λ l. IsEntry d l j) (sym same) h.2)
       ],
       λ h. elim h [
         | inl was ↦ (was.0, (front was.0).1 (inl was.1), was.2)
@@ -65,7 +65,7 @@ in_lanes_then d lanes p k lt is j =
       ],
     )
 
--- what holds of the indices of the first p lanes, and then of those of one lane more
+-- adding lane k to a set of the indices of the first p lanes gives those of the first p + 1
 pub in_lanes_more : (d : Raw) → IsValid d → {Old New : ℕ → Type 0} (lanes : List ℕ) (p k : ℕ)
     → p < length lanes → k ≡ get_or lanes p 0 → k < d.major_dim
     → ((j : ℕ) → New j ↔ (Old j ⊎ Contains (lane_of d k) j))

@@ -1,4 +1,4 @@
--- The places of a product, in plain matrices.
+-- The places of the product of plain matrices.
 use Rattle.std.proofs.Common.{◌≡◌, ℕ, ◌↔◌, true, ◌&&◌, arith}
 use Rattle.sparse_algebra.proofs.Cases.{and_both, and_parts}
 use Rattle.sparse_algebra.specs.Algebra.{CommRing}
@@ -7,19 +7,19 @@ use Rattle.sparse_algebra.proofs.PlainLemmas.{any_is, proper_product}
 use Rattle.sparse_compressed.specs.Compressed.{Compressed, IsSound}
 use Rattle.sparse_compressed.specs.PlainOfLanes.{plain_of_rows}
 use Rattle.sparse_compressed.proofs.Arrays.{proper_rows}
-use Rattle.sparse_compressed.proofs.Standing.{rows_have}
-use Rattle.sparse_products.proofs.ProductLanes.{IsJoined}
+use Rattle.sparse_compressed.proofs.ArraysDeterminePlain.{plain_of_rows-has_lanes}
+use Rattle.sparse_products.proofs.ProductLanes.{IsInProduct}
 
 module _ (R : CommRing) {T : Type 0} (f : T → R.Carrier) {a b : Compressed T} (sa : IsSound a)
     (sb : IsSound b) (fits : a.pattern.minor_dim ≡ b.pattern.major_dim) where
   abbrev pub product : Plain R
   product = plain_product R (plain_of_rows R f a) (plain_of_rows R f b)
 
-  -- the places of the product are the pairs that some k joins
-  pub joined_places : (i j : ℕ) → IsJoined a.pattern b.pattern i j ↔ (product.has i j ≡ true)
+  -- (i, j) is a place of the product if and only if some k has (i, k) in a and (k, j) in b
+  pub joined_places : (i j : ℕ) → IsInProduct a.pattern b.pattern i j ↔ (product.has i j ≡ true)
   joined_places i j =
-      let left = (rows_have R f a sa).places i in
-      let right = λ (k : ℕ). (rows_have R f b sb).places k j in
+      let left = (plain_of_rows-has_lanes R f a sa).places i in
+      let right = λ (k : ℕ). (plain_of_rows-has_lanes R f b sb).places k j in
       let any = any_is a.pattern.minor_dim (λ k. (plain_of_rows R f a).has i k
       && (plain_of_rows R f b).has k j) in (
         λ h. any.1 (

@@ -1,4 +1,4 @@
--- The product of two matrices, row after row: the indices of a row, and its values from a scratch
+-- The product of two matrices, row by row: the indices of a row, and its values, from a scratch
 -- row.
 use Rattle.std.proofs.Common.{◌≡◌, ℕ, ◌+◌, ◌<◌, inl, inr, List, [], ◌∷◌, ◌++◌, length}
 use Rattle.std.proofs.Common.{get_or, drop, Contains, ap, sym, subst, ◌∙◌, refl}
@@ -10,23 +10,23 @@ use Rattle.sparse_algebra.specs.Algebra.{CommRing}
 use Rattle.sparse_algebra.specs.Plain.{Plain, plain_product}
 use Rattle.sparse_pattern.specs.Raw.{lane_of}
 use Rattle.sparse_pattern.specs.InnerGainedLanes.{GainsLane}
-use Rattle.sparse_pattern.proofs.BuiltLanes.{place_within}
+use Rattle.sparse_pattern.proofs.BuiltLanes.{minor_index_below}
 use Rattle.sparse_compressed.specs.Compressed.{Compressed, arrays_of, IsSound}
 use Rattle.sparse_compressed.specs.PlainOfLanes.{plain_of_rows}
-use Rattle.sparse_compressed.specs.InnerRows.{lane_value}
+use Rattle.sparse_compressed.specs.InnerLaneValue.{lane_value}
 use Rattle.sparse_compressed.proofs.LaneValues.{lane_value_none, lane_value_at}
 use Rattle.sparse_compressed.proofs.BuiltMatrices.{IsBuiltMatrix, built_is}
 use Rattle.sparse_sums.specs.InnerAdding.{GainsEntries}
 use Rattle.sparse_sums.proofs.BuiltSums.{entries_built}
-use Rattle.sparse_products.specs.InnerProducts.{IsInLanes, GainsTaken}
-use Rattle.sparse_products.proofs.ProductLanes.{IsJoined, in_lanes_is}
+use Rattle.sparse_products.specs.InnerProducts.{IsInLanes, GainsExtracted}
+use Rattle.sparse_products.proofs.ProductLanes.{IsInProduct, in_lanes_is}
 use Rattle.sparse_products.proofs.ProductPlaces.{product, joined_places, product_is_proper}
 
--- the first n rows of the product
+-- offsets, indices and values are those of the first n rows of the product
 abbrev pub IsMultipliedBelow : (R : CommRing) {T : Type 0} → (T → R.Carrier) → Compressed T
     → Compressed T → ℕ → List ℕ → List ℕ → List T → Type 0
 IsMultipliedBelow R f a b n offsets indices values = IsBuiltMatrix R f b.pattern.minor_dim
-    (IsJoined a.pattern b.pattern)
+    (IsInProduct a.pattern b.pattern)
     (plain_product R (plain_of_rows R f a) (plain_of_rows R f b)).value n offsets indices values
 
 module _ (R : CommRing) {T : Type 0} (f : T → R.Carrier) {a b : Compressed T} (sa : IsSound a)
@@ -37,7 +37,7 @@ module _ (R : CommRing) {T : Type 0} (f : T → R.Carrier) {a b : Compressed T} 
   abbrev Below : ℕ → List ℕ → List ℕ → List T → Type 0
   Below n offsets indices values = IsMultipliedBelow R f a b n offsets indices values
 
-  -- zero where no lane has the index
+  -- the product is zero at each index of row n that the lane does not have
   pub zero_off : (n : ℕ) → n < a.pattern.major_dim → (lane : List ℕ)
       → ((j : ℕ) → IsInLanes b.pattern (lane_of a.pattern n) j → Contains lane j) → (j : ℕ)
       → (Contains lane j → ⊥) → P.value n j ≡ R.zero
@@ -48,18 +48,18 @@ module _ (R : CommRing) {T : Type 0} (f : T → R.Carrier) {a b : Compressed T} 
         | inr miss ↦ miss
       ])
 
-  -- one row more
+  -- appending row n to the first n rows
   pub row_more : (z : T) {n : ℕ} {offsets offsets' indices indices' : List ℕ}
       {values values' : List T} → n < a.pattern.major_dim → Below n offsets indices values
       → GainsLane indices indices' (IsInLanes b.pattern (lane_of a.pattern n))
       → offsets' ≡ offsets ++ length indices' ∷ []
-      → GainsTaken R f z values values' (drop (length indices) indices') (P.value n)
+      → GainsExtracted R f z values values' (drop (length indices) indices') (P.value n)
       → Below (n + 1) offsets' indices' values'
   row_more z {n} {indices = indices} {indices'} {values} {values'} lt built gains is more =
       let lane_is : drop (length indices) indices' ≡ gains.lane =
       ap (λ l. drop (length indices) l) gains.pushed
       ∙ drop_at indices gains.lane (length indices) refl in
-      let own = subst (λ l. GainsTaken R f z values values' l (P.value n)) lane_is more in
+      let own = subst (λ l. GainsExtracted R f z values values' l (P.value n)) lane_is more in
       let joined = λ (j : ℕ). joined_places R f sa sb fits n j in
       let in_lanes = λ (j : ℕ). in_lanes_is a.pattern b.pattern sa.valid n j lt in
       let value : (j : ℕ) → lane_value R f gains.lane own.part j ≡ P.value n j = λ j.
@@ -88,7 +88,7 @@ module _ (R : CommRing) {T : Type 0} (f : T → R.Carrier) {a b : Compressed T} 
         sums = value;
       } in
       entries_built built entries in_lanes (λ j. refl)
-      (λ j h. place_within b.pattern sb.valid h.0 j h.2) is
+      (λ j h. minor_index_below b.pattern sb.valid h.0 j h.2) is
 
   module _ {n : ℕ} {offsets indices : List ℕ} {values : List T} (whole : n ≡ a.pattern.major_dim)
       (built : Below n offsets indices values) where
@@ -103,5 +103,5 @@ module _ (R : CommRing) {T : Type 0} (f : T → R.Carrier) {a b : Compressed T} 
         → plain_of_rows R f (arrays_of a.pattern.major_dim b.pattern.minor_dim offsets
         indices values) ≡ P
     product_is z = built_is R f z P (product_is_proper R f sa sb fits)
-        (IsJoined a.pattern b.pattern) (joined_places R f sa sb fits) offsets indices values
+        (IsInProduct a.pattern b.pattern) (joined_places R f sa sb fits) offsets indices values
         done (λ i j h. h.1.in_lane.lane)

@@ -7,7 +7,8 @@ use Rattle.sparse_pattern.specs.Raw.{Raw, IsValid, lane_of, start_of}
 use Rattle.sparse_products.specs.InnerUpdates.{steps_below, triples_below}
 use Rattle.sparse_products.specs.ScalarProducts.{triples_of}
 
--- the triples of a place more
+-- the triples of the first n + 1 entries of a are those of the first n and one for each entry of
+-- lane k of b
 pub triples_more : (n k : ℕ) (a b : Raw) → n < length a.indices → get_or a.indices n 0 ≡ k
     → triples_below (n + 1) a b ≡ triples_below n a b + length (lane_of b k)
 triples_more n k a b lt is =
@@ -23,7 +24,7 @@ all_triples a b = ap (naturals.sum_by (λ k. length (lane_of b k)))
 pub no_steps : (a b : Raw) → IsValid a → steps_below 0 a b ≡ 0
 no_steps a b valid = omega (arith, valid.first, ap (λ n. triples_below n a b) valid.first)
 
--- the steps of all lanes
+-- the steps of all lanes are the number of entries of a and of triples
 pub all_steps : (a b : Raw) → IsValid a → {n : ℕ} → n ≡ a.major_dim
     → steps_below n a b ≡ length a.indices + triples_of a b
 all_steps a b valid is =

@@ -1,4 +1,4 @@
--- An answer that is the transpose of a matrix, in plain matrices.
+-- The transpose that a call returns, as a plain matrix.
 use Rattle.std.proofs.Common.{◌≡◌}
 use Rattle.std.specs.Prelude.{Result, Ok, Err, IfOk}
 use Rattle.sparse_algebra.specs.Algebra.{CommRing}

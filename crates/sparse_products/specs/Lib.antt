@@ -2,8 +2,8 @@ pub mod InnerBits
 pub mod Products
 pub mod InnerProducts
 pub mod InnerUpdates
-pub mod InnerFactors
+pub mod InnerOperands
 pub mod ScalarProducts
-pub mod InnerLaneSets
+pub mod InnerIndexSets
 pub mod InnerScratches
-pub mod InnerWalks
+pub mod InnerAccumulators

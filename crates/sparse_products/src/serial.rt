@@ -1,7 +1,8 @@
-//! Matrix operations in one thread.
+//! Products of sparse matrices, computed in one thread.
 
-pub(crate) mod factor;
-mod lane_set;
+mod accumulate;
+mod index_set;
+pub(crate) mod multiplicands;
 mod pattern;
 mod prealloc;
 mod product;
@@ -10,16 +11,11 @@ mod scatter;
 mod search;
 mod unchecked;
 mod update;
-mod walk;
 
 pub use pattern::{spmm_csc_pattern, spmm_csr_pattern};
 pub use prealloc::{spmm_csc_prealloc, spmm_csr_prealloc};
 pub use product::{mul_csc, mul_csr};
 pub use sparse_algebra::error::{OperationError, OperationErrorKind};
-pub use sparse_sums::{
-    add_csc, add_csr, add_scaled_csc, add_scaled_csr, neg_csc, neg_csr, scale_csc, scale_csr,
-    spadd_csc_prealloc, spadd_csr_prealloc, spadd_pattern, sub_csc, sub_csr,
-};
 pub use unchecked::{
     spmm_csc_prealloc_unchecked, spmm_csr_prealloc_unchecked, spmm_csr_prealloc_unchecked_counted,
 };

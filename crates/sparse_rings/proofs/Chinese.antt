@@ -20,7 +20,7 @@ use Rattle.sparse_rings.specs.ChineseRemainders.{AreCoprime, both_ring, residue_
 use Rattle.sparse_rings.specs.InnerPairs.{neg_neg, same_pair}
 
 module _ (R : CommRing) where
-  -- u + w p is zero and u + w r is one: so w (r - p) is one
+  -- if u + w p = 0 and u + w r = 1, then w (r - p) = 1
   difference_inverts : (u w p r : R.Carrier) → R.add u (R.mul w p) ≡ R.zero
       → R.add u (R.mul w r) ≡ R.one → R.mul w (R.add r (R.neg p)) ≡ R.one
   difference_inverts u w p r none one =
@@ -29,10 +29,10 @@ module _ (R : CommRing) where
       ∙ neg_neg R u)
       ∙ R.laws.add_comm (R.mul w r) u ∙ one
 
-  -- where m t is one, a + m ((b - a) t) is b
-  pub reaches : (a b m t : R.Carrier) → R.mul m t ≡ R.one
+  -- if m t = 1, then a + m ((b - a) t) = b
+  pub difference_added_back : (a b m t : R.Carrier) → R.mul m t ≡ R.one
       → R.add a (R.mul m (R.mul (R.add b (R.neg a)) t)) ≡ b
-  reaches a b m t e =
+  difference_added_back a b m t e =
       let d = R.add b (R.neg a) in
       ap (R.add a) (mul_swap R m d t ∙ ap (R.mul d) e ∙ R.laws.mul_one d)
       ∙ add_swap R a b (R.neg a) ∙ ap (R.add b) (R.laws.add_neg a) ∙ R.laws.add_zero b
@@ -47,7 +47,7 @@ module _ (n : ℕ) (some : 0 < n) where
   residue-mul x y = same_class n some (x * y) ((x % n) * (y % n))
       (sym (mul-mod_left x (y % n) n ∙ mul-mod_right x y n))
 
-  -- x is its rest plus its quotient by m, m times
+  -- x % m + m (x / m) = x, as residues
   residue-split : (m x : ℕ) → (residues n some).add (residue n some (x % m))
       ((residues n some).mul (residue n some m) (residue n some (x / m))) ≡ residue n some x
   residue-split m x =
@@ -58,7 +58,7 @@ module _ (n : ℕ) (some : 0 < n) where
   residue-multiple y = same_class n some (n * y) 0
       (ap (λ k. k % n) (omega arith) ∙ add-mul-mod_self_left 0 n y)
 
--- ---- Euclid: where m and n are coprime, m has an inverse modulo n
+-- ---- Euclid's algorithm: if m and n are coprime, m has an inverse modulo n
 
 coprime-zero : (n m : ℕ) → m ≤ 0 → IsGcd n m 1 → n ≡ 1
 coprime-zero n m le gcd =
@@ -153,26 +153,26 @@ module _ (M N : ℕ) where
         let same : k ≡ l = sym (mod-eq_of_lt k_below) ∙ quotients ∙ mod-eq_of_lt l_below in
         sym (mod-add-div x m) ∙ (λ i. first i + m * same i) ∙ mod-add-div y m
 
-    -- a + m q has the residue of b modulo N, where q is (b - a) / m there
-    pub glued-second : (a b q : ℕ)
+    -- a + m q has the residue of b modulo N, if q = (b - a) / m modulo N
+    pub combined-second : (a b q : ℕ)
         → mod_class N q ≡ (mod_ring N).mul
         ((mod_ring N).add (mod_class N b) ((mod_ring N).neg (mod_class N a))) t
         → mod_class N (a + modulus M * q) ≡ mod_class N b
-    glued-second a b q e =
+    combined-second a b q e =
         let R = mod_ring N in
         mod_class_add N a (modulus M * q)
         ∙ ap (R.add (mod_class N a)) (mod_class_mul N (modulus M) q
         ∙ ap (R.mul (mod_class N (modulus M))) e)
-        ∙ reaches R (mod_class N a) (mod_class N b) (mod_class N (modulus M)) t inverse
+        ∙ difference_added_back R (mod_class N a) (mod_class N b) (mod_class N (modulus M)) t inverse
 
-  pub glued-first : (a q : ℕ) → mod_class M (a + modulus M * q) ≡ mod_class M a
-  glued-first a q = mod_same M (a + modulus M * q) a (add-mul-mod_self_left a (modulus M) q)
+  pub combined-first : (a q : ℕ) → mod_class M (a + modulus M * q) ≡ mod_class M a
+  combined-first a q = mod_same M (a + modulus M * q) a (add-mul-mod_self_left a (modulus M) q)
 
-  pub glued-below : (a q : ℕ) → a < modulus M → q < modulus N
+  pub combined-below : (a q : ℕ) → a < modulus M → q < modulus N
       → a + modulus M * q < modulus M * modulus N
-  glued-below a q f g = omega (arith, mul-add-lt q (modulus M) a (modulus N) g f)
+  combined-below a q f g = omega (arith, mul-add-lt q (modulus M) a (modulus N) g f)
 
-  -- ---- for coprime moduli, a pair of residues is one residue
+  -- ---- for coprime moduli, each pair of residues is that of exactly one residue
 
   pub chinese-one_to_one : AreCoprime M N → (c d : (both_ring M N).Carrier)
       → residue_pair M N c ≡ residue_pair M N d → c ≡ d
@@ -191,11 +191,11 @@ module _ (M N : ℕ) where
       let q = R.mul (R.add (mod_class N b) (R.neg (mod_class N a))) t.0 in (
         record {
           number = a + modulus M * q.number;
-          below = glued-below a q.number p.0.below q.below;
+          below = combined-below a q.number p.0.below q.below;
         },
         same_pair _ _
-            (glued-first a q.number ∙ residue_itself (modulus M) (modulus_pos M) p.0)
-            (glued-second t.0 t.1 a b q.number (residue_itself (modulus N) (modulus_pos N) q)
+            (combined-first a q.number ∙ residue_itself (modulus M) (modulus_pos M) p.0)
+            (combined-second t.0 t.1 a b q.number (residue_itself (modulus N) (modulus_pos N) q)
             ∙ residue_itself (modulus N) (modulus_pos N) p.1),
       )
 
@@ -218,5 +218,5 @@ module _ (M N m w j : ℕ) (is : m ≡ modulus M) (rest : w ≡ m % modulus N)
       let difference : mod_class N d ≡ R.add (mod_class N b) (R.neg (mod_class N a)) =
       ed ∙ ap (R.add (mod_class N b)) (en ∙ ap R.neg (mod_class_of N a s es)) in
       ap (λ k. mod_class N (a + k * q)) is
-      ∙ glued-second M N (mod_class N j) combine-inverse a b q
+      ∙ combined-second M N (mod_class N j) combine-inverse a b q
       (eq ∙ ap (λ c. R.mul c (mod_class N j)) difference)

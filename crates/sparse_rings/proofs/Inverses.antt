@@ -6,7 +6,7 @@ use Rattle.sparse_rings.specs.DualRing.{dual_ring}
 use Rattle.sparse_rings.specs.InnerPairs.{same_pair}
 
 module _ (R : CommRing) where
-  -- where a t is one, (a, b) times (t, -(b (t t))) is one
+  -- if a t = 1, then (a, b) (t, -(b (t t))) = 1
   pub dual_inverse : (a b t : R.Carrier) → R.mul a t ≡ R.one
       → (dual_ring R).mul (a, b) (t, R.neg (R.mul b (R.mul t t))) ≡ (dual_ring R).one
   dual_inverse a b t e =

@@ -1,4 +1,4 @@
--- The norm of a Gaussian number: it is multiplicative, and a number is a unit where its norm is.
+-- The norm of a Gaussian number is multiplicative, and a number is a unit if and only if its norm is.
 use Rattle.std.proofs.Common.{◌≡◌, sym, ap, ◌∙◌}
 use Rattle.sparse_algebra.specs.Algebra.{CommRing}
 use Rattle.sparse_algebra.specs.Inverses.{HasInverse}
@@ -76,7 +76,7 @@ module _ (R : CommRing) where
       ∙ same_pair _ _ e
       (R.laws.mul_comm R.zero t ∙ mul_zero R t)
 
-  -- where a number has an inverse among the scalars, so has its norm
+  -- if a scalar represents an inverse of a number, a scalar represents an inverse of its norm
   pub norm-has_inverse : {T : Type 0} (f : T → R.Carrier)
       → ((x y : T) → IsValue R f (R.add (f x) (f y)))
       → ((x y : T) → IsValue R f (R.mul (f x) (f y)))

@@ -1,4 +1,4 @@
--- Ring maps from and to dual numbers, Gaussian numbers and pairs.
+-- Ring homomorphisms from and to dual numbers, Gaussian numbers and pairs.
 use Rattle.std.proofs.Common.{◌≡◌, ℕ, zero, suc, ◌+◌, ◌-◌, ◌*◌, ◌%◌, ◌≤◌, Bool, true, false}
 use Rattle.std.proofs.Common.{◌&&◌, sym, ap, ◌∙◌, refl, arith}
 use Rattle.std.specs.Prelude.{◌||◌}
@@ -86,7 +86,7 @@ module _ (R : CommRing) where
 
 -- ---- residues
 
--- reduction modulo a multiple of a modulus, and then modulo it
+-- reduction modulo a multiple K of the modulus, and then modulo the modulus, is reduction modulo it
 module _ (M K : ℕ) (divides : modulus M ∣ K) where
   reduced : (x : ℕ) → mod_class M (x % K) ≡ mod_class M x
   reduced x = mod_same M (x % K) x (mod-mod_of_dvd (modulus M) x divides)

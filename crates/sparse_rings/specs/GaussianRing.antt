@@ -15,7 +15,7 @@ module _ (R : CommRing) where
   abbrev pub gaussian_add : GaussianElement → GaussianElement → GaussianElement
   gaussian_add x y = (R.add x.0 y.0, R.add x.1 y.1)
 
-  -- (a + b i) (c + d i) is (a c - b d) + (a d + b c) i
+  -- (a + b i) (c + d i) = (a c - b d) + (a d + b c) i
   abbrev pub gaussian_mul : GaussianElement → GaussianElement → GaussianElement
   gaussian_mul x y = (
     R.add (R.mul x.0 y.0) (R.neg (R.mul x.1 y.1)),
@@ -33,7 +33,7 @@ module _ (R : CommRing) where
   abbrev pub gaussian_norm : GaussianElement → R.Carrier
   gaussian_norm x = R.add (R.mul x.0 x.0) (R.mul x.1 x.1)
 
-  -- (A - B) + -(C + D) is (A - C) + -(D + B)
+  -- (A - B) + -(C + D) = (A - C) + -(D + B)
   regrouped : (a b c d : R.Carrier)
       → R.add (R.add a (R.neg b)) (R.neg (R.add c d))
       ≡ R.add (R.add a (R.neg c)) (R.neg (R.add d b))

@@ -1,10 +1,10 @@
--- Pairs of ring elements: equality, and the sums that their products leave.
+-- Pairs of ring elements: equality, and identities of the sums a d + b c in their products.
 use Rattle.std.proofs.Common.{◌≡◌, sym, ap, ◌∙◌}
 use Rattle.sparse_algebra.specs.Algebra.{CommRing}
 use Rattle.sparse_algebra.proofs.RingLemmas.{zero_add, add_cross, mul_zero, neg_unique}
 use Rattle.sparse_algebra.proofs.Products.{mul_neg}
 
--- equal parts make equal pairs
+-- pairs with equal parts are equal
 pub same_pair : {A B : Type 0} (x y : A × B) → x.0 ≡ y.0 → x.1 ≡ y.1 → x ≡ y
 same_pair x y p q = λ i. (p i, q i)
 

@@ -19,7 +19,7 @@ use Rattle.sparse_rings.specs.InnerPairs.{same_pair, same_sum}
 use Rattle.sparse_rings.specs.RingValues.{dual_value}
 use Rattle.sparse_rings.specs.declared.dual.Dual.{Dual}
 
--- ---- residues and wrapping integers stand for every element
+-- ---- residues and wrapping integers represent every element
 
 pub mod-is_value : (m : ℕ) (c : Residue (modulus m)) → IsValue (mod_ring m) mod_value c
 mod-is_value m c = (

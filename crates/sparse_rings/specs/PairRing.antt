@@ -1,4 +1,4 @@
--- Two commutative rings at once: pairs, with every operation in each part.
+-- The product of two commutative rings: pairs, with every operation in each part.
 use Rattle.sparse_algebra.specs.Algebra.{RingLaws, CommRing}
 use Rattle.sparse_rings.specs.InnerPairs.{same_pair}
 

@@ -1,5 +1,5 @@
--- What dual numbers, Gaussian numbers and pairs stand for, where f and g say what their parts
--- stand for.
+-- The ring elements that dual numbers, Gaussian numbers and pairs represent; f and g map their parts
+-- to the elements that those represent.
 use Rattle.sparse_rings.specs.declared.dual.Dual.{Dual}
 use Rattle.sparse_rings.specs.declared.gaussian.Gaussian.{Gaussian}
 use Rattle.sparse_rings.specs.declared.pair.Pair.{Pair}

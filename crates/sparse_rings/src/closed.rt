@@ -1,4 +1,4 @@
-//! Rings whose sums and products are known to be values of scalars, for proofs.
+//! Rings whose represented elements are closed under sums and products.
 
 ghost use Rattle.sparse_rings.specs.Closed.{IsValue};
 ghost use Rattle.sparse_rings.specs.InnerPairs.{same_pair};
@@ -9,11 +9,11 @@ use crate::dual::Dual;
 use crate::pair::Pair;
 use sparse_algebra::scalar::{Mod, Ring, W32, W64, W128};
 
-/// A ring in which sums and products of values are values.
+/// A ring in which some scalar represents each sum and each product of elements that scalars represent.
 ///
-/// A contract that says "no scalar is an inverse" speaks of all scalars, also of those that no code has computed. This
-/// trait, which has no functions, says that they are closed under sums and products. `W32`, `W64`, `W128` and `Mod<M>`
-/// are, and so are dual numbers and pairs of scalars that are; `Gaussian<T>` asks it of `T` for its inverses.
+/// The trait has no functions; it only states this fact for proofs. A contract that says "no scalar is an inverse"
+/// speaks of all scalars, also of those that no code computes. `W32`, `W64`, `W128` and `Mod<M>` implement the trait,
+/// and so do dual numbers and pairs of scalars that implement it; `Gaussian<T>` requires it of `T` for its inverses.
 pub trait Closed: Ring {
     ghost sum_law: { (x y : Self)
         → IsValue Self.ring Self.value (Self.ring.add (Self.value x) (Self.value y)) };

@@ -15,11 +15,11 @@ impl<const M: u64, const N: u64> Pair<Mod<M>, Mod<N>> {
         if M == 0 { 1 } else { M }
     }
 
-    /// Returns the number below `M * N` that has these residues, or `None` exactly where the moduli have a common
+    /// Returns the number below `M * N` that has these residues, or `None` if and only if the moduli have a common
     /// divisor other than one.
     ///
-    /// A modulus of 0 is read as 1, as in [`Mod`](sparse_algebra::scalar::Mod). An integer result below `M * N` that is
-    /// computed in both rings is read back by this function, also where it does not fit 64 bits.
+    /// A modulus of 0 is read as 1, as in [`Mod`](sparse_algebra::scalar::Mod). If the result of a computation is an
+    /// integer below `M * N`, this function returns it from the results in both rings, even if it does not fit 64 bits.
     ///
     /// One inverse and one product modulo `N`.
     ///

@@ -7,8 +7,9 @@ use sparse_algebra::scalar::{Ring, Units, Zero};
 
 /// A number and its derivative: `number + derivative * e`, where `e * e` is zero.
 ///
-/// Sums and products of dual numbers differentiate themselves, so a matrix over `Dual<T>` is a matrix with its
-/// derivative. A parameter is a [`Dual::variable`], every other number a [`Dual::constant`].
+/// Sums and products of dual numbers also compute the derivatives of sums and products (forward differentiation), so
+/// a matrix over `Dual<T>` is a matrix with its derivative. A parameter is a [`Dual::variable`], every other number a
+/// [`Dual::constant`].
 ///
 /// # Examples
 ///
@@ -108,7 +109,7 @@ impl<T: Units> Units for Dual<T> {
     ghost use Rattle.sparse_rings.specs.DualRing.{dual_ring};
     ghost use Rattle.sparse_rings.specs.RingValues.{dual_value};
 
-    /// Returns the inverse, or `None` exactly where the number has none, whatever the derivative is.
+    /// Returns the inverse, or `None` if and only if the number has none, whatever the derivative is.
     ///
     /// The derivative of the inverse of `x` is `-x' / (x * x)`.
     fn recip(self) -> Option<Dual<T>>

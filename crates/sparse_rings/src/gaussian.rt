@@ -120,7 +120,7 @@ impl<T: Units + Closed> Units for Gaussian<T> {
     ghost use Rattle.sparse_rings.specs.GaussianRing.{gaussian_ring};
     ghost use Rattle.sparse_rings.specs.RingValues.{gaussian_value};
 
-    /// Returns the inverse, or `None` exactly where the norm has none.
+    /// Returns the inverse, or `None` if and only if the norm has none.
     ///
     /// The inverse is the conjugate times the inverse of the norm.
     fn recip(self) -> Option<Gaussian<T>>

@@ -13,7 +13,7 @@ ghost use Rattle.sparse_rings.specs.PairRing.{pair_ring};
 
 use sparse_algebra::scalar::Ring;
 
-/// Dual numbers without their derivatives compute as the numbers alone, and constants as the numbers that they are.
+/// The map from dual numbers to their numbers is a ring homomorphism, and so is the map from numbers to constants.
 pub fn dual_law<T: Ring>()
     ensures number { IsRingMap (dual_ring T.ring) T.ring (λ x. x.0) }
     ensures constant { IsRingMap T.ring (dual_ring T.ring) (λ a. (a, T.ring.zero)) }
@@ -28,7 +28,7 @@ pub fn product_rule_law<T: Ring>()
         (plain_product T.ring (plain_derivatives T.ring a) (plain_numbers T.ring b)) }
 {}
 
-/// The square of `i` is minus one, real numbers compute as themselves, conjugation preserves every operation, and the
+/// The square of `i` is minus one, the inclusion of the real numbers and conjugation are ring homomorphisms, and the
 /// norm of a product is the product of the norms.
 pub fn gaussian_law<T: Ring>()
     ensures unit { gaussian_mul T.ring (T.ring.zero, T.ring.one) (T.ring.zero, T.ring.one)
@@ -40,7 +40,7 @@ pub fn gaussian_law<T: Ring>()
         ≡ T.ring.mul (gaussian_norm T.ring x) (gaussian_norm T.ring y) }
 {}
 
-/// Each part of a pair computes as the scalar of its ring alone.
+/// The maps from pairs to their first and to their second parts are ring homomorphisms.
 pub fn pair_law<A: Ring, B: Ring>()
     ensures first { IsRingMap (pair_ring A.ring B.ring) A.ring (λ x. x.0) }
     ensures second { IsRingMap (pair_ring A.ring B.ring) B.ring (λ x. x.1) }

@@ -1,4 +1,4 @@
-//! Rings made of rings: dual numbers, Gaussian numbers and pairs.
+//! Rings built from other rings: dual numbers, Gaussian numbers and pairs.
 #![tactic(auto)]
 
 mod closed;

@@ -1,11 +1,12 @@
-//! Pairs: two rings at once.
+//! Pairs of scalars: the product of two rings.
 
 ghost use Rattle.std.specs.Prelude.{◌≡◌, ◌↔◌, IfSome, IsSome};
 ghost use Rattle.sparse_algebra.specs.Inverses.{HasInverse};
 
 use sparse_algebra::scalar::{Ring, Units, Zero};
 
-/// Two scalars at once. Every operation is that of the first and that of the second.
+/// A pair of scalars, an element of the product of two rings. Every operation applies to the first scalars and to the
+/// second scalars.
 ///
 /// # Examples
 ///
@@ -25,7 +26,7 @@ pub struct Pair<A, B> {
 }
 
 impl<A, B> Pair<A, B> {
-    /// Returns the two scalars as one.
+    /// Returns the pair of the two scalars.
     pub fn new(first: A, second: B) -> Pair<A, B>
         ensures first { result.first ≡ first }
         ensures second { result.second ≡ second }
@@ -82,7 +83,7 @@ impl<A: Units, B: Units> Units for Pair<A, B> {
     ghost use Rattle.sparse_rings.specs.PairRing.{pair_ring};
     ghost use Rattle.sparse_rings.specs.RingValues.{pair_value};
 
-    /// Returns the inverse, or `None` exactly where one of the two scalars has none.
+    /// Returns the inverse, or `None` if and only if one of the two scalars has none.
     fn recip(self) -> Option<Pair<A, B>>
         ensures inverse { IfSome result (λ y. (pair_ring A.ring B.ring).mul
             (pair_value A.value B.value self) (pair_value A.value B.value y)

@@ -7,7 +7,7 @@ use Rattle.sparse_pattern.specs.SparseEntries.{entry_name}
 use Rattle.sparse_pattern.specs.declared.entry.SparseEntryMut.{SparseEntryMut}
 use Rattle.sparse_compressed.specs.Compressed.{transposed}
 use Rattle.sparse_compressed.specs.Lanes.{Lane, lane_parts}
-use Rattle.sparse_compressed.specs.Left.{triplets_left, lanes_left, triplet_values, lane_values}
+use Rattle.sparse_compressed.specs.MutIterators.{triplets_left, lanes_left, triplet_values, lane_values}
 use Rattle.sparse_compressed.specs.Writing.{index_in}
 use Rattle.sparse_rows_cols.specs.declared.col_triplets.CscTripletIterMut.{CscTripletIterMut}
 use Rattle.sparse_rows_cols.specs.declared.col_mut.CscColIterMut.{CscColIterMut}
@@ -15,15 +15,15 @@ use Rattle.sparse_rows_cols.specs.declared.col_mut.CscColMut.{CscColMut}
 use Rattle.sparse_rows_cols.specs.contracts.col_mut.CscColMut.{the_row as col_type}
 
 module _ {T : Type 0} where
-  -- the column as a lane
-  abbrev pub lent_col : CscColMut T → Lane T
-  lent_col s = lane_parts s.nrows s.row_indices s.values.now
+  -- the column as a lane, with its values as they are at this time
+  abbrev pub col_as_lane : CscColMut T → Lane T
+  col_as_lane s = lane_parts s.nrows s.row_indices s.values.now
 
   -- the values of the column
   abbrev pub col_values : CscColMut T → MutBor (List T)
   col_values s = s.values
 
-  -- the name of the column's reference, if there is a column
+  -- the ghost name of the borrow of the values, if there is a column
   abbrev pub col_name : Option (CscColMut T) → maybe.Option GName
   col_name = name_if_some (λ s. s.values.ghost_name)
 
@@ -31,11 +31,11 @@ module _ {T : Type 0} where
   abbrev pub col_with_values : CscColMut T → List T → CscColMut T
   col_with_values s ws = record s { values = record s.values { now = ws } }
 
-  -- the column with another value at the position k
+  -- the column with another value at the offset k
   abbrev pub col_with_value_at : CscColMut T → ℕ → T → CscColMut T
   col_with_value_at s k w = col_with_values s (slice_set s.values.now k w)
 
-  -- the column with another value at the stored row j
+  -- the column with another value at the row j, which is stored
   abbrev pub col_with_value : CscColMut T → ℕ → T → CscColMut T
   col_with_value s j w = col_with_value_at s (unwrap_or (index_in s.row_indices j) 0) w
 

@@ -1,4 +1,4 @@
--- What a row is after a borrow from it, as the private functions of `row_mut` say it.
+-- The row after a borrow from it, for the contracts of the private functions of `row_mut`.
 use Rattle.std.specs.Prelude.{ℕ, []}
 use Rattle.std.specs.Borrow.{Lends, follows_if, MutBor, Fml, RattleType}
 use mir.Syntax.{named}

@@ -6,7 +6,7 @@ use mir.Syntax.{named}
 use Rattle.sparse_pattern.specs.SparseEntries.{entry_name}
 use Rattle.sparse_pattern.specs.declared.entry.SparseEntryMut.{SparseEntryMut}
 use Rattle.sparse_compressed.specs.Lanes.{Lane, lane_parts}
-use Rattle.sparse_compressed.specs.Left.{triplets_left, lanes_left, triplet_values, lane_values}
+use Rattle.sparse_compressed.specs.MutIterators.{triplets_left, lanes_left, triplet_values, lane_values}
 use Rattle.sparse_compressed.specs.Writing.{index_in}
 use Rattle.sparse_rows_cols.specs.declared.row_triplets.CsrTripletIterMut.{CsrTripletIterMut}
 use Rattle.sparse_rows_cols.specs.declared.row_mut.CsrRowIterMut.{CsrRowIterMut}
@@ -14,15 +14,15 @@ use Rattle.sparse_rows_cols.specs.declared.row_mut.CsrRowMut.{CsrRowMut}
 use Rattle.sparse_rows_cols.specs.contracts.row_mut.CsrRowMut.{the_row as row_type}
 
 module _ {T : Type 0} where
-  -- the row as a lane
-  abbrev pub lent_row : CsrRowMut T → Lane T
-  lent_row s = lane_parts s.ncols s.col_indices s.values.now
+  -- the row as a lane, with its values as they are at this time
+  abbrev pub row_as_lane : CsrRowMut T → Lane T
+  row_as_lane s = lane_parts s.ncols s.col_indices s.values.now
 
   -- the values of the row
   abbrev pub row_values : CsrRowMut T → MutBor (List T)
   row_values s = s.values
 
-  -- the name of the row's reference, if there is a row
+  -- the ghost name of the borrow of the values, if there is a row
   abbrev pub row_name : Option (CsrRowMut T) → maybe.Option GName
   row_name = name_if_some (λ s. s.values.ghost_name)
 
@@ -30,11 +30,11 @@ module _ {T : Type 0} where
   abbrev pub row_with_values : CsrRowMut T → List T → CsrRowMut T
   row_with_values s ws = record s { values = record s.values { now = ws } }
 
-  -- the row with another value at the position k
+  -- the row with another value at the offset k
   abbrev pub row_with_value_at : CsrRowMut T → ℕ → T → CsrRowMut T
   row_with_value_at s k w = row_with_values s (slice_set s.values.now k w)
 
-  -- the row with another value at the stored column j
+  -- the row with another value at the column j, which is stored
   abbrev pub row_with_value : CsrRowMut T → ℕ → T → CsrRowMut T
   row_with_value s j w = row_with_value_at s (unwrap_or (index_in s.col_indices j) 0) w
 

@@ -4,7 +4,7 @@ ghost use Rattle.std.specs.Prelude.{◌≡◌, ⊤, length};
 ghost use Rattle.std.specs.Iterator.{YieldsFirst, item_count};
 ghost use Rattle.sparse_compressed.specs.Lanes.{IsLaneEntryOf, IsSoundLane};
 
-use sparse_algebra::learn;
+use sparse_algebra::recall;
 use sparse_compressed::{CsLane, CsLaneIter};
 use sparse_pattern::entry::SparseEntry;
 use std::alloc::AllocError;
@@ -44,14 +44,14 @@ impl<'a, T> CscCol<'a, T> {
         self.lane.minor_dim()
     }
 
-    /// Returns the number of stored places in the column, including those whose value is zero.
+    /// Returns the number of entries of the column, including those whose value is zero.
     pub fn nnz(&self) -> usize
         ensures { result ≡ length self.now.indices }
     {
         self.lane.nnz()
     }
 
-    /// Returns the rows of the stored places, strictly increasing.
+    /// Returns the rows of the entries, strictly increasing.
     pub fn row_indices(&self) -> &'a [usize]
         ensures indices { result.now ≡ self.now.indices }
         ensures sound { IsSoundLane self.now }
@@ -59,7 +59,7 @@ impl<'a, T> CscCol<'a, T> {
         self.lane.minor_indices()
     }
 
-    /// Returns the values of the stored places, in the order of their rows.
+    /// Returns the values of the entries, in the order of their rows.
     pub fn values(&self) -> &'a [T]
         ensures values { result.now ≡ self.now.values }
         ensures sound { IsSoundLane self.now }
@@ -67,13 +67,13 @@ impl<'a, T> CscCol<'a, T> {
         self.lane.values()
     }
 
-    /// Returns the entry at a row, or `None` if `row_index` is out of bounds. Binary search.
+    /// Returns the entry at a row, `Zero` if none is stored, or `None` if `row_index` is out of bounds. Binary search.
     pub fn get_entry(&self, row_index: usize) -> Option<SparseEntry<'a, T>>
         ensures entry { IsLaneEntryOf self.now row_index result }
         ensures sound { IsSoundLane self.now }
     {
-        // Shows that the column is sound.
-        learn(self.lane.values());
+        // Tells the prover that the column is sound.
+        recall(self.lane.values());
         self.lane.get_entry(row_index)
     }
 }
@@ -109,7 +109,7 @@ impl<'a, T: Eq> Eq for CscCol<'a, T> {
     ghost laws = { lane_eq-equiv T.Eq.laws };
 }
 
-/// An iterator over the columns of a CSC matrix, including those without stored places.
+/// An iterator over the columns of a CSC matrix, including those without entries.
 #[derive(Drop)]
 pub struct CscColIter<'a, T> {
     lanes: CsLaneIter<'a, T>,

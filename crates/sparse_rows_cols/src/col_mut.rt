@@ -5,10 +5,10 @@ ghost use Rattle.std.specs.Borrow.{sem};
 ghost use Rattle.std.specs.Iterator.{YieldsFirstBy, item_count};
 ghost use Rattle.sparse_compressed.specs.Compressed.{IsSound};
 ghost use Rattle.sparse_compressed.specs.Lanes.{lane_at};
-ghost use Rattle.sparse_compressed.specs.Left.{lanes_left, lane_values, lent_lane};
+ghost use Rattle.sparse_compressed.specs.MutIterators.{lanes_left, lane_values, lane_of_mut};
 ghost use Rattle.sparse_compressed.specs.Writing.{LendsLane, IsLaneFoundAt, IsLaneEntryMutOf};
-ghost use Rattle.sparse_compressed.specs.Writing.{IsLentEntryOf};
-ghost use Rattle.sparse_rows_cols.specs.ColWriting.{lent_col, col_values, LendsColValues};
+ghost use Rattle.sparse_compressed.specs.Writing.{IsMutLaneEntryOf};
+ghost use Rattle.sparse_rows_cols.specs.ColWriting.{col_as_lane, col_values, LendsColValues};
 ghost use Rattle.sparse_rows_cols.specs.ColWriting.{all_col_values, cols_left, LendsColEntry};
 ghost use Rattle.sparse_rows_cols.specs.InnerColWriting.{LendsColAt, LendsColFound};
 
@@ -22,16 +22,16 @@ use std::marker::PhantomData;
 pub struct CscColMut<'a, T> {
     nrows: usize,
     row_indices: LaneIndices<'a>,
-    /// The values of the stored places, in the order of their rows. They are borrowed for as long as the matrix is.
+    /// The values of the entries, in the order of their rows. They are borrowed for as long as the matrix is.
     pub values: &'a mut [T],
-    lent: PhantomData<&'a mut T>,
+    borrow: PhantomData<&'a mut T>,
 }
 
 impl<'a, T> CscColMut<'a, T> {
-    // The lane as a column.
+    // Returns a lane as a column.
     fn new(lane: CsLaneMut<'a, T>) -> Self
         ensures same_reference { (col_values result).ghost_name ≡ lane.entry.values.ghost_name }
-        ensures col { lent_col result ≡ lent_lane lane.entry }
+        ensures col { col_as_lane result ≡ lane_of_mut lane.entry }
     {
         let CsLaneMut {
             minor_dim,
@@ -42,7 +42,7 @@ impl<'a, T> CscColMut<'a, T> {
             nrows: minor_dim,
             row_indices: indices,
             values,
-            lent: PhantomData,
+            borrow: PhantomData,
         }
     }
 
@@ -53,7 +53,7 @@ impl<'a, T> CscColMut<'a, T> {
     pub fn of(cs: &'a mut CsMatrix<T>, index: usize) -> Self
         requires { index < cs.old.pattern.major_dim }
         ensures* writes_back { sem 𝓛 (LendsLane T.row cs.entry index (col_values result)) }
-        ensures col { lent_col result ≡ lane_at cs.old index }
+        ensures col { col_as_lane result ≡ lane_at cs.old index }
         ensures sound { IsSound cs.old }
     {
         CscColMut::new(cs.lane_mut(index))
@@ -61,35 +61,36 @@ impl<'a, T> CscColMut<'a, T> {
 
     /// Returns the number of rows.
     pub fn nrows(&self) -> usize
-        ensures { result ≡ (lent_col self.now).minor_dim }
+        ensures { result ≡ (col_as_lane self.now).minor_dim }
     {
         self.nrows
     }
 
-    /// Returns the number of stored places in the column, including those whose value is zero.
+    /// Returns the number of entries of the column, including those whose value is zero.
     pub fn nnz(&self) -> usize
-        ensures { result ≡ length (lent_col self.now).indices }
+        ensures { result ≡ length (col_as_lane self.now).indices }
     {
         self.row_indices.len()
     }
 
-    /// Returns the rows of the stored places, strictly increasing.
+    /// Returns the rows of the entries, strictly increasing.
     pub fn row_indices(&self) -> &[usize]
-        ensures { result.now ≡ (lent_col self.now).indices }
+        ensures { result.now ≡ (col_as_lane self.now).indices }
     {
         self.row_indices.as_slice()
     }
 
-    /// Returns the values of the stored places, in the order of their rows.
+    /// Returns the values of the entries, in the order of their rows.
     pub fn values(&self) -> &[T]
-        ensures { result.now ≡ (lent_col self.now).values }
+        ensures { result.now ≡ (col_as_lane self.now).values }
     {
         &*self.values
     }
 
-    /// Returns the entry at a row, or `None` if `global_row_index` is out of bounds. Binary search.
+    /// Returns the entry at a row, `Zero` if none is stored, or `None` if `global_row_index` is out of bounds. Binary
+    /// search.
     pub fn get_entry(&self, global_row_index: usize) -> Option<SparseEntry<'_, T>>
-        ensures { IsLentEntryOf (lent_col self.now) global_row_index result }
+        ensures { IsMutLaneEntryOf (col_as_lane self.now) global_row_index result }
     {
         entry_in(
             self.nrows,
@@ -99,44 +100,45 @@ impl<'a, T> CscColMut<'a, T> {
         )
     }
 
-    /// Returns the values of the stored places, borrowed mutably.
+    /// Returns the values of the entries, borrowed mutably.
     pub fn values_mut(&mut self) -> &mut [T]
         ensures* writes_back { sem 𝓛 (LendsColValues T.row self.entry result) }
-        ensures values { result.now ≡ (lent_col self.old).values }
+        ensures values { result.now ≡ (col_as_lane self.old).values }
     {
         &mut *self.values
     }
 
-    /// Returns the rows of the stored places, and their values borrowed mutably.
+    /// Returns the rows of the entries, and their values borrowed mutably.
     pub fn rows_and_values_mut(&mut self) -> (&[usize], &mut [T])
         ensures* writes_back { sem 𝓛 (LendsColValues T.row self.entry result.1) }
-        ensures rows { result.0.now ≡ (lent_col self.old).indices }
-        ensures values { result.1.now ≡ (lent_col self.old).values }
+        ensures rows { result.0.now ≡ (col_as_lane self.old).indices }
+        ensures values { result.1.now ≡ (col_as_lane self.old).values }
     {
         let rows = self.row_indices.as_slice();
         (rows, self.values_mut())
     }
 
-    /// Returns the entry at a row, borrowed mutably, or `None` if `global_row_index` is out of bounds. Binary search.
+    /// Returns the entry at a row, borrowed mutably, `Zero` if none is stored, or `None` if `global_row_index` is out
+    /// of bounds. Binary search.
     pub fn get_entry_mut(&mut self, global_row_index: usize) -> Option<SparseEntryMut<'_, T>>
         ensures* writes_back { sem 𝓛 (LendsColEntry T.row self.entry global_row_index result) }
-        ensures entry { IsLaneEntryMutOf (lent_col self.old) global_row_index result }
+        ensures entry { IsLaneEntryMutOf (col_as_lane self.old) global_row_index result }
     {
         into_entry(self.find_mut(global_row_index))
     }
 
-    // The value at a row, or why there is none.
+    // Returns the value stored at a row, borrowed mutably, or why there is none.
     fn find_mut(&mut self, row: usize) -> Found<'_, T>
         ensures* writes_back { sem 𝓛 (LendsColFound T.row self.entry row result) }
-        ensures found { IsLaneFoundAt (lent_col self.old) row result }
+        ensures found { IsLaneFoundAt (col_as_lane self.old) row result }
     {
         if row >= self.nrows {
             return Found::Nothing(Missing::OutOfBounds);
         }
-        match self.row_indices.position_of(row) {
-            Some(position) => {
-                if position < self.values.len() {
-                    Found::Value(self.at_mut(position))
+        match self.row_indices.offset_of(row) {
+            Some(offset) => {
+                if offset < self.values.len() {
+                    Found::Value(self.at_mut(offset))
                 } else {
                     Found::Nothing(Missing::NotStored)
                 }
@@ -145,18 +147,18 @@ impl<'a, T> CscColMut<'a, T> {
         }
     }
 
-    // The value at a position of the column.
-    fn at_mut(&mut self, position: usize) -> &mut T
-        requires { position < length (lent_col self.old).values }
-        ensures* writes_back { sem 𝓛 (LendsColAt T.row self.entry position result) }
-        ensures value { result.now ≡ slice_index_or (lent_col self.old).values position result.now }
+    // Returns the value at an offset of the column, borrowed mutably. `offset` must be less than the number of
+    // values.
+    fn at_mut(&mut self, offset: usize) -> &mut T
+        requires { offset < length (col_as_lane self.old).values }
+        ensures* writes_back { sem 𝓛 (LendsColAt T.row self.entry offset result) }
+        ensures value { result.now ≡ slice_index_or (col_as_lane self.old).values offset result.now }
     {
-        element_mut(self.values_mut(), position)
+        element_mut(self.values_mut(), offset)
     }
 }
 
-/// An iterator over the columns of a CSC matrix, including those without stored places, that borrows their values
-/// mutably.
+/// An iterator over the columns of a CSC matrix, including those without entries, that borrows their values mutably.
 #[derive(Drop)]
 pub struct CscColIterMut<'a, T> {
     lanes: CsLaneIterMut<'a, T>,
@@ -178,7 +180,7 @@ impl<'a, T> CscColIterMut<'a, T> {
 impl<'a, T> Iterator for CscColIterMut<'a, T> {
     type Item = CscColMut<'a, T>;
 
-    ghost next_gives = { YieldsFirstBy lent_col cols_left };
+    ghost next_gives = { YieldsFirstBy col_as_lane cols_left };
 
     ghost remaining = { item_count cols_left };
 

@@ -3,7 +3,7 @@
 ghost use Rattle.std.specs.Prelude.{◌≡◌, ⊤, map};
 ghost use Rattle.std.specs.Iterator.{YieldsFirst, YieldsFirstBy, item_count};
 ghost use Rattle.sparse_compressed.specs.Compressed.{transposed};
-ghost use Rattle.sparse_compressed.specs.Left.{triplets_left, triplet_values};
+ghost use Rattle.sparse_compressed.specs.MutIterators.{triplets_left, triplet_values};
 ghost use Rattle.sparse_rows_cols.specs.ColWriting.{csc_triplets_left, csc_triplet_values};
 
 use sparse_compressed::{CsTripletIter, CsTripletIterMut, CsTripletValues};

@@ -4,7 +4,7 @@ ghost use Rattle.std.specs.Prelude.{◌≡◌, ⊤, length};
 ghost use Rattle.std.specs.Iterator.{YieldsFirst, item_count};
 ghost use Rattle.sparse_compressed.specs.Lanes.{IsLaneEntryOf, IsSoundLane};
 
-use sparse_algebra::learn;
+use sparse_algebra::recall;
 use sparse_compressed::{CsLane, CsLaneIter};
 use sparse_pattern::entry::SparseEntry;
 use std::alloc::AllocError;
@@ -44,14 +44,14 @@ impl<'a, T> CsrRow<'a, T> {
         self.lane.minor_dim()
     }
 
-    /// Returns the number of stored places in the row, including those whose value is zero.
+    /// Returns the number of entries of the row, including those whose value is zero.
     pub fn nnz(&self) -> usize
         ensures { result ≡ length self.now.indices }
     {
         self.lane.nnz()
     }
 
-    /// Returns the columns of the stored places, strictly increasing.
+    /// Returns the columns of the entries, strictly increasing.
     pub fn col_indices(&self) -> &'a [usize]
         ensures indices { result.now ≡ self.now.indices }
         ensures sound { IsSoundLane self.now }
@@ -59,7 +59,7 @@ impl<'a, T> CsrRow<'a, T> {
         self.lane.minor_indices()
     }
 
-    /// Returns the values of the stored places, in the order of their columns.
+    /// Returns the values of the entries, in the order of their columns.
     pub fn values(&self) -> &'a [T]
         ensures values { result.now ≡ self.now.values }
         ensures sound { IsSoundLane self.now }
@@ -67,13 +67,14 @@ impl<'a, T> CsrRow<'a, T> {
         self.lane.values()
     }
 
-    /// Returns the entry at a column, or `None` if `col_index` is out of bounds. Binary search.
+    /// Returns the entry at a column, `Zero` if none is stored, or `None` if `col_index` is out of bounds. Binary
+    /// search.
     pub fn get_entry(&self, col_index: usize) -> Option<SparseEntry<'a, T>>
         ensures entry { IsLaneEntryOf self.now col_index result }
         ensures sound { IsSoundLane self.now }
     {
-        // Shows that the row is sound.
-        learn(self.lane.values());
+        // Tells the prover that the row is sound.
+        recall(self.lane.values());
         self.lane.get_entry(col_index)
     }
 }
@@ -109,7 +110,7 @@ impl<'a, T: Eq> Eq for CsrRow<'a, T> {
     ghost laws = { lane_eq-equiv T.Eq.laws };
 }
 
-/// An iterator over the rows of a CSR matrix, including those without stored places.
+/// An iterator over the rows of a CSR matrix, including those without entries.
 #[derive(Drop)]
 pub struct CsrRowIter<'a, T> {
     lanes: CsLaneIter<'a, T>,

@@ -5,10 +5,10 @@ ghost use Rattle.std.specs.Borrow.{sem};
 ghost use Rattle.std.specs.Iterator.{YieldsFirstBy, item_count};
 ghost use Rattle.sparse_compressed.specs.Compressed.{IsSound};
 ghost use Rattle.sparse_compressed.specs.Lanes.{lane_at};
-ghost use Rattle.sparse_compressed.specs.Left.{lanes_left, lane_values, lent_lane};
+ghost use Rattle.sparse_compressed.specs.MutIterators.{lanes_left, lane_values, lane_of_mut};
 ghost use Rattle.sparse_compressed.specs.Writing.{LendsLane, IsLaneFoundAt, IsLaneEntryMutOf};
-ghost use Rattle.sparse_compressed.specs.Writing.{IsLentEntryOf};
-ghost use Rattle.sparse_rows_cols.specs.RowWriting.{lent_row, row_values, LendsRowValues};
+ghost use Rattle.sparse_compressed.specs.Writing.{IsMutLaneEntryOf};
+ghost use Rattle.sparse_rows_cols.specs.RowWriting.{row_as_lane, row_values, LendsRowValues};
 ghost use Rattle.sparse_rows_cols.specs.RowWriting.{all_row_values, rows_left, LendsRowEntry};
 ghost use Rattle.sparse_rows_cols.specs.InnerRowWriting.{LendsRowAt, LendsRowFound};
 
@@ -22,16 +22,16 @@ use std::marker::PhantomData;
 pub struct CsrRowMut<'a, T> {
     ncols: usize,
     col_indices: LaneIndices<'a>,
-    /// The values of the stored places, in the order of their columns. They are borrowed for as long as the matrix is.
+    /// The values of the entries, in the order of their columns. They are borrowed for as long as the matrix is.
     pub values: &'a mut [T],
-    lent: PhantomData<&'a mut T>,
+    borrow: PhantomData<&'a mut T>,
 }
 
 impl<'a, T> CsrRowMut<'a, T> {
-    // The lane as a row.
+    // Returns a lane as a row.
     fn new(lane: CsLaneMut<'a, T>) -> Self
         ensures same_reference { (row_values result).ghost_name ≡ lane.entry.values.ghost_name }
-        ensures row { lent_row result ≡ lent_lane lane.entry }
+        ensures row { row_as_lane result ≡ lane_of_mut lane.entry }
     {
         let CsLaneMut {
             minor_dim,
@@ -42,7 +42,7 @@ impl<'a, T> CsrRowMut<'a, T> {
             ncols: minor_dim,
             col_indices: indices,
             values,
-            lent: PhantomData,
+            borrow: PhantomData,
         }
     }
 
@@ -53,7 +53,7 @@ impl<'a, T> CsrRowMut<'a, T> {
     pub fn of(cs: &'a mut CsMatrix<T>, index: usize) -> Self
         requires { index < cs.old.pattern.major_dim }
         ensures* writes_back { sem 𝓛 (LendsLane T.row cs.entry index (row_values result)) }
-        ensures row { lent_row result ≡ lane_at cs.old index }
+        ensures row { row_as_lane result ≡ lane_at cs.old index }
         ensures sound { IsSound cs.old }
     {
         CsrRowMut::new(cs.lane_mut(index))
@@ -61,35 +61,36 @@ impl<'a, T> CsrRowMut<'a, T> {
 
     /// Returns the number of columns.
     pub fn ncols(&self) -> usize
-        ensures { result ≡ (lent_row self.now).minor_dim }
+        ensures { result ≡ (row_as_lane self.now).minor_dim }
     {
         self.ncols
     }
 
-    /// Returns the number of stored places in the row, including those whose value is zero.
+    /// Returns the number of entries of the row, including those whose value is zero.
     pub fn nnz(&self) -> usize
-        ensures { result ≡ length (lent_row self.now).indices }
+        ensures { result ≡ length (row_as_lane self.now).indices }
     {
         self.col_indices.len()
     }
 
-    /// Returns the columns of the stored places, strictly increasing.
+    /// Returns the columns of the entries, strictly increasing.
     pub fn col_indices(&self) -> &[usize]
-        ensures { result.now ≡ (lent_row self.now).indices }
+        ensures { result.now ≡ (row_as_lane self.now).indices }
     {
         self.col_indices.as_slice()
     }
 
-    /// Returns the values of the stored places, in the order of their columns.
+    /// Returns the values of the entries, in the order of their columns.
     pub fn values(&self) -> &[T]
-        ensures { result.now ≡ (lent_row self.now).values }
+        ensures { result.now ≡ (row_as_lane self.now).values }
     {
         &*self.values
     }
 
-    /// Returns the entry at a column, or `None` if `global_col_index` is out of bounds. Binary search.
+    /// Returns the entry at a column, `Zero` if none is stored, or `None` if `global_col_index` is out of bounds.
+    /// Binary search.
     pub fn get_entry(&self, global_col_index: usize) -> Option<SparseEntry<'_, T>>
-        ensures { IsLentEntryOf (lent_row self.now) global_col_index result }
+        ensures { IsMutLaneEntryOf (row_as_lane self.now) global_col_index result }
     {
         entry_in(
             self.ncols,
@@ -99,45 +100,45 @@ impl<'a, T> CsrRowMut<'a, T> {
         )
     }
 
-    /// Returns the values of the stored places, borrowed mutably.
+    /// Returns the values of the entries, borrowed mutably.
     pub fn values_mut(&mut self) -> &mut [T]
         ensures* writes_back { sem 𝓛 (LendsRowValues T.row self.entry result) }
-        ensures values { result.now ≡ (lent_row self.old).values }
+        ensures values { result.now ≡ (row_as_lane self.old).values }
     {
         &mut *self.values
     }
 
-    /// Returns the columns of the stored places, and their values borrowed mutably.
+    /// Returns the columns of the entries, and their values borrowed mutably.
     pub fn cols_and_values_mut(&mut self) -> (&[usize], &mut [T])
         ensures* writes_back { sem 𝓛 (LendsRowValues T.row self.entry result.1) }
-        ensures cols { result.0.now ≡ (lent_row self.old).indices }
-        ensures values { result.1.now ≡ (lent_row self.old).values }
+        ensures cols { result.0.now ≡ (row_as_lane self.old).indices }
+        ensures values { result.1.now ≡ (row_as_lane self.old).values }
     {
         let cols = self.col_indices.as_slice();
         (cols, self.values_mut())
     }
 
-    /// Returns the entry at a column, borrowed mutably, or `None` if `global_col_index` is out of bounds. Binary
-    /// search.
+    /// Returns the entry at a column, borrowed mutably, `Zero` if none is stored, or `None` if `global_col_index` is
+    /// out of bounds. Binary search.
     pub fn get_entry_mut(&mut self, global_col_index: usize) -> Option<SparseEntryMut<'_, T>>
         ensures* writes_back { sem 𝓛 (LendsRowEntry T.row self.entry global_col_index result) }
-        ensures entry { IsLaneEntryMutOf (lent_row self.old) global_col_index result }
+        ensures entry { IsLaneEntryMutOf (row_as_lane self.old) global_col_index result }
     {
         into_entry(self.find_mut(global_col_index))
     }
 
-    // The value at a column, or why there is none.
+    // Returns the value stored at a column, borrowed mutably, or why there is none.
     fn find_mut(&mut self, col: usize) -> Found<'_, T>
         ensures* writes_back { sem 𝓛 (LendsRowFound T.row self.entry col result) }
-        ensures found { IsLaneFoundAt (lent_row self.old) col result }
+        ensures found { IsLaneFoundAt (row_as_lane self.old) col result }
     {
         if col >= self.ncols {
             return Found::Nothing(Missing::OutOfBounds);
         }
-        match self.col_indices.position_of(col) {
-            Some(position) => {
-                if position < self.values.len() {
-                    Found::Value(self.at_mut(position))
+        match self.col_indices.offset_of(col) {
+            Some(offset) => {
+                if offset < self.values.len() {
+                    Found::Value(self.at_mut(offset))
                 } else {
                     Found::Nothing(Missing::NotStored)
                 }
@@ -146,17 +147,17 @@ impl<'a, T> CsrRowMut<'a, T> {
         }
     }
 
-    // The value at a position of the row.
-    fn at_mut(&mut self, position: usize) -> &mut T
-        requires { position < length (lent_row self.old).values }
-        ensures* writes_back { sem 𝓛 (LendsRowAt T.row self.entry position result) }
-        ensures value { result.now ≡ slice_index_or (lent_row self.old).values position result.now }
+    // Returns the value at an offset of the row, borrowed mutably. `offset` must be less than the number of values.
+    fn at_mut(&mut self, offset: usize) -> &mut T
+        requires { offset < length (row_as_lane self.old).values }
+        ensures* writes_back { sem 𝓛 (LendsRowAt T.row self.entry offset result) }
+        ensures value { result.now ≡ slice_index_or (row_as_lane self.old).values offset result.now }
     {
-        element_mut(self.values_mut(), position)
+        element_mut(self.values_mut(), offset)
     }
 }
 
-/// An iterator over the rows of a CSR matrix, including those without stored places, that borrows their values mutably.
+/// An iterator over the rows of a CSR matrix, including those without entries, that borrows their values mutably.
 #[derive(Drop)]
 pub struct CsrRowIterMut<'a, T> {
     lanes: CsLaneIterMut<'a, T>,
@@ -178,7 +179,7 @@ impl<'a, T> CsrRowIterMut<'a, T> {
 impl<'a, T> Iterator for CsrRowIterMut<'a, T> {
     type Item = CsrRowMut<'a, T>;
 
-    ghost next_gives = { YieldsFirstBy lent_row rows_left };
+    ghost next_gives = { YieldsFirstBy row_as_lane rows_left };
 
     ghost remaining = { item_count rows_left };
 

@@ -2,7 +2,7 @@
 
 ghost use Rattle.std.specs.Prelude.{◌≡◌, ⊤};
 ghost use Rattle.std.specs.Iterator.{YieldsFirst, YieldsFirstBy, item_count};
-ghost use Rattle.sparse_compressed.specs.Left.{triplets_left, triplet_values};
+ghost use Rattle.sparse_compressed.specs.MutIterators.{triplets_left, triplet_values};
 ghost use Rattle.sparse_rows_cols.specs.RowWriting.{csr_triplets_left, csr_triplet_values};
 
 use sparse_compressed::{CsTripletIter, CsTripletIterMut, CsTripletValues};

@@ -1,4 +1,4 @@
--- Two lanes of entries that are added while their indices are merged.
+-- The values of two lanes whose indices are merged: each entry appended adds its value to the sum at its index.
 use Rattle.std.proofs.Common.{◌≡◌, ℕ, ◌+◌, ◌<◌, ◌≤◌, ◌⊎◌, Bool, true, false, List, []}
 use Rattle.std.proofs.Common.{◌∷◌, ◌++◌, length, get_or, map, take, drop, Contains, length-append}
 use Rattle.std.proofs.Common.{append_assoc, ap, sym, ◌∙◌, refl, arith}
@@ -9,14 +9,14 @@ use Rattle.std.proofs.lemmas.List.{length-take-le, length-drop, take-append-drop
 use Rattle.sparse_algebra.specs.Algebra.{CommRing}
 use Rattle.sparse_algebra.specs.Sums.{sum_by, where_true}
 use Rattle.sparse_algebra.proofs.RingLemmas.{zero_add, add_cross}
-use Rattle.sparse_compressed.specs.InnerRows.{lane_value}
-use Rattle.sparse_compressed.proofs.RowSums.{sum_zip_more}
+use Rattle.sparse_compressed.specs.InnerLaneValue.{lane_value}
+use Rattle.sparse_compressed.proofs.AddedLanes.{sum_zip_more}
 use Rattle.sparse_sums.specs.InnerMerging.{IsMerged}
 use Rattle.sparse_sums.specs.InnerAdding.{GainsValues, GainsEntries, IsAdding}
 use Rattle.sparse_sums.proofs.Merging.{merging_first, merging_second, merging_both, none_merged}
 use Rattle.sparse_sums.proofs.Merging.{rest_merged, with_index}
 
--- a sum where a test holds
+-- where_true of a sum is the sum of where_true of both terms
 where_add : (R : CommRing) (b : Bool) (x y : R.Carrier)
     → where_true R b (R.add x y) ≡ R.add (where_true R b x) (where_true R b y)
 where_add R true x y = refl
@@ -27,7 +27,7 @@ where_zero R true = refl
 where_zero R false = refl
 
 module _ (R : CommRing) {T : Type 0} where
-  -- the sum over pairs of two parts
+  -- a sum over the pairs of two concatenated lists is the sum over both
   pub sum_zip-append : (g : ℕ × T → R.Carrier) (ks ls : List ℕ) (us vs : List T)
       → length us ≡ length ks
       → sum_by R g (zip (ks ++ ls) (us ++ vs)) ≡ R.add (sum_by R g (zip ks us))
@@ -50,7 +50,7 @@ module _ (R : CommRing) {T : Type 0} where
         → lane_value R f (k ∷ []) (v ∷ []) j ≡ where_true R (nat_eq k j) (f v)
     lane_value_one k j v = R.laws.add_zero _
 
-    -- one entry of a lane more
+    -- the value at j in a prefix of a lane that is longer by the entry (k, v)
     pub lane_value_more : (ks : List ℕ) (vs : List T) (n k j : ℕ) (v : T) → n < length ks
         → length vs ≡ length ks → k ≡ get_or ks n 0 → v ≡ get_or vs n v
         → lane_value R f (take (n + 1) ks) (take (n + 1) vs) j ≡ R.add
@@ -59,7 +59,7 @@ module _ (R : CommRing) {T : Type 0} where
         sum_zip_more R (λ t. where_true R (nat_eq t.0 j) (f t.1)) ks vs n k v lt (omega arith)
         (is ∙ get_or_default ks n 0 k lt) is'
 
-    -- the values of a lane in two parts
+    -- the value at j in a lane is the sum of those in a prefix and in the rest
     pub lane_value_parts : (ks : List ℕ) (vs : List T) (n j : ℕ) → length vs ≡ length ks
         → n ≤ length ks
         → lane_value R f ks vs j ≡ R.add (lane_value R f (take n ks) (take n vs) j)
@@ -70,7 +70,7 @@ module _ (R : CommRing) {T : Type 0} where
         ∙ lane_value-append (take n ks) (drop n ks) (take n vs) (drop n vs) j
         (length-take-le n vs (omega arith) ∙ sym (length-take-le n ks le))
 
-  -- values that mean the same give the same sums
+  -- lanes with the same indices, whose values represent the same elements, have the same value at j
   pub lane_value-same : (f g : T → R.Carrier) (ks : List ℕ) (us vs : List T) (j : ℕ)
       → map f us ≡ map g vs
       → lane_value R f ks us j ≡ lane_value R g ks vs j
@@ -98,7 +98,7 @@ module _ (R : CommRing) {T : Type 0} (f g : T → R.Carrier) (old : List ℕ) (u
   module _ (now : List ℕ) (ws : List T) (p q : ℕ) (ra : IsStrictlyIncreasing a)
       (rb : IsStrictlyIncreasing b) (ca : length av ≡ length a) (cb : length bv ≡ length b)
       (m : IsAdding R f g old now us ws a av b bv p q) (x : ℕ) (v : T) where
-    -- what the entry (x, c) adds to the value at j
+    -- the value that an entry with index x and element c adds at j
     abbrev at : ℕ → R.Carrier → R.Carrier
     at j c = where_true R (nat_eq x j) c
 
@@ -108,7 +108,7 @@ module _ (R : CommRing) {T : Type 0} (f g : T → R.Carrier) (old : List ℕ) (u
     abbrev B : ℕ → ℕ → R.Carrier
     B q j = lane_value R g (take q b) (take q bv) j
 
-    -- the entry (x, v), where v means c of the first lane and d of the second
+    -- appending (x, v), where v represents the sum of c, from the first lane, and d, from the second
     adding_more : {p' q' : ℕ} → IsMerged a b p' q' (m.indices.lane ++ x ∷ [])
         → {c d : R.Carrier} → f v ≡ R.add c d → ((j : ℕ) → A p' j ≡ R.add (A p j) (at j c))
         → ((j : ℕ) → B q' j ≡ R.add (B q j) (at j d))
@@ -128,7 +128,7 @@ module _ (R : CommRing) {T : Type 0} (f g : T → R.Carrier) (old : List ℕ) (u
           ∙ ap (R.add (A p' j)) (sym (more_b j));
     }
 
-    -- no entry of a lane
+    -- a lane without an entry at x adds zero
     none_more : (j : ℕ) (s : R.Carrier) → s ≡ R.add s (at j R.zero)
     none_more j s = sym (ap (R.add s) (where_zero R (nat_eq x j)) ∙ R.laws.add_zero s)
 
@@ -155,7 +155,7 @@ module _ (R : CommRing) {T : Type 0} (f g : T → R.Carrier) (old : List ℕ) (u
         (λ j. lane_value_more R f a av p x j s lt ca is read)
         (λ j. lane_value_more R g b bv q x j t lt' cb is' read')
 
--- ---- what is left of both lanes, one of which is traversed
+-- ---- the rest of the lane that has not ended
 
 rest_count : {R : CommRing} {T : Type 0} {f g : T → R.Carrier} {old new : List T} (ks : List ℕ)
     (vs : List T) (n : ℕ) (gains : GainsValues R f g old new (drop n vs))

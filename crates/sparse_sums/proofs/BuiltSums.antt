@@ -1,4 +1,4 @@
--- A matrix that is built lane after lane, of entries that are gained.
+-- Matrices that are built lane by lane, by appending the entries of each lane (`GainsEntries`).
 use Rattle.std.proofs.Common.{◌≡◌, ℕ, ◌+◌, ◌<◌, ◌↔◌, List, [], ◌∷◌, ◌++◌, length, length-append}
 use Rattle.std.proofs.Common.{Contains, ap, ◌∙◌, refl, arith}
 use Rattle.sparse_algebra.specs.Algebra.{CommRing}
@@ -6,7 +6,7 @@ use Rattle.sparse_compressed.proofs.BuiltMatrices.{IsBuiltMatrix, matrix_lane_bu
 use Rattle.sparse_sums.specs.InnerAdding.{GainsEntries}
 
 module _ {R : CommRing} {T : Type 0} {f : T → R.Carrier} where
-  -- as many values as indices are gained
+  -- lists with as many values as indices still have so after they gain entries
   pub gained_count : {old new : List ℕ} {us ws : List T} {P : ℕ → Type 0} {V : ℕ → R.Carrier}
       → length us ≡ length old → GainsEntries R f old new us ws P V → length ws ≡ length new
   gained_count {old} {us = us} count gains = omega (
@@ -19,7 +19,7 @@ module _ {R : CommRing} {T : Type 0} {f : T → R.Carrier} where
   )
 
   module _ {m : ℕ} {P : ℕ → ℕ → Type 0} {V : ℕ → ℕ → R.Carrier} where
-    -- no lanes have no places
+    -- empty arrays are those of the first 0 lanes
     pub none_built : IsBuiltMatrix R f m P V 0 (0 ∷ []) [] []
     none_built = record {
       built = record {
@@ -35,7 +35,7 @@ module _ {R : CommRing} {T : Type 0} {f : T → R.Carrier} where
       values_are = λ i j lt. absurd (omega arith);
     }
 
-    -- the entries of a lane more
+    -- appending the entries of lane n to the first n lanes gives the first n + 1
     pub entries_built : {n : ℕ} {offsets offsets' indices indices' : List ℕ}
         {values values' : List T} → IsBuiltMatrix R f m P V n offsets indices values
         → {P' : ℕ → Type 0} {V' : ℕ → R.Carrier}

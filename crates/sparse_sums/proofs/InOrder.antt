@@ -1,4 +1,4 @@
--- A lane that is traversed beside a target lane that has its indices.
+-- One pass over a sorted target lane that finds each index of a sorted lane.
 use Rattle.std.proofs.Common.{◌≡◌, ◌≢◌, ℕ, ◌+◌, ◌<◌, ◌≤◌, ◌⊎◌, inl, inr, ◌↔◌, List, length}
 use Rattle.std.proofs.Common.{get_or, set, take, Contains, ap, sym, subst, ◌∙◌, refl, arith}
 use Rattle.std.specs.Prelude.{nat_eq}
@@ -11,42 +11,42 @@ use Rattle.sparse_algebra.proofs.Cases.{lt_or_ge, nat_eq_no}
 use Rattle.sparse_algebra.specs.Algebra.{CommRing}
 use Rattle.sparse_algebra.specs.Sums.{where_true}
 use Rattle.sparse_algebra.proofs.RingLemmas.{mul_zero}
-use Rattle.sparse_pattern.specs.Raw.{Raw, IsValid, IsPlace, start_of, lane_of}
+use Rattle.sparse_pattern.specs.Raw.{Raw, IsValid, IsEntry, start_of, lane_of}
 use Rattle.sparse_pattern.proofs.LaneLists.{lane_has}
 use Rattle.sparse_pattern.proofs.PatternLanes.{length-lane}
 use Rattle.sparse_compressed.specs.Compressed.{Compressed, IsSound}
-use Rattle.sparse_compressed.specs.InnerRows.{lane_value}
+use Rattle.sparse_compressed.specs.InnerLaneValue.{lane_value}
 use Rattle.sparse_compressed.specs.PlainOfLanes.{plain_of_rows}
 use Rattle.sparse_algebra.proofs.SumLemmas.{where_no}
 use Rattle.sparse_compressed.proofs.LaneValues.{values_of, lane_value_is}
-use Rattle.sparse_compressed.proofs.RowSums.{eq_refl}
-use Rattle.sparse_sums.specs.InnerPlacing.{HasIndicesOf}
+use Rattle.sparse_compressed.proofs.AddedLanes.{eq_refl}
+use Rattle.sparse_sums.specs.InnerTargets.{HasIndicesOf}
 use Rattle.sparse_sums.proofs.Adding.{lane_value_more}
-use Rattle.sparse_sums.proofs.Merging.{more, front_less}
-use Rattle.sparse_sums.proofs.UpdatedLanes.{HasUpdatedLanes, lanes_more, at_position, off_lane}
+use Rattle.sparse_sums.proofs.Merging.{more, less_than_next}
+use Rattle.sparse_sums.proofs.UpdatedLanes.{HasUpdatedLanes, lanes_more, at_offset, off_lane}
 
--- the first k indices of the lane are among the first p of the target, and the next one is not
-pub record IsPassed (target lane : List ℕ) (p k : ℕ) : Type 0 where
+-- after p indices of the target, the first k indices of the lane are found, and the next one is not among those p
+pub record IsFoundPrefix (target lane : List ℕ) (p k : ℕ) : Type 0 where
   pub most : k ≤ length lane
   pub passed : (j : ℕ) → Contains (take k lane) j → Contains (take p target) j
   pub missed : k < length lane → Contains (take p target) (get_or lane k 0) → ⊥
 
-pub none_passed : {target lane : List ℕ} → IsPassed target lane 0 0
-none_passed = record {
+pub none_found : {target lane : List ℕ} → IsFoundPrefix target lane 0 0
+none_found = record {
   most = omega arith;
   passed = λ j h. absurd (omega (arith, h.1));
   missed = λ _ h. absurd (omega (arith, h.1));
 }
 
-module _ {target lane : List ℕ} {p k : ℕ} (so_far : IsPassed target lane p k)
+module _ {target lane : List ℕ} {p k : ℕ} (so_far : IsFoundPrefix target lane p k)
     (lt : p < length target) where
   front : (j : ℕ)
       → Contains (take (p + 1) target) j ↔ (Contains (take p target) j ⊎ (get_or target p 0 ≡ j))
   front j = more target p (get_or target p 0) j lt refl
 
-  pub passed_hit : IsStrictlyIncreasing target → IsStrictlyIncreasing lane → k < length lane
-      → get_or target p 0 ≡ get_or lane k 0 → IsPassed target lane (p + 1) (k + 1)
-  passed_hit rt rl k_lt same = record {
+  pub found_hit : IsStrictlyIncreasing target → IsStrictlyIncreasing lane → k < length lane
+      → get_or target p 0 ≡ get_or lane k 0 → IsFoundPrefix target lane (p + 1) (k + 1)
+  found_hit rt rl k_lt same = record {
     most = omega arith;
     passed = λ j h. grind (
       arith,
@@ -56,24 +56,24 @@ module _ {target lane : List ℕ} {p k : ℕ} (so_far : IsPassed target lane p k
       h,
     );
     missed = λ left h. elim ((front (get_or lane (k + 1) 0)).0 h) [
-      | inl before ↦ omega (arith, front_less target p _ rt lt before, rl k left, same)
+      | inl before ↦ omega (arith, less_than_next target p _ rt lt before, rl k left, same)
       | inr here ↦ omega (arith, rl k left, same, here)
     ];
   }
 
-  pub passed_miss : (k < length lane → get_or target p 0 ≡ get_or lane k 0 → ⊥)
-      → IsPassed target lane (p + 1) k
-  passed_miss differs = record {
+  pub found_miss : (k < length lane → get_or target p 0 ≡ get_or lane k 0 → ⊥)
+      → IsFoundPrefix target lane (p + 1) k
+  found_miss differs = record {
     most = so_far.most;
     passed = λ j h. (front j).1 (inl (so_far.passed j h));
     missed = λ left h. elim ((front (get_or lane k 0)).0 h)
         [ inl old ↦ so_far.missed left old | inr is ↦ differs left is ];
   }
 
--- at the end all are passed if the target has them all
-pub all_passed : {target lane : List ℕ} {p k : ℕ} → IsPassed target lane p k → p ≡ length target
+-- at the end of the target all indices of the lane are found if and only if the target has them all
+pub all_found : {target lane : List ℕ} {p k : ℕ} → IsFoundPrefix target lane p k → p ≡ length target
     → (k ≡ length lane) ↔ HasIndicesOf target lane
-all_passed {target} {lane} {p} {k} end whole =
+all_found {target} {lane} {p} {k} end whole =
     let all : take p target ≡ target = take_all p target (omega arith) in (
       λ every j h. subst (λ l. Contains l j) all
           (end.passed j (subst (λ l. Contains l j) (sym (take_all k lane (omega arith))) h)),
@@ -84,14 +84,14 @@ all_passed {target} {lane} {p} {k} end whole =
       ],
     )
 
--- ---- values that are added beside it
+-- ---- adding the values of the lane
 
--- the values while the first k entries of the lane are added
+-- the values of the target after p of its indices and k entries of the lane, which begin at the offset start
 pub record IsAddingLane (R : CommRing) {T : Type 0} (f : T → R.Carrier) (z : T)
     (alpha : R.Carrier) (target lane : List ℕ) (us : List T) (start : ℕ) (old now : List T)
     (p k : ℕ) : Type 0 where
   pub count : length now ≡ length old
-  pub passed : IsPassed target lane p k
+  pub passed : IsFoundPrefix target lane p k
   pub sums : (m : ℕ) → m < length target
       → f (get_or now (start + m) z) ≡ R.add (f (get_or old (start + m) z))
       (R.mul alpha (lane_value R f (take k lane) (take k us) (get_or target m 0)))
@@ -102,7 +102,7 @@ module _ {R : CommRing} {T : Type 0} {f : T → R.Carrier} {z : T} {alpha : R.Ca
   pub none_added : IsAddingLane R f z alpha target lane us start old old 0 0
   none_added = record {
     count = refl;
-    passed = none_passed;
+    passed = none_found;
     sums = λ m lt. sym (R.laws.add_zero _) ∙ ap (R.add (f (get_or old (start + m) z)))
         (sym (mul_zero R alpha));
     kept = λ x out. refl;
@@ -115,7 +115,7 @@ module _ {R : CommRing} {T : Type 0} {f : T → R.Carrier} {z : T} {alpha : R.Ca
         → IsAddingLane R f z alpha target lane us start old now (p + 1) k
     adding_miss differs = record {
       count = so_far.count;
-      passed = passed_miss so_far.passed lt differs;
+      passed = found_miss so_far.passed lt differs;
       sums = so_far.sums;
       kept = so_far.kept;
     }
@@ -153,7 +153,7 @@ module _ {R : CommRing} {T : Type 0} {f : T → R.Carrier} {z : T} {alpha : R.Ca
           (p + 1) (k + 1)
       adding_hit = record {
         count = length-set now (start + p) w ∙ so_far.count;
-        passed = passed_hit so_far.passed lt rt rl k_lt same;
+        passed = found_hit so_far.passed lt rt rl k_lt same;
         sums = λ m m_lt. elim (cases_eq m p) [
           | inl is ↦
               let was = f (get_or old (start + p) z) in
@@ -179,10 +179,10 @@ module _ {R : CommRing} {T : Type 0} {f : T → R.Carrier} {z : T} {alpha : R.Ca
 
 -- ---- all lanes
 
--- a lane has the indices of another where it has its places
+-- lane i of d has the indices of lane i of a if and only if d has an entry wherever a has one in lane i
 pub lane_covered : (d a : Raw) → IsValid d → IsValid a → a.major_dim ≡ d.major_dim → (i : ℕ)
     → i < a.major_dim
-    → HasIndicesOf (lane_of d i) (lane_of a i) ↔ ((j : ℕ) → IsPlace a i j → IsPlace d i j)
+    → HasIndicesOf (lane_of d i) (lane_of a i) ↔ ((j : ℕ) → IsEntry a i j → IsEntry d i j)
 lane_covered d a vd va lanes i lt =
     let here = λ (j : ℕ). lane_has a va i j lt in
     let there = λ (j : ℕ). lane_has d vd i j (omega arith) in (
@@ -209,7 +209,7 @@ added_more {R} {f = f} {z} {d} a {alpha} {old} {now} {n} so_far vd sa lanes lt n
       | inr past ↦ inr (omega (arith, length-lane d n valid, valid.ordered, past))
     ]))
     (λ j p at.
-    let q = at_position d n j p valid at in
+    let q = at_offset d n j p valid at in
     rw q.back at (added _ q.within)
     ∙ ap (λ c. R.add (f (get_or now p z)) (R.mul alpha c))
     (ap (lane_value R f (lane_of a.pattern n) (values_of a n)) q.index

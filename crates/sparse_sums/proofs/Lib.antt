@@ -4,9 +4,8 @@ mod UnionLanes
 pub mod Adding
 pub mod BuiltSums
 pub mod SumLanes
-pub mod Placing
+pub mod TargetLookups
 pub mod UpdatedLanes
 mod InOrder
 pub mod Updating
 mod Sampling
-mod Refusals

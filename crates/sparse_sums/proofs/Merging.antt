@@ -1,4 +1,4 @@
--- Two rising lists of indices that are merged: each step appends the least index that is left.
+-- The merge of two strictly increasing lists of indices: each step appends the least index that is left.
 use Rattle.std.proofs.Common.{◌≡◌, ℕ, ◌+◌, ◌<◌, ◌≤◌, ◌⊎◌, inl, inr, ◌↔◌, List, []}
 use Rattle.std.proofs.Common.{◌∷◌, ◌++◌, length, get_or, take, drop, Contains, append_assoc}
 use Rattle.std.proofs.Common.{ap, sym, subst, ◌∙◌, refl, arith, length-drop}
@@ -23,7 +23,7 @@ pushed_has xs x j = (
   ],
 )
 
--- one element more of a prefix
+-- the elements of a prefix that is longer by one
 pub more : (xs : List ℕ) (p x j : ℕ) → p < length xs → x ≡ get_or xs p 0
     → Contains (take (p + 1) xs) j ↔ (Contains (take p xs) j ⊎ (x ≡ j))
 more xs p x j lt is =
@@ -31,10 +31,10 @@ more xs p x j lt is =
     ∙ ap (λ y. take p xs ++ y ∷ []) (sym is) in
     rw e (pushed_has (take p xs) x j)
 
--- an element of a rising list is greater than those before it
-pub front_less : (xs : List ℕ) (p j : ℕ) → IsStrictlyIncreasing xs → p < length xs
+-- the element at p of a strictly increasing list is greater than those before it
+pub less_than_next : (xs : List ℕ) (p j : ℕ) → IsStrictlyIncreasing xs → p < length xs
     → Contains (take p xs) j → j < get_or xs p 0
-front_less xs p j rising lt h =
+less_than_next xs p j rising lt h =
     let before : h.0 < p = omega (arith, h.1, length-take-le p xs (omega arith)) in
     let is : get_or xs h.0 0 ≡ j = get_or_default xs h.0 0 j (omega arith)
     ∙ sym (get_or-take p xs h.0 j before) ∙ h.2 in
@@ -42,31 +42,32 @@ front_less xs p j rising lt h =
 
 -- ---- a step
 
--- the index x is passed in a list, from position p to p': it is the one at p, or comes before it
-pub record IsPassing (xs : List ℕ) (x p p' : ℕ) : Type 0 where
+-- a step of the merge in one of the lists, from p to p': either x is its element at p, and p' = p + 1, or x is less and
+-- p' = p
+pub record IsMergeStep (xs : List ℕ) (x p p' : ℕ) : Type 0 where
   pub has : (j : ℕ) → Contains (take p' xs) j → Contains (take p xs) j ⊎ (x ≡ j)
   pub kept : (j : ℕ) → Contains (take p xs) j → Contains (take p' xs) j
   pub later : p' < length xs → x < get_or xs p' 0
 
-pub passing_at : (xs : List ℕ) (x p : ℕ) → IsStrictlyIncreasing xs → p < length xs
-    → x ≡ get_or xs p 0 → IsPassing xs x p (p + 1)
-passing_at xs x p rising lt is = record {
+pub merge_step-at : (xs : List ℕ) (x p : ℕ) → IsStrictlyIncreasing xs → p < length xs
+    → x ≡ get_or xs p 0 → IsMergeStep xs x p (p + 1)
+merge_step-at xs x p rising lt is = record {
   has = λ j. (more xs p x j lt is).0;
   kept = λ j h. (more xs p x j lt is).1 (inl h);
   later = λ left. omega (arith, rising p left, is);
 }
 
-pub passing_before : (xs : List ℕ) (x p : ℕ) → (p < length xs → x < get_or xs p 0)
-    → IsPassing xs x p p
-passing_before xs x p before = record {
+pub merge_step-before : (xs : List ℕ) (x p : ℕ) → (p < length xs → x < get_or xs p 0)
+    → IsMergeStep xs x p p
+merge_step-before xs x p before = record {
   has = λ j h. inl h;
   kept = λ j h. h;
   later = before;
 }
 
 module _ {a b : List ℕ} {p q p' q' : ℕ} {lane : List ℕ} {x : ℕ} (m : IsMerged a b p q lane)
-    (in_a : IsPassing a x p p') (in_b : IsPassing b x q q') where
-  -- x is the next of a list, and comes before what is left of both
+    (in_a : IsMergeStep a x p p') (in_b : IsMergeStep b x q q') where
+  -- appending x, which is the next element of one list or both and less than all that is left
   pub merged_more : ((j : ℕ) → Contains lane j → j < x)
       → Contains (take p' a) x ⊎ Contains (take q' b) x → p + q < p' + q'
       → IsMerged a b p' q' (lane ++ x ∷ [])
@@ -98,7 +99,7 @@ none_merged old a b = record {
 }
 
 module _ {old now a b : List ℕ} {p q : ℕ} (m : IsMerging old now a b p q) (x : ℕ) where
-  -- the index x is pushed
+  -- appending x to the list that gains the merge
   abbrev pub with_index : {p' q' : ℕ} → IsMerged a b p' q' (m.lane ++ x ∷ [])
       → IsMerging old (now ++ x ∷ []) a b p' q'
   with_index merged = record {
@@ -111,27 +112,27 @@ module _ {old now a b : List ℕ} {p q : ℕ} (m : IsMerging old now a b p q) (x
     abbrev pub merging_first : p < length a → x ≡ get_or a p 0 → (q < length b → x < get_or b q 0)
         → IsMerging old (now ++ x ∷ []) a b (p + 1) q
     merging_first lt is before = with_index
-        (merged_more m.merged (passing_at a x p ra lt is) (passing_before b x q before)
+        (merged_more m.merged (merge_step-at a x p ra lt is) (merge_step-before b x q before)
         (λ j h. omega (arith, m.merged.below_a lt j h)) (inl ((more a p x x lt is).1 (inr refl)))
         (omega arith))
 
     abbrev pub merging_second : q < length b → x ≡ get_or b q 0 → (p < length a → x < get_or a p 0)
         → IsMerging old (now ++ x ∷ []) a b p (q + 1)
     merging_second lt is before = with_index
-        (merged_more m.merged (passing_before a x p before) (passing_at b x q rb lt is)
+        (merged_more m.merged (merge_step-before a x p before) (merge_step-at b x q rb lt is)
         (λ j h. omega (arith, m.merged.below_b lt j h)) (inr ((more b q x x lt is).1 (inr refl)))
         (omega arith))
 
     abbrev pub merging_both : p < length a → q < length b → x ≡ get_or a p 0 → x ≡ get_or b q 0
         → IsMerging old (now ++ x ∷ []) a b (p + 1) (q + 1)
     merging_both lt lt' is is' = with_index
-        (merged_more m.merged (passing_at a x p ra lt is) (passing_at b x q rb lt' is')
+        (merged_more m.merged (merge_step-at a x p ra lt is) (merge_step-at b x q rb lt' is')
         (λ j h. omega (arith, m.merged.below_a lt j h)) (inl ((more a p x x lt is).1 (inr refl)))
         (omega arith))
 
--- ---- what is left of both lists, one of which is traversed
+-- ---- the rest of the list that has not ended
 
--- a list has what its two parts have
+-- the elements of a list are those of a prefix and of the rest
 parts_have : (xs : List ℕ) (p j : ℕ)
     → Contains xs j ↔ (Contains (take p xs) j ⊎ Contains (drop p xs) j)
 parts_have xs p j = (
@@ -155,7 +156,7 @@ module _ (xs : List ℕ) (p : ℕ) (rising : IsStrictlyIncreasing xs) where
         rising (p + k) (omega (arith, lt, length-drop p xs)),
       )
 
-  -- what is left is not less than the next one
+  -- no element of the rest is less than its first one
   pub rest_from : (j : ℕ) → Contains (drop p xs) j → (p < length xs) × (get_or xs p 0 ≤ j)
   rest_from j h =
       let within : p + h.0 < length xs = omega (arith, h.1, length-drop p xs) in

@@ -1,4 +1,4 @@
--- A sum or a difference of matrices, lane after lane.
+-- The sum or the difference of two matrices, built lane by lane.
 use Rattle.std.proofs.Common.{◌≡◌, ℕ, ◌+◌, ◌<◌, ◌⊎◌, inl, inr, ◌↔◌, Bool, true, false, List, []}
 use Rattle.std.proofs.Common.{◌∷◌, ◌++◌, length, Contains, ap, sym, subst, ◌∙◌, refl, arith}
 use Rattle.std.specs.Prelude.{nat_eq}
@@ -11,7 +11,7 @@ use Rattle.sparse_algebra.proofs.PlainLaws.{proper_sum}
 use Rattle.sparse_pattern.specs.Raw.{lane_of}
 use Rattle.sparse_compressed.specs.Compressed.{Compressed, arrays_of, IsSound}
 use Rattle.sparse_compressed.specs.PlainOfLanes.{plain_of_rows}
-use Rattle.sparse_compressed.specs.InnerRows.{lane_value}
+use Rattle.sparse_compressed.specs.InnerLaneValue.{lane_value}
 use Rattle.sparse_compressed.proofs.Arrays.{proper_rows, has_is_place}
 use Rattle.sparse_compressed.proofs.LaneValues.{values_of, lane_value_is}
 use Rattle.sparse_compressed.proofs.BuiltMatrices.{IsBuiltMatrix, built_is}
@@ -35,7 +35,7 @@ module _ (R : CommRing) where
   signed_add true a b = neg_add R a b
   signed_add false a b = refl
 
-  -- the value in a lane of signed values
+  -- the value at an index of a lane whose values have a sign is the value of the lane with that sign
   lane_value_signed : {T : Type 0} (f : T → R.Carrier) (negate : Bool) (ks : List ℕ) (vs : List T)
       (j : ℕ)
       → lane_value R (λ x. signed R negate (f x)) ks vs j ≡ signed R negate (lane_value R f ks vs j)
@@ -52,7 +52,7 @@ module _ (R : CommRing) {T : Type 0} (f : T → R.Carrier) (negate : Bool) (a b 
   abbrev pub signed_sum : Plain R
   signed_sum = plain_sum R (plain_of_rows R f a) (plain_signed R negate (plain_of_rows R f b))
 
-  -- the first n lanes of the sum
+  -- the arrays are those of the first n lanes of the sum or the difference
   abbrev pub IsSumBelow : ℕ → List ℕ → List ℕ → List T → Type 0
   IsSumBelow n offsets indices values = IsBuiltMatrix R f a.pattern.minor_dim
       (IsEither a.pattern b.pattern) signed_sum.value n offsets indices values

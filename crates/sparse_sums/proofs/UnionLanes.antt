@@ -1,28 +1,41 @@
--- The pattern of a sum, lane after lane.
+-- The pattern of a sum, built lane by lane.
 use Rattle.std.proofs.Common.{◌≡◌, ℕ, ◌+◌, ◌<◌, ◌⊎◌, inl, inr, ◌↔◌, List, [], ◌∷◌, ◌++◌, length}
 use Rattle.std.proofs.Common.{Contains, arith}
-use Rattle.sparse_pattern.specs.Raw.{Raw, raw_of, lane_of, IsValid, IsPlace}
+use Rattle.sparse_pattern.specs.Raw.{Raw, raw_of, lane_of, IsValid, IsEntry}
 use Rattle.sparse_pattern.specs.InnerGainedLanes.{GainsLane}
-use Rattle.sparse_pattern.proofs.BuiltLanes.{IsBuilt, lane_gained, all_built, place_within}
+use Rattle.sparse_pattern.proofs.BuiltLanes.{IsBuilt, lane_gained, all_built, minor_index_below}
 use Rattle.sparse_pattern.proofs.LaneLists.{lane_has}
+use Rattle.sparse_algebra.specs.Algebra.{CommRing}
+use Rattle.sparse_sums.specs.InnerAdding.{GainsEntries}
 use Rattle.sparse_sums.specs.PatternSums.{IsUnionOf}
 use Rattle.sparse_sums.proofs.GainedLanes.{gains_same}
 
--- (i, j) is a place of the union
+-- a or b has an entry at (i, j)
 abbrev pub IsEither : Raw → Raw → ℕ → ℕ → Type 0
-IsEither a b i j = IsPlace a i j ⊎ IsPlace b i j
+IsEither a b i j = IsEntry a i j ⊎ IsEntry b i j
+
+-- a list of indices gains a lane where lists of indices and values gain its entries
+abbrev pub gained_lane : {R : CommRing} {T : Type 0} {f : T → R.Carrier} {old new : List ℕ}
+    {us ws : List T} {P : ℕ → Type 0} {V : ℕ → R.Carrier} → GainsEntries R f old new us ws P V
+    → GainsLane old new P
+gained_lane gains = record {
+  lane = gains.lane;
+  pushed = gains.pushed;
+  rising = gains.rising;
+  holds = gains.holds;
+}
 
 module _ (a b : Raw) (va : IsValid a) (vb : IsValid b) (lanes : a.major_dim ≡ b.major_dim)
     (width : a.minor_dim ≡ b.minor_dim) where
-  -- the indices of both lanes
+  -- lane n of the union has the indices of both lanes n
   pub lanes_have : (n j : ℕ) → n < a.major_dim
       → (Contains (lane_of a n) j ⊎ Contains (lane_of b n) j) ↔ IsEither a b n j
   lanes_have n j lt = grind (arith, lane_has a va n j lt, lane_has b vb n j (omega arith))
 
   pub either_within : (i j : ℕ) → IsEither a b i j → (i < a.major_dim) × (j < a.minor_dim)
   either_within i j h = elim h [
-    | inl x ↦ (x.in_lane.lane, place_within a va i j x)
-    | inr y ↦ (omega (arith, y.in_lane.lane), omega (arith, place_within b vb i j y))
+    | inl x ↦ (x.in_lane.lane, minor_index_below a va i j x)
+    | inr y ↦ (omega (arith, y.in_lane.lane), omega (arith, minor_index_below b vb i j y))
   ]
 
   pub union_more : {n : ℕ} {offsets indices indices' : List ℕ} (offsets' : List ℕ)

@@ -1,22 +1,22 @@
--- The values of a pattern that are updated lane after lane.
+-- The values of a pattern, updated lane by lane.
 use Rattle.std.proofs.Common.{◌≡◌, ℕ, ◌+◌, ◌-◌, ◌<◌, ◌≤◌, ◌⊎◌, inl, inr, List, length, get_or, ap}
 use Rattle.std.proofs.Common.{sym, subst, ◌∙◌, refl, arith}
 use Rattle.sparse_algebra.proofs.Cases.{lt_or_ge, lt_add_one_cases}
 use Rattle.sparse_algebra.specs.Algebra.{CommRing}
 use Rattle.sparse_pattern.specs.Raw.{Raw, start_of, end_of, lane_of, IsInLane, IsValid, IsValidLane}
 use Rattle.sparse_pattern.proofs.PatternLanes.{length-lane, get_or-lane}
-use Rattle.sparse_pattern.proofs.Positions.{one_lane}
-use Rattle.sparse_compressed.specs.Compressed.{IsPosition}
+use Rattle.sparse_pattern.proofs.OffsetsInLanes.{one_lane}
+use Rattle.sparse_compressed.specs.Compressed.{IsOffset}
 
--- where a position of a lane stands in the lane
+-- the entry of lane i at the offset p is the k-th of the lane
 pub record IsAt (d : Raw) (i j p k : ℕ) : Type 0 where
   pub within : k < length (lane_of d i)
   pub back : start_of d i + k ≡ p
   pub index : get_or (lane_of d i) k 0 ≡ j
 
-pub at_position : (d : Raw) (i j p : ℕ) → IsValidLane d i → IsPosition d i j p
+pub at_offset : (d : Raw) (i j p : ℕ) → IsValidLane d i → IsOffset d i j p
     → IsAt d i j p (p - start_of d i)
-at_position d i j p valid at =
+at_offset d i j p valid at =
     let k = p - start_of d i in
     let lt : k < length (lane_of d i) = omega (arith, length-lane d i valid, at.0.from, at.0.to) in
     let back : start_of d i + k ≡ p = omega (arith, at.0.from) in
@@ -36,12 +36,11 @@ off_lane d i p lane none = elim (lt_or_ge p (start_of d i)) [
   ]
 ]
 
--- the lanes below n have their new values, base c + alpha * x where c was before, and those from n
--- on are as they were
+-- in the lanes below n each value c has become base c + alpha * x, and the values from lane n on are unchanged
 pub record HasUpdatedLanes (R : CommRing) {T : Type 0} (f : T → R.Carrier) (z : T) (d : Raw)
     (base : T → R.Carrier) (alpha : R.Carrier) (x : ℕ → ℕ → R.Carrier) (start now : List T)
     (n : ℕ) : Type 0 where
-  pub updated : (i j p : ℕ) → i < n → IsPosition d i j p
+  pub updated : (i j p : ℕ) → i < n → IsOffset d i j p
       → f (get_or now p z) ≡ R.add (base (get_or start p z)) (R.mul alpha (x i j))
   pub rest : (p : ℕ) → start_of d n ≤ p → get_or now p z ≡ get_or start p z
 
@@ -53,11 +52,11 @@ module _ {R : CommRing} {T : Type 0} {f : T → R.Carrier} {z : T} {d : Raw} {ba
     rest = λ p from. refl;
   }
 
-  -- a lane more
+  -- updating lane n
   pub lanes_more : {old : List T} {n : ℕ} → HasUpdatedLanes R f z d base alpha x start old n
       → IsValid d → n < d.major_dim → (new : List T)
       → ((p : ℕ) → (IsInLane d n p → ⊥) → get_or new p z ≡ get_or old p z)
-      → ((j p : ℕ) → IsPosition d n j p → f (get_or new p z) ≡ R.add (base (get_or old p z))
+      → ((j p : ℕ) → IsOffset d n j p → f (get_or new p z) ≡ R.add (base (get_or old p z))
       (R.mul alpha (x n j)))
       → HasUpdatedLanes R f z d base alpha x start new (n + 1)
   lanes_more {n = n} was valid lane new others here = record {
@@ -65,7 +64,7 @@ module _ {R : CommRing} {T : Type 0} {f : T → R.Carrier} {z : T} {d : Raw} {ba
       | inl earlier ↦ ap f (others p (λ here. omega (arith, one_lane d valid i n p at.0 here)))
           ∙ was.updated i j p earlier at
       | inr last ↦
-          let at' : IsPosition d n j p = subst (λ i. IsPosition d i j p) last at in
+          let at' : IsOffset d n j p = subst (λ i. IsOffset d i j p) last at in
           here j p at' ∙ ap (λ c. R.add (base c) (R.mul alpha (x n j))) (was.rest p at'.0.from)
           ∙ ap (λ i. R.add (base (get_or start p z)) (R.mul alpha (x i j))) (sym last)
     ];

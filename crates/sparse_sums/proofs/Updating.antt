@@ -1,4 +1,4 @@
--- A sum into a given matrix, in plain matrices.
+-- Sums into the pattern of a given matrix, stated by plain matrices.
 use Rattle.std.proofs.Common.{◌≡◌, ℕ, ◌↔◌, Bool, true, false, inl, inr, List, length, ap, ◌∙◌}
 use Rattle.std.proofs.Common.{refl, subst}
 use Rattle.std.specs.Prelude.{Result, Ok, Err, IsOk, OnOk, OnErr}
@@ -8,19 +8,19 @@ use Rattle.sparse_algebra.specs.Algebra.{CommRing}
 use Rattle.sparse_algebra.specs.Plain.{Plain, IsProper, plain_transpose}
 use Rattle.sparse_algebra.proofs.RingLemmas.{mul_zero}
 use Rattle.sparse_algebra.proofs.PlainLaws.{proper_transpose}
-use Rattle.sparse_pattern.specs.Raw.{Raw, IsPlace}
+use Rattle.sparse_pattern.specs.Raw.{Raw, IsEntry}
 use Rattle.sparse_algebra.specs.Prealloc.{plain_update, IsCovered}
 use Rattle.sparse_compressed.specs.Compressed.{Compressed, compressed_of, IsSound}
 use Rattle.sparse_compressed.specs.PlainOfLanes.{plain_of_rows, plain_of_cols}
 use Rattle.sparse_compressed.specs.Writing.{with_values}
 use Rattle.sparse_compressed.proofs.Arrays.{proper_rows}
-use Rattle.sparse_compressed.proofs.Standing.{rows_have}
+use Rattle.sparse_compressed.proofs.ArraysDeterminePlain.{plain_of_rows-has_lanes}
 use Rattle.sparse_compressed.proofs.Updates.{updated}
-use Rattle.sparse_sums.specs.InnerPlacing.{HasPlacesOf}
+use Rattle.sparse_sums.specs.InnerTargets.{ContainsPatternOf}
 use Rattle.sparse_compressed.specs.InnerUpdates.{AreUpdated}
 use Rattle.sparse_algebra.specs.Prealloc.{plain_transpose_if}
 
--- the values at the places of m, updated by a matrix that has no other places
+-- values updated by x at each entry of m give the updated plain matrix, if m has an entry at each place of x
 pub update_is : (R : CommRing) {T : Type 0} (f : T → R.Carrier) (z : T) {m : Compressed T}
     (x : Plain R) (beta alpha : R.Carrier) (ws : List T) → IsSound m
     → length ws ≡ length m.values → IsProper x → IsCovered x (plain_of_rows R f m)
@@ -28,7 +28,7 @@ pub update_is : (R : CommRing) {T : Type 0} (f : T → R.Carrier) (z : T) {m : C
     → plain_of_rows R f (compressed_of m.pattern ws)
     ≡ plain_update R beta (plain_of_rows R f m) alpha x
 update_is R f z {m} x beta alpha ws sound long proper covered values =
-    let was = rows_have R f m sound in
+    let was = plain_of_rows-has_lanes R f m sound in
     updated R f z m ws (plain_update R beta (plain_of_rows R f m) alpha x).value sound long
     (λ i j none.
     let off : x.has i j ≡ false = elim (true_or_false (x.has i j)) [
@@ -42,20 +42,20 @@ update_is R f z {m} x beta alpha ws sound long proper covered values =
     (λ i j p at. values i j p at
     ∙ ap (λ c. R.add (R.mul beta c) (R.mul alpha (x.value i j))) (was.values i j p z at))
 
--- the target has the places of the operand
+-- the pattern of m contains that of a, transposed or not, if and only if its plain matrix covers that of a
 covered_is : (R : CommRing) {T : Type 0} (f : T → R.Carrier) {m a : Compressed T} → IsSound m
     → IsSound a → (transposed : Bool)
-    → HasPlacesOf m.pattern transposed a.pattern
+    → ContainsPatternOf m.pattern transposed a.pattern
     ↔ IsCovered (plain_transpose_if R transposed (plain_of_rows R f a)) (plain_of_rows R f m)
 covered_is R f {m} {a} sm sa transposed = both transposed
   where
-    here : (i j : ℕ) → IsPlace m.pattern i j ↔ ((plain_of_rows R f m).has i j ≡ true)
-    here = (rows_have R f m sm).places
+    here : (i j : ℕ) → IsEntry m.pattern i j ↔ ((plain_of_rows R f m).has i j ≡ true)
+    here = (plain_of_rows-has_lanes R f m sm).places
 
-    there : (i j : ℕ) → IsPlace a.pattern i j ↔ ((plain_of_rows R f a).has i j ≡ true)
-    there = (rows_have R f a sa).places
+    there : (i j : ℕ) → IsEntry a.pattern i j ↔ ((plain_of_rows R f a).has i j ≡ true)
+    there = (plain_of_rows-has_lanes R f a sa).places
 
-    both : (t : Bool) → HasPlacesOf m.pattern t a.pattern
+    both : (t : Bool) → ContainsPatternOf m.pattern t a.pattern
         ↔ IsCovered (plain_transpose_if R t (plain_of_rows R f a)) (plain_of_rows R f m)
     both true = (
       λ h i j x. (here i j).0 (h j i ((there j i).1 x)),
@@ -71,18 +71,18 @@ transposed_proper : (R : CommRing) {T : Type 0} (f : T → R.Carrier) (a : Compr
 transposed_proper R f a true = proper_transpose R (plain_of_rows R f a) (proper_rows R f a)
 transposed_proper R f a false = proper_rows R f a
 
--- what holds at Ok, from what is known there
+-- P at Ok gives Q at Ok, if P implies Q there
 pub on_ok_also : {X E : Type 0} (r : Result X E) {P Q : Type 0} → (IsOk r → P → Q) → OnOk r P
     → OnOk r Q
 on_ok_also (Ok x) h p = h refl p
 on_ok_also (Err e) h p = tt
 
--- values that are written back whole
+-- writing all values replaces the values of the matrix
 pub written_back : {T : Type 0} (m : Compressed T) (ws : List T) → length ws ≡ length m.values
     → with_values m ws ≡ compressed_of m.pattern ws
 written_back m ws long = ap (compressed_of m.pattern) (take_at ws _ _ long)
 
--- values that are as they were leave the matrix as it was
+-- writing back equal values leaves the matrix unchanged
 unchanged_at_err : {T X E : Type 0} (r : Result X E) (m : Compressed T) (ws vs : List T)
     → vs ≡ m.values
     → length ws ≡ length m.values → OnErr r (ws ≡ vs) → OnErr r (with_values m ws ≡ m)
@@ -90,19 +90,19 @@ unchanged_at_err (Ok x) m ws vs is long same = tt
 unchanged_at_err (Err e) m ws vs is long same = written_back m ws long
     ∙ ap (compressed_of m.pattern) (same ∙ is)
 
--- what a sum of x into the matrix leaves, whose plain matrix `see` reads
+-- the contract of a sum of x into a matrix, where `see` gives the plain matrix of a matrix
 pub record IsSummed (R : CommRing) {M E : Type 0} (see : M → Plain R) (old new : M)
     (r : Result (Unit {0}) E) (beta alpha : R.Carrier) (x : Plain R) : Type 0 where
   pub covered : IsOk r ↔ IsCovered x (see old)
   pub unchanged : OnErr r (new ≡ old)
   pub updated : OnOk r (see new ≡ plain_update R beta (see old) alpha x)
 
--- a sum into m, whose pattern and values are borrowed as d and vs
+-- a sum into m, whose pattern is borrowed as d and whose values as vs
 module _ (R : CommRing) {T : Type 0} (f : T → R.Carrier) (z : T) {m a x : Compressed T}
     (sm : IsSound m) (sx : IsSound x) (x_is : x ≡ a) {d : Raw} (d_is : d ≡ m.pattern)
     {vs : List T} (vs_is : vs ≡ m.values) (transposed : Bool) {E : Type 0}
     (r : Result (Unit {0}) E) (beta alpha : R.Carrier) (ws : List T)
-    (places : IsOk r ↔ HasPlacesOf d transposed x.pattern) (count : length ws ≡ length vs)
+    (places : IsOk r ↔ ContainsPatternOf d transposed x.pattern) (count : length ws ≡ length vs)
     (refused : OnErr r (ws ≡ vs))
     (added : OnOk r (AreUpdated R f z d beta alpha
     (plain_transpose_if R transposed (plain_of_rows R f x)).value vs ws)) where

@@ -1,14 +1,14 @@
--- Elements that are taken with a sign.
+-- Ring elements with a sign.
 use Rattle.std.specs.Prelude.{Bool, true, false}
 use Rattle.sparse_algebra.specs.Algebra.{CommRing}
 use Rattle.sparse_algebra.specs.Plain.{Plain}
 
--- the negative where the test holds, else the element itself
+-- the negative of the element if the test is true, else the element
 abbrev pub signed : (R : CommRing) → Bool → R.Carrier → R.Carrier
 signed R true c = R.neg c
 signed R false c = c
 
--- the matrix with each value so signed
+-- the plain matrix with each value so signed
 abbrev pub plain_signed : (R : CommRing) → Bool → Plain R → Plain R
 plain_signed R negate a = record {
   rows = a.rows;

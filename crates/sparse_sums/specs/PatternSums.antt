@@ -1,7 +1,7 @@
 -- Unions of patterns.
 use Rattle.std.specs.Prelude.{ℕ, ◌↔◌, ◌⊎◌}
-use Rattle.sparse_pattern.specs.Raw.{Raw, IsPlace}
+use Rattle.sparse_pattern.specs.Raw.{Raw, IsEntry}
 
--- (i, j) is a place exactly where it is one of a or one of b
+-- d has an entry at (i, j) if and only if a or b has one
 abbrev pub IsUnionOf : Raw → Raw → Raw → Type 0
-IsUnionOf d a b = (i j : ℕ) → IsPlace d i j ↔ (IsPlace a i j ⊎ IsPlace b i j)
+IsUnionOf d a b = (i j : ℕ) → IsEntry d i j ↔ (IsEntry a i j ⊎ IsEntry b i j)

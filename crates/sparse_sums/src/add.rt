@@ -8,8 +8,8 @@ ghost use Rattle.sparse_compressed.specs.PlainOfLanes.{plain_of_rows, plain_of_c
 ghost use Rattle.sparse_sums.specs.InnerAdding.{GainsLanes, with_arrays};
 ghost use Rattle.sparse_sums.specs.InnerSigns.{plain_signed};
 
-use crate::merge::add_lanes;
-use crate::room::union_room;
+use crate::merge::merge_lanes;
+use crate::room::estimated_union;
 use sparse_algebra::scalar::Ring;
 use sparse_compressed::CsMatrix;
 use sparse_csr_csc::csc::CscMatrix;
@@ -19,11 +19,11 @@ use std::alloc::{AllocError, Global};
 
 /// Returns the sum `a + b`.
 ///
-/// The result stores the union of the places, even where a sum is zero. Both matrices must have the
-/// same shape.
+/// The result has an entry wherever `a` or `b` has one, even if the sum is zero. Both matrices must have the same
+/// shape.
 ///
-/// One merge of two sorted rows for each row, linear in places and rows. Memory is reserved by an
-/// estimate from a sample of the rows, and grows if the result has more places. Fails only if an
+/// Merges two sorted rows for each row of the result. Time is linear in the number of entries and rows. Memory is
+/// reserved by an estimate from a sample of the rows, and grows if the result has more entries. Fails only if an
 /// allocation fails.
 ///
 /// # Examples
@@ -46,13 +46,13 @@ pub fn add_csr<T: Ring>(
         ≡ plain_sum T.ring (plain_of_rows T.ring T.value a.now)
         (plain_of_rows T.ring T.value b.now)) }
 {
-    Ok(CsrMatrix::from_cs(merge::<T, false>(alloc, a.cs(), b.cs())?))
+    Ok(CsrMatrix::from_cs(sum_or_difference::<T, false>(alloc, a.cs(), b.cs())?))
 }
 
 /// Returns the difference `a - b`.
 ///
-/// The result stores the union of the places, even where a difference is zero. Both matrices must
-/// have the same shape.
+/// The result has an entry wherever `a` or `b` has one, even if the difference is zero. Both matrices must have the
+/// same shape.
 ///
 /// Time, memory and errors are those of [`add_csr`].
 ///
@@ -76,17 +76,17 @@ pub fn sub_csr<T: Ring>(
         ≡ plain_difference T.ring (plain_of_rows T.ring T.value a.now)
         (plain_of_rows T.ring T.value b.now)) }
 {
-    Ok(CsrMatrix::from_cs(merge::<T, true>(alloc, a.cs(), b.cs())?))
+    Ok(CsrMatrix::from_cs(sum_or_difference::<T, true>(alloc, a.cs(), b.cs())?))
 }
 
 /// Returns the sum `a + b`.
 ///
-/// The result stores the union of the places, even where a sum is zero. Both matrices must have the
-/// same shape.
+/// The result has an entry wherever `a` or `b` has one, even if the sum is zero. Both matrices must have the same
+/// shape.
 ///
-/// One merge of two sorted columns for each column, linear in places and columns. Memory is
-/// reserved by an estimate from a sample of the columns, and grows if the result has more places.
-/// Fails only if an allocation fails.
+/// Merges two sorted columns for each column of the result. Time is linear in the number of entries and columns. Memory
+/// is reserved by an estimate from a sample of the columns, and grows if the result has more entries. Fails only if an
+/// allocation fails.
 pub fn add_csc<T: Ring>(
     alloc: Global,
     a: &CscMatrix<T>,
@@ -98,13 +98,13 @@ pub fn add_csc<T: Ring>(
         ≡ plain_sum T.ring (plain_of_cols T.ring T.value a.now)
         (plain_of_cols T.ring T.value b.now)) }
 {
-    Ok(CscMatrix::from_cs(merge::<T, false>(alloc, a.cs(), b.cs())?))
+    Ok(CscMatrix::from_cs(sum_or_difference::<T, false>(alloc, a.cs(), b.cs())?))
 }
 
 /// Returns the difference `a - b`.
 ///
-/// The result stores the union of the places, even where a difference is zero. Both matrices must
-/// have the same shape.
+/// The result has an entry wherever `a` or `b` has one, even if the difference is zero. Both matrices must have the
+/// same shape.
 ///
 /// Time, memory and errors are those of [`add_csc`].
 pub fn sub_csc<T: Ring>(
@@ -118,12 +118,12 @@ pub fn sub_csc<T: Ring>(
         ≡ plain_difference T.ring (plain_of_cols T.ring T.value a.now)
         (plain_of_cols T.ring T.value b.now)) }
 {
-    Ok(CscMatrix::from_cs(merge::<T, true>(alloc, a.cs(), b.cs())?))
+    Ok(CscMatrix::from_cs(sum_or_difference::<T, true>(alloc, a.cs(), b.cs())?))
 }
 
-// The sum of two matrices with the same shape, or their difference.
-#[tactic(auto, using(crate::proofs::Refusals::refused))]
-fn merge<T: Ring, const NEGATE: bool>(
+// Returns the sum of two matrices with the same shape, or their difference if `NEGATE`.
+#[tactic(auto, using(sparse_algebra::proofs::EarlyReturns::early_return))]
+fn sum_or_difference<T: Ring, const NEGATE: bool>(
     alloc: Global,
     a: &CsMatrix<T>,
     b: &CsMatrix<T>,
@@ -135,11 +135,11 @@ fn merge<T: Ring, const NEGATE: bool>(
         (plain_signed T.ring NEGATE (plain_of_rows T.ring T.value b.now))) }
 {
     let (first, second) = (a.pattern(), b.pattern());
-    let room = union_room(first, second);
+    let room = estimated_union(first, second);
     let mut offsets = Vec::with_capacity(alloc, first.major_offsets().len())?;
     let mut indices = Vec::with_capacity(alloc, room)?;
     let mut values = Vec::with_capacity(alloc, room)?;
-    merge_lanes::<T, NEGATE>(a, b, &mut offsets, &mut indices, &mut values)?;
+    append_lanes::<T, NEGATE>(a, b, &mut offsets, &mut indices, &mut values)?;
     let pattern = SparsityPattern::from_offset_and_indices_unchecked(
         first.major_dim(),
         first.minor_dim(),
@@ -149,11 +149,11 @@ fn merge<T: Ring, const NEGATE: bool>(
     Ok(CsMatrix::from_pattern_and_values(pattern, values))
 }
 
-// Fills empty arrays with the lanes of the sum or the difference. Inlined, as each lane is: where
-// lanes are short, a call takes as long as the lane.
-#[tactic(auto, using(crate::proofs::Refusals::refused))]
+// Appends all lanes of the sum or the difference to empty arrays. This function and `append_lane` are inlined, because
+// a call takes as long as a short lane.
+#[tactic(auto, using(sparse_algebra::proofs::EarlyReturns::early_return))]
 #[inline(always)]
-fn merge_lanes<T: Ring, const NEGATE: bool>(
+fn append_lanes<T: Ring, const NEGATE: bool>(
     a: &CsMatrix<T>,
     b: &CsMatrix<T>,
     offsets: &mut Vec<usize>,
@@ -175,15 +175,15 @@ fn merge_lanes<T: Ring, const NEGATE: bool>(
 {
     offsets.push(0)?;
     for i in 0..a.pattern().major_dim() {
-        merge_lane::<T, NEGATE>(a, b, i, indices, values)?;
+        append_lane::<T, NEGATE>(a, b, i, indices, values)?;
         offsets.push(indices.len())?;
     }
     Ok(())
 }
 
-// Appends a lane of the sum or the difference.
+// Appends lane i of the sum or the difference.
 #[inline(always)]
-fn merge_lane<T: Ring, const NEGATE: bool>(
+fn append_lane<T: Ring, const NEGATE: bool>(
     a: &CsMatrix<T>,
     b: &CsMatrix<T>,
     i: usize,
@@ -197,7 +197,7 @@ fn merge_lane<T: Ring, const NEGATE: bool>(
         (lane_at b.now i) indices.old.items indices.new.items values.old.items values.new.items) }
 {
     let (first, second) = (a.lane(i), b.lane(i));
-    add_lanes::<T, NEGATE>(
+    merge_lanes::<T, NEGATE>(
         first.minor_indices(),
         first.values(),
         second.minor_indices(),

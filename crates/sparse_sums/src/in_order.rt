@@ -1,26 +1,26 @@
-//! A sum into a given matrix, lane after lane: both lanes are in order, so one pass over the
-//! target's finds each place of the operand's.
+//! Sums into the pattern of a given matrix, lane by lane, without a transpose. Both lanes are sorted, so one pass over
+//! the lane of the target finds each entry of the operand's lane.
 
 ghost use Rattle.std.specs.Prelude.{◌≡◌, ℕ, ◌+◌, ◌<◌, ◌≤◌, ◌⊎◌, ◌↔◌, false, IsTrue, length};
 ghost use Rattle.std.specs.Prelude.{slice_index, slice_index_or};
 ghost use Rattle.std.specs.List.Sorted.{IsStrictlyIncreasing};
-ghost use Rattle.sparse_compressed.specs.Compressed.{IsPosition};
-ghost use Rattle.sparse_compressed.specs.InnerRows.{lane_value};
+ghost use Rattle.sparse_compressed.specs.Compressed.{IsOffset};
+ghost use Rattle.sparse_compressed.specs.InnerLaneValue.{lane_value};
 ghost use Rattle.sparse_compressed.specs.PlainOfLanes.{plain_of_rows};
-ghost use Rattle.sparse_sums.specs.InnerPlacing.{HasIndicesOf, HasPlacesOf};
+ghost use Rattle.sparse_sums.specs.InnerTargets.{HasIndicesOf, ContainsPatternOf};
 
-use sparse_algebra::learn;
+use sparse_algebra::recall;
 use sparse_algebra::scalar::Ring;
 use sparse_compressed::CsMatrix;
 use sparse_pattern::pattern::SparsityPattern;
 
-// Whether the target has each place of the operand.
+// Returns whether the pattern of the target contains that of the operand.
 pub(crate) fn covers_lanes(target: &SparsityPattern, a: &SparsityPattern) -> bool
     requires { a.now.major_dim ≡ target.now.major_dim }
-    ensures { IsTrue result ↔ HasPlacesOf target.now false a.now }
+    ensures { IsTrue result ↔ ContainsPatternOf target.now false a.now }
 {
-    learn(target.major_offsets());
-    learn(a.major_offsets());
+    recall(target.major_offsets());
+    recall(a.major_offsets());
     for i in 0..a.major_dim() {
         if !covers_lane(target.lane(i), a.lane(i)) {
             return false;
@@ -29,7 +29,7 @@ pub(crate) fn covers_lanes(target: &SparsityPattern, a: &SparsityPattern) -> boo
     true
 }
 
-// Whether the target has each index of the lane.
+// Returns whether the target lane has each index of the lane.
 fn covers_lane(target: &[usize], lane: &[usize]) -> bool
     requires target_rising { IsStrictlyIncreasing target.now }
     requires rising { IsStrictlyIncreasing lane.now }
@@ -44,7 +44,7 @@ fn covers_lane(target: &[usize], lane: &[usize]) -> bool
     k == lane.len()
 }
 
-// Adds `alpha` times the operand's values at their places.
+// Adds `alpha` times each entry of the operand to the entry of the target with the same row and column.
 pub(crate) fn add_in_order<T: Ring>(
     target: &SparsityPattern,
     values: &mut [T],
@@ -53,9 +53,9 @@ pub(crate) fn add_in_order<T: Ring>(
 )
     requires count { length values.old ≡ length target.now.indices }
     requires lanes { a.now.pattern.major_dim ≡ target.now.major_dim }
-    requires covered { HasPlacesOf target.now false a.now.pattern }
+    requires covered { ContainsPatternOf target.now false a.now.pattern }
     ensures count { length values.new ≡ length values.old }
-    ensures added { (i j p : ℕ) → IsPosition target.now i j p
+    ensures added { (i j p : ℕ) → IsOffset target.now i j p
         → T.value (slice_index_or values.new p T.zero_value)
         ≡ T.ring.add (T.value (slice_index_or values.old p T.zero_value))
         (T.ring.mul (T.value alpha) ((plain_of_rows T.ring T.value a.now).value i j)) }
@@ -74,7 +74,8 @@ pub(crate) fn add_in_order<T: Ring>(
     }
 }
 
-// Adds `alpha` times the lane's values to those of the target lane, which begin at `start`.
+// Adds `alpha` times the values of a lane to those of the target lane with the same indices. The values of the target
+// lane begin at the offset `start`.
 fn add_lane<T: Ring>(
     target: &[usize],
     start: usize,

@@ -1,9 +1,10 @@
-//! Sums of sparse matrices and of their patterns.
+//! Sums, differences, multiples and negatives of sparse matrices, and sums of their patterns.
 #![tactic(auto)]
 
 mod add;
 mod in_order;
 mod merge;
+mod no_value;
 mod pattern;
 mod prealloc;
 mod room;
@@ -11,7 +12,7 @@ mod scale;
 mod scaled;
 
 pub use add::{add_csc, add_csr, sub_csc, sub_csr};
-pub use merge::front_value;
+pub use merge::merged_value;
 pub use pattern::spadd_pattern;
 pub use prealloc::{spadd_csc_prealloc, spadd_csr_prealloc};
 pub use scale::{neg_csc, neg_csr, scale_csc, scale_csr};

@@ -1,24 +1,46 @@
-//! Two lanes of entries, merged into one.
+//! The merge of two lanes of entries into one, which all sums of this crate share.
 
 ghost use Rattle.std.specs.Prelude.{◌≡◌, ◌+◌, ◌-◌, ◌<◌, ◌≤◌, ◌⊎◌, ◌++◌, length, vec_len};
 ghost use Rattle.std.specs.Prelude.{vec_capacity, Contains, OnOk};
 ghost use Rattle.std.specs.List.Sorted.{IsStrictlyIncreasing};
-ghost use Rattle.sparse_compressed.specs.InnerRows.{lane_value};
+ghost use Rattle.sparse_compressed.specs.InnerLaneValue.{lane_value};
 ghost use Rattle.sparse_sums.specs.InnerSigns.{signed};
 ghost use Rattle.sparse_sums.specs.InnerAdding.{GainsValues, GainsEntries, IsAdding};
 
 use sparse_algebra::scalar::Ring;
 use std::alloc::AllocError;
 
-// The value, negated where the parameter says so.
+// Returns the value, or its negative if `NEGATE`.
 fn with_sign<T: Ring, const NEGATE: bool>(value: T) -> T
     ensures { T.value result ≡ signed T.ring NEGATE (T.value value) }
 {
     if NEGATE { value.neg() } else { value }
 }
 
-// Appends entries, each value with its sign.
-fn push_rest<T: Ring, const NEGATE: bool>(
+// The least number of indices that are copied as a block. For fewer ones the call takes longer than a loop of pushes.
+const LEAST_BLOCK: usize = 16;
+
+// Appends indices.
+fn append_indices(rest: &[usize], indices: &mut Vec<usize>)
+    requires { vec_len indices.old + length rest.now ≤ vec_capacity indices.old }
+    ensures capacity { vec_capacity indices.old ≤ vec_capacity indices.new }
+    ensures len { vec_len indices.new ≡ vec_len indices.old + length rest.now }
+    ensures items { indices.new.items ≡ indices.old.items ++ rest.now }
+{
+    if rest.len() < LEAST_BLOCK {
+        for k in 0..rest.len() {
+            indices.push_reserved(rest[k]);
+        }
+        return;
+    }
+    match indices.extend_from_slice(rest) {
+        Ok(()) => {}
+        Err(_) => {}
+    }
+}
+
+// Appends the entries of what is left of a lane, with each value negated if `NEGATE`.
+fn append_rest<T: Ring, const NEGATE: bool>(
     rest: &[usize],
     rest_values: &[T],
     indices: &mut Vec<usize>,
@@ -27,7 +49,7 @@ fn push_rest<T: Ring, const NEGATE: bool>(
     requires count { length rest_values.now ≡ length rest.now }
     requires room { vec_len indices.old + length rest.now ≤ vec_capacity indices.old }
     requires values_room { vec_len values.old + length rest.now ≤ vec_capacity values.old }
-    ensures capacity { vec_capacity indices.new ≡ vec_capacity indices.old }
+    ensures capacity { vec_capacity indices.old ≤ vec_capacity indices.new }
     ensures values_capacity { vec_capacity values.new ≡ vec_capacity values.old }
     ensures len { vec_len indices.new ≡ vec_len indices.old + length rest.now }
     ensures values_len { vec_len values.new ≡ vec_len values.old + length rest.now }
@@ -35,16 +57,18 @@ fn push_rest<T: Ring, const NEGATE: bool>(
     ensures values { GainsValues T.ring T.value (λ x. signed T.ring NEGATE (T.value x))
         values.old.items values.new.items rest_values.now }
 {
+    append_indices(rest, indices);
     for k in 0..rest.len() {
-        indices.push_reserved(rest[k]);
         values.push_reserved(with_sign::<T, NEGATE>(rest_values[k]));
     }
 }
 
-// Appends the entries of both lanes, those of `b` with their sign, in increasing order of index.
-// Two of one index are added.
-#[tactic(auto, using(crate::proofs::Refusals::refused))]
-pub(crate) fn add_lanes<T: Ring, const NEGATE: bool>(
+// Appends the sum of two lanes, or their difference if `NEGATE`: one entry for each index that either lane has, in
+// increasing order of index. Values with the same index are added.
+//
+// Fails only if an allocation fails.
+#[tactic(auto, using(sparse_algebra::proofs::EarlyReturns::early_return))]
+pub(crate) fn merge_lanes<T: Ring, const NEGATE: bool>(
     a: &[usize],
     a_values: &[T],
     b: &[usize],
@@ -66,16 +90,16 @@ pub(crate) fn add_lanes<T: Ring, const NEGATE: bool>(
     let most = a.len() + b.len();
     indices.reserve(most)?;
     values.reserve(most)?;
-    let (p, q) = add_fronts::<T, NEGATE>(a, a_values, b, b_values, indices, values);
-    push_rest::<T, false>(&a[p..], &a_values[p..], indices, values);
-    push_rest::<T, NEGATE>(&b[q..], &b_values[q..], indices, values);
+    let (p, q) = merge_until_end::<T, NEGATE>(a, a_values, b, b_values, indices, values);
+    append_rest::<T, false>(&a[p..], &a_values[p..], indices, values);
+    append_rest::<T, NEGATE>(&b[q..], &b_values[q..], indices, values);
     Ok(())
 }
 
 /// Returns the value at the smaller of two indices, or the sum of both values where these are equal.
 ///
-/// The sum is computed first, so that the result is selected without a branch.
-pub fn front_value<T: Ring>(j: usize, first: T, k: usize, second: T) -> T
+/// The sum is computed in any case, so that the compiler selects the result without a branch.
+pub fn merged_value<T: Ring>(j: usize, first: T, k: usize, second: T) -> T
     ensures first { j < k → result ≡ first }
     ensures second { k < j → result ≡ second }
     ensures sum { j ≡ k → T.value result ≡ T.ring.add (T.value first) (T.value second) }
@@ -90,9 +114,9 @@ pub fn front_value<T: Ring>(j: usize, first: T, k: usize, second: T) -> T
     }
 }
 
-// Merges until one of the lanes is traversed. Returns the positions that were reached. No branch
-// within the lanes depends on an index.
-fn add_fronts<T: Ring, const NEGATE: bool>(
+// Merges both lanes until one of them ends. Returns how many entries of each were merged. The only branch is the test of
+// the loop: one that depends on indices would be mispredicted.
+fn merge_until_end<T: Ring, const NEGATE: bool>(
     a: &[usize],
     a_values: &[T],
     b: &[usize],
@@ -124,7 +148,7 @@ fn add_fronts<T: Ring, const NEGATE: bool>(
         let (j, k) = (a[p], b[q]);
         let value = with_sign::<T, NEGATE>(b_values[q]);
         indices.push_reserved(j.min(k));
-        values.push_reserved(front_value(j, a_values[p], k, value));
+        values.push_reserved(merged_value(j, a_values[p], k, value));
         if j <= k {
             p += 1;
         }

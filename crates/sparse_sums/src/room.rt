@@ -1,17 +1,17 @@
-//! How many places are reserved for a sum. Only the use of memory depends on it.
+//! How many entries to reserve memory for in a sum. Only the use of memory depends on the estimate.
 
 ghost use Rattle.std.specs.Prelude.{◌≡◌, ◌+◌, ◌≤◌, length};
 
 use sparse_pattern::pattern::SparsityPattern;
 
-// How many pairs of lanes are compared.
+// How many pairs of lanes are sampled.
 const SAMPLED_LANES: usize = 64;
 
-// Returns an estimate of how many places two patterns have together, from some of their lanes.
+// Returns an estimate of how many entries the union of two patterns has, extrapolated from evenly spaced lanes.
 //
-// It is the number of both without seven eighths of the places that they seem to have in common.
-// Patterns with few lanes get the number of both.
-pub(crate) fn union_room(a: &SparsityPattern, b: &SparsityPattern) -> usize
+// The estimate is the number of entries of both, less seven eighths of those that they share by the sample. For
+// patterns with fewer than 64 lanes it is the number of entries of both.
+pub(crate) fn estimated_union(a: &SparsityPattern, b: &SparsityPattern) -> usize
     requires lanes { a.now.major_dim ≡ b.now.major_dim }
     ensures most { result ≤ length a.now.indices + length b.now.indices }
 {
@@ -24,8 +24,8 @@ pub(crate) fn union_room(a: &SparsityPattern, b: &SparsityPattern) -> usize
     both.saturating_sub(spared - spared / 8)
 }
 
-// Returns how many indices some pairs of lanes have, and how many of them are shared. It compares
-// no pair where there are few lanes.
+// Returns how many entries 64 evenly spaced pairs of lanes have, and how many indices both lanes of a pair have.
+// Returns zeros if there are fewer than 64 lanes.
 fn sample(a: &SparsityPattern, b: &SparsityPattern) -> (usize, usize)
     requires { a.now.major_dim ≡ b.now.major_dim }
     ensures { result.1 ≤ result.0 }
@@ -44,7 +44,7 @@ fn sample(a: &SparsityPattern, b: &SparsityPattern) -> (usize, usize)
     (seen, shared)
 }
 
-// Returns the number of indices that both lanes have. No branch depends on an index.
+// Returns the number of indices that both lanes have. The only branch is the test of the loop.
 fn shared_count(a: &[usize], b: &[usize]) -> usize
     ensures { result ≤ length a.now }
 {

@@ -11,8 +11,8 @@ use std::alloc::{AllocError, Global};
 
 /// Returns the matrix with each value multiplied by `factor`.
 ///
-/// The places stay, also where a product is zero. Linear in places and rows. Fails only if an
-/// allocation fails.
+/// The result has the pattern of `a`, even if a product is zero. Time is linear in the number of entries and rows.
+/// Fails only if an allocation fails.
 pub fn scale_csr<T: Ring>(
     alloc: Global,
     a: &CsrMatrix<T>,
@@ -28,7 +28,8 @@ pub fn scale_csr<T: Ring>(
 
 /// Returns the matrix with each value negated.
 ///
-/// The places stay. Linear in places and rows. Fails only if an allocation fails.
+/// The result has the pattern of `a`. Time is linear in the number of entries and rows. Fails only if an allocation
+/// fails.
 pub fn neg_csr<T: Ring>(alloc: Global, a: &CsrMatrix<T>) -> Result<CsrMatrix<T>, AllocError>
     ensures { IfOk result (λ m. plain_of_rows T.ring T.value m
         ≡ plain_negation T.ring (plain_of_rows T.ring T.value a.now)) }
@@ -38,8 +39,8 @@ pub fn neg_csr<T: Ring>(alloc: Global, a: &CsrMatrix<T>) -> Result<CsrMatrix<T>,
 
 /// Returns the matrix with each value multiplied by `factor`.
 ///
-/// The places stay, also where a product is zero. Linear in places and columns. Fails only if an
-/// allocation fails.
+/// The result has the pattern of `a`, even if a product is zero. Time is linear in the number of entries and columns.
+/// Fails only if an allocation fails.
 pub fn scale_csc<T: Ring>(
     alloc: Global,
     a: &CscMatrix<T>,
@@ -55,7 +56,8 @@ pub fn scale_csc<T: Ring>(
 
 /// Returns the matrix with each value negated.
 ///
-/// The places stay. Linear in places and columns. Fails only if an allocation fails.
+/// The result has the pattern of `a`. Time is linear in the number of entries and columns. Fails only if an allocation
+/// fails.
 pub fn neg_csc<T: Ring>(alloc: Global, a: &CscMatrix<T>) -> Result<CscMatrix<T>, AllocError>
     ensures { IfOk result (λ m. plain_of_cols T.ring T.value m
         ≡ plain_negation T.ring (plain_of_cols T.ring T.value a.now)) }

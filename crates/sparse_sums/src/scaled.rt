@@ -13,11 +13,11 @@ use std::alloc::{AllocError, Global};
 
 /// Returns the sum `alpha * a + beta * b`.
 ///
-/// The result stores the union of the places, even where a value is zero. Both matrices must have
-/// the same shape.
+/// The result has an entry wherever `a` or `b` has one, even if its value is zero. Both matrices must have the same
+/// shape.
 ///
-/// A multiple of each matrix, and the merge of [`add_csr`]: linear in places and rows. Beside the
-/// result it takes memory for a copy of each matrix. Fails only if an allocation fails.
+/// Adds a multiple of each matrix by [`add_csr`]. Time is linear in the number of entries and rows. Beside the result
+/// it takes memory for a copy of each matrix. Fails only if an allocation fails.
 ///
 /// # Examples
 ///
@@ -49,11 +49,11 @@ pub fn add_scaled_csr<T: Ring>(
 
 /// Returns the sum `alpha * a + beta * b`.
 ///
-/// The result stores the union of the places, even where a value is zero. Both matrices must have
-/// the same shape.
+/// The result has an entry wherever `a` or `b` has one, even if its value is zero. Both matrices must have the same
+/// shape.
 ///
-/// A multiple of each matrix, and the merge of [`add_csc`]: linear in places and columns. Beside
-/// the result it takes memory for a copy of each matrix. Fails only if an allocation fails.
+/// Adds a multiple of each matrix by [`add_csc`]. Time is linear in the number of entries and columns. Beside the
+/// result it takes memory for a copy of each matrix. Fails only if an allocation fails.
 pub fn add_scaled_csc<T: Ring>(
     alloc: Global,
     alpha: T,

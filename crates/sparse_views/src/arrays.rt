@@ -1,4 +1,4 @@
-//! The borrowed arrays of CSR and CSC views. A lane is a row in CSR and a column in CSC.
+//! The borrowed arrays that CSR and CSC views wrap. A lane is a row in CSR and a column in CSC.
 
 ghost use Rattle.std.specs.Prelude.{◌≡◌, ◌<◌, ◌↔◌, ⊤, length, IfOk, IfErr, IfSome, IsOk, IsSome};
 ghost use Rattle.sparse_algebra.specs.Sums.{sum_below};
@@ -7,17 +7,17 @@ ghost use Rattle.sparse_compressed.specs.Lanes.{lane_at};
 ghost use Rattle.sparse_compressed.specs.PlainOfLanes.{plain_of_rows};
 ghost use Rattle.sparse_compressed.specs.SortedFaults.{IsFirstSortedFault};
 ghost use Rattle.sparse_compressed.specs.StoredEntries.{IsEntryAt, IsEntryOf, IsInBounds};
-ghost use Rattle.sparse_with_dense.specs.SparseVectors.{elements};
+ghost use Rattle.sparse_dense_ops.specs.SparseVectors.{elements};
 
 use sparse_algebra::scalar::Ring;
 use sparse_compressed::{CsLane, CsMatrix, CsView, LaneIndices, SortedFault};
+use sparse_dense_ops::usdot;
 use sparse_pattern::entry::SparseEntry;
 use sparse_pattern::pattern::SparsityPattern;
-use sparse_with_dense::usdot;
 use std::alloc::{AllocError, Global};
 use std::marker::Model;
 
-// The shape of a compressed matrix, and its arrays where they are.
+// The shape of a compressed matrix, and its borrowed arrays.
 #[derive(Debug, Drop)]
 pub(crate) struct CsArrays<'a, T> {
     major_dim: usize,
@@ -71,7 +71,7 @@ impl<'a, T> CsArrays<'a, T> {
         ensures sound { IfOk result IsSound }
         ensures fault { IfErr result (IsFirstSortedFault
             (arrays_of major_dim minor_dim offsets.now indices.now values.now)) }
-        ensures taken { IsSound
+        ensures accepted { IsSound
             (arrays_of major_dim minor_dim offsets.now indices.now values.now) → IsOk result }
     {
         match CsView::try_from_slices(major_dim, minor_dim, offsets, indices, values) {
@@ -124,7 +124,7 @@ impl<'a, T> CsArrays<'a, T> {
         self.values
     }
 
-    // Returns a lane, which must be within bounds.
+    // Returns a lane. `i` must be less than the number of lanes.
     pub(crate) fn lane(&self, i: usize) -> CsLane<'a, T>
         requires { i < self.now.pattern.major_dim }
         ensures lane { result ≡ lane_at self.now i }
@@ -149,7 +149,8 @@ impl<'a, T> CsArrays<'a, T> {
         }
     }
 
-    // Returns the entry at a pair of indices, both of which must be within bounds. Binary search in the lane.
+    // Returns the entry at a pair of indices, or `Zero` if none is stored. Both indices must be within bounds. Binary
+    // search in the lane.
     pub(crate) fn index_entry(&self, i: usize, j: usize) -> SparseEntry<'a, T>
         requires { IsInBounds self.now.pattern i j }
         ensures entry { IsEntryAt self.now i j result }
@@ -158,7 +159,8 @@ impl<'a, T> CsArrays<'a, T> {
         self.lane(i).index_entry(j)
     }
 
-    // Returns the entry at a pair of indices, or `None` if one is out of bounds. Binary search in the lane.
+    // Returns the entry at a pair of indices, `Zero` if none is stored, or `None` if an index is out of bounds. Binary
+    // search in the lane.
     pub(crate) fn get_entry(&self, i: usize, j: usize) -> Option<SparseEntry<'a, T>>
         ensures entry { IsEntryOf self.now i j result }
         ensures sound { IsSound self.now }
@@ -172,7 +174,7 @@ impl<'a, T> CsArrays<'a, T> {
 }
 
 impl<'a, T: Copy> CsArrays<'a, T> {
-    // Returns a matrix with copies of the arrays. They are not checked again.
+    // Returns a matrix with copies of the arrays. The copies are not checked again.
     pub(crate) fn to_matrix(&self, alloc: Global) -> Result<CsMatrix<T>, AllocError>
         ensures { IfOk result (λ m. m ≡ self.now) }
     {

@@ -12,8 +12,7 @@ use std::marker::Model;
 
 /// A list of triplets (row, column, value) whose three arrays are borrowed.
 ///
-/// The same row and column may occur in more than one triplet; the entry is then the sum of their values, as in a
-/// [`CooMatrix`].
+/// The same row and column may occur in more than one triplet; their values are then added, as in a [`CooMatrix`].
 ///
 /// # Examples
 ///
@@ -49,7 +48,7 @@ impl<'a, T> Model for CooView<'a, T> {
 }
 
 impl<'a, T> CooView<'a, T> {
-    /// Returns the view of a list.
+    /// Returns a view of a list.
     ///
     /// Constant time. Copies nothing and allocates nothing.
     ///
@@ -75,7 +74,7 @@ impl<'a, T> CooView<'a, T> {
         }
     }
 
-    /// Returns the view of the triplets given as three slices.
+    /// Returns a view of the triplets with these rows, columns and values.
     ///
     /// Linear in the number of triplets. Copies nothing and allocates nothing.
     ///
@@ -108,7 +107,7 @@ impl<'a, T> CooView<'a, T> {
             (AreParts nrows ncols row_indices.now col_indices.now values.now) }
         ensures fault { IfErr result (IsFirstTripletFault nrows ncols
             row_indices.now col_indices.now (length values.now)) }
-        ensures taken { AreParts nrows ncols row_indices.now col_indices.now values.now
+        ensures accepted { AreParts nrows ncols row_indices.now col_indices.now values.now
             → IsOk result }
     {
         if row_indices.len() != col_indices.len() {
@@ -146,7 +145,7 @@ impl<'a, T> CooView<'a, T> {
         self.ncols
     }
 
-    /// Returns the number of triplets. Repeated places are counted each time.
+    /// Returns the number of triplets. Repeated entries are counted each time.
     pub fn nnz(&self) -> usize
         ensures { result ≡ length self.now.triplets }
     {

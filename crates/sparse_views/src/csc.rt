@@ -1,4 +1,4 @@
-//! Borrowed matrices in compressed sparse column form.
+//! Borrowed matrices in compressed sparse column format.
 
 ghost use Rattle.std.specs.Prelude.{◌≡◌, ◌<◌, ◌↔◌, ⊤, length, IfOk, IfErr, IfSome, IsOk, IsSome};
 ghost use Rattle.sparse_algebra.specs.Sums.{sum_below};
@@ -7,7 +7,7 @@ ghost use Rattle.sparse_compressed.specs.Lanes.{lane_at};
 ghost use Rattle.sparse_compressed.specs.PlainOfLanes.{plain_of_cols};
 ghost use Rattle.sparse_compressed.specs.SortedFaults.{IsSortedRefusal, sorted_kind};
 ghost use Rattle.sparse_compressed.specs.StoredEntries.{IsEntryAt, IsEntryOf, IsInBounds};
-ghost use Rattle.sparse_with_dense.specs.SparseVectors.{elements};
+ghost use Rattle.sparse_dense_ops.specs.SparseVectors.{elements};
 
 use crate::arrays::CsArrays;
 use sparse_algebra::scalar::Ring;
@@ -19,7 +19,7 @@ use sparse_pattern::pattern::SparsityPatternFormatError;
 use std::alloc::{AllocError, Global};
 use std::marker::Model;
 
-/// A sparse matrix in compressed sparse column (CSC) form whose arrays are borrowed.
+/// A sparse matrix in compressed sparse column (CSC) format whose arrays are borrowed.
 ///
 /// The row indices of each column are strictly increasing, as in a [`CscMatrix`].
 ///
@@ -50,7 +50,7 @@ impl<'a, T> Model for CscView<'a, T> {
 }
 
 impl<'a, T> CscView<'a, T> {
-    /// Returns the view of a matrix.
+    /// Returns a view of a matrix.
     ///
     /// Constant time. Copies nothing and allocates nothing.
     pub fn of(matrix: &'a CscMatrix<T>) -> Self
@@ -61,9 +61,9 @@ impl<'a, T> CscView<'a, T> {
         }
     }
 
-    /// Returns the view of arrays whose columns are sorted by row.
+    /// Returns a view of these arrays, whose columns must be sorted by row.
     ///
-    /// Linear in the number of columns and stored places. Copies nothing and allocates nothing.
+    /// Linear in the number of columns and entries. Copies nothing and allocates nothing.
     ///
     /// # Errors
     ///
@@ -81,7 +81,7 @@ impl<'a, T> CscView<'a, T> {
         ensures sound { IfOk result IsSound }
         ensures fault { IfErr result
             (IsSortedRefusal (arrays_of ncols nrows col_offsets.now row_indices.now values.now)) }
-        ensures taken { IsSound
+        ensures accepted { IsSound
             (arrays_of ncols nrows col_offsets.now row_indices.now values.now) → IsOk result }
     {
         match CsArrays::try_from_slices(ncols, nrows, col_offsets, row_indices, values) {
@@ -104,7 +104,7 @@ impl<'a, T> CscView<'a, T> {
         self.arrays.major_dim()
     }
 
-    /// Returns the number of stored places, including those whose value is zero.
+    /// Returns the number of entries, including those whose value is zero.
     pub fn nnz(&self) -> usize
         ensures count { result ≡ length self.now.values }
         ensures sound { IsSound self.now }
@@ -112,7 +112,7 @@ impl<'a, T> CscView<'a, T> {
         self.arrays.values().len()
     }
 
-    /// Returns the offset of the first stored place of each column, followed by the number of stored places.
+    /// Returns the offset of the first entry of each column, followed by the number of entries.
     pub fn col_offsets(&self) -> &'a [usize]
         ensures offsets { result.now ≡ self.now.pattern.offsets }
         ensures sound { IsSound self.now }
@@ -120,7 +120,7 @@ impl<'a, T> CscView<'a, T> {
         self.arrays.offsets()
     }
 
-    /// Returns the row of each stored place, column by column.
+    /// Returns the row of each entry, column by column.
     pub fn row_indices(&self) -> &'a [usize]
         ensures indices { result.now ≡ self.now.pattern.indices }
         ensures sound { IsSound self.now }
@@ -128,7 +128,7 @@ impl<'a, T> CscView<'a, T> {
         self.arrays.indices()
     }
 
-    /// Returns the value of each stored place, column by column.
+    /// Returns the value of each entry, column by column.
     pub fn values(&self) -> &'a [T]
         ensures values { result.now ≡ self.now.values }
         ensures sound { IsSound self.now }
@@ -167,7 +167,8 @@ impl<'a, T> CscView<'a, T> {
         }
     }
 
-    /// Returns the entry at a row and a column, both of which must be within bounds. Binary search in the column.
+    /// Returns the entry at a row and a column, or `Zero` if none is stored. Both indices must be within bounds. Binary
+    /// search in the column.
     pub fn index_entry(&self, row_index: usize, col_index: usize) -> SparseEntry<'a, T>
         requires { IsInBounds self.now.pattern col_index row_index }
         ensures entry { IsEntryAt self.now col_index row_index result }
@@ -176,7 +177,8 @@ impl<'a, T> CscView<'a, T> {
         self.arrays.index_entry(col_index, row_index)
     }
 
-    /// Returns the entry at a row and a column, or `None` if one is out of bounds. Binary search in the column.
+    /// Returns the entry at a row and a column, `Zero` if none is stored, or `None` if an index is out of bounds.
+    /// Binary search in the column.
     pub fn get_entry(&self, row_index: usize, col_index: usize) -> Option<SparseEntry<'a, T>>
         ensures entry { IsEntryOf self.now col_index row_index result }
         ensures sound { IsSound self.now }
@@ -188,8 +190,7 @@ impl<'a, T> CscView<'a, T> {
 impl<'a, T: Copy> CscView<'a, T> {
     /// Returns a matrix with copies of the arrays, which are not checked again.
     ///
-    /// Linear in the number of columns and stored places; the memory is the result's. Fails only if an allocation
-    /// fails.
+    /// Linear in the number of columns and entries; the memory is the result's. Fails only if an allocation fails.
     pub fn to_csc(&self, alloc: Global) -> Result<CscMatrix<T>, AllocError>
         ensures { IfOk result (λ m. m ≡ self.now) }
     {
@@ -198,12 +199,12 @@ impl<'a, T: Copy> CscView<'a, T> {
 }
 
 impl<'a, T: Ring> CscView<'a, T> {
-    /// Returns the dot product of a column and a dense vector: the sum of the entries of the column, each times the
-    /// element of `x` there.
+    /// Returns the dot product of a column and a dense vector: the sum over the entries of the column of the value
+    /// times the element of `x` at its row.
     ///
     /// `col_index` must be less than `ncols()`, and `x` must have `nrows()` elements.
     ///
-    /// One multiplication for each place of the column. Allocates nothing.
+    /// One multiplication for each entry of the column. Allocates nothing.
     pub fn dot_col(&self, col_index: usize, x: &[T]) -> T
         requires col { col_index < self.now.pattern.major_dim }
         requires fits { length x.now ≡ self.now.pattern.minor_dim }
@@ -228,7 +229,7 @@ impl<'a, T> Clone for CscView<'a, T> {
     }
 }
 
-// A fault as an error, with the text of `CscMatrix::try_from_csc_data`.
+// Returns the error that reports a fault, with the message of `CscMatrix::try_from_csc_data`.
 fn error_of(fault: SortedFault) -> SparseFormatError
     ensures { result ≡ sorted_kind fault }
 {

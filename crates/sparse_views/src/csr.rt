@@ -1,4 +1,4 @@
-//! Borrowed matrices in compressed sparse row form.
+//! Borrowed matrices in compressed sparse row format.
 
 ghost use Rattle.std.specs.Prelude.{◌≡◌, ◌<◌, ◌↔◌, ⊤, length, IfOk, IfErr, IfSome, IsOk, IsSome};
 ghost use Rattle.sparse_algebra.specs.Sums.{sum_below};
@@ -7,7 +7,7 @@ ghost use Rattle.sparse_compressed.specs.Lanes.{lane_at};
 ghost use Rattle.sparse_compressed.specs.PlainOfLanes.{plain_of_rows};
 ghost use Rattle.sparse_compressed.specs.SortedFaults.{IsSortedRefusal, sorted_kind};
 ghost use Rattle.sparse_compressed.specs.StoredEntries.{IsEntryAt, IsEntryOf, IsInBounds};
-ghost use Rattle.sparse_with_dense.specs.SparseVectors.{elements};
+ghost use Rattle.sparse_dense_ops.specs.SparseVectors.{elements};
 
 use crate::arrays::CsArrays;
 use sparse_algebra::scalar::Ring;
@@ -19,7 +19,7 @@ use sparse_pattern::pattern::SparsityPatternFormatError;
 use std::alloc::{AllocError, Global};
 use std::marker::Model;
 
-/// A sparse matrix in compressed sparse row (CSR) form whose arrays are borrowed.
+/// A sparse matrix in compressed sparse row (CSR) format whose arrays are borrowed.
 ///
 /// The column indices of each row are strictly increasing, as in a [`CsrMatrix`].
 ///
@@ -50,7 +50,7 @@ impl<'a, T> Model for CsrView<'a, T> {
 }
 
 impl<'a, T> CsrView<'a, T> {
-    /// Returns the view of a matrix.
+    /// Returns a view of a matrix.
     ///
     /// Constant time. Copies nothing and allocates nothing.
     ///
@@ -71,9 +71,9 @@ impl<'a, T> CsrView<'a, T> {
         }
     }
 
-    /// Returns the view of arrays whose rows are sorted by column.
+    /// Returns a view of these arrays, whose rows must be sorted by column.
     ///
-    /// Linear in the number of rows and stored places. Copies nothing and allocates nothing.
+    /// Linear in the number of rows and entries. Copies nothing and allocates nothing.
     ///
     /// # Errors
     ///
@@ -102,7 +102,7 @@ impl<'a, T> CsrView<'a, T> {
         ensures sound { IfOk result IsSound }
         ensures fault { IfErr result
             (IsSortedRefusal (arrays_of nrows ncols row_offsets.now col_indices.now values.now)) }
-        ensures taken { IsSound
+        ensures accepted { IsSound
             (arrays_of nrows ncols row_offsets.now col_indices.now values.now) → IsOk result }
     {
         match CsArrays::try_from_slices(nrows, ncols, row_offsets, col_indices, values) {
@@ -125,7 +125,7 @@ impl<'a, T> CsrView<'a, T> {
         self.arrays.minor_dim()
     }
 
-    /// Returns the number of stored places, including those whose value is zero.
+    /// Returns the number of entries, including those whose value is zero.
     pub fn nnz(&self) -> usize
         ensures count { result ≡ length self.now.values }
         ensures sound { IsSound self.now }
@@ -133,7 +133,7 @@ impl<'a, T> CsrView<'a, T> {
         self.arrays.values().len()
     }
 
-    /// Returns the offset of the first stored place of each row, followed by the number of stored places.
+    /// Returns the offset of the first entry of each row, followed by the number of entries.
     pub fn row_offsets(&self) -> &'a [usize]
         ensures offsets { result.now ≡ self.now.pattern.offsets }
         ensures sound { IsSound self.now }
@@ -141,7 +141,7 @@ impl<'a, T> CsrView<'a, T> {
         self.arrays.offsets()
     }
 
-    /// Returns the column of each stored place, row by row.
+    /// Returns the column of each entry, row by row.
     pub fn col_indices(&self) -> &'a [usize]
         ensures indices { result.now ≡ self.now.pattern.indices }
         ensures sound { IsSound self.now }
@@ -149,7 +149,7 @@ impl<'a, T> CsrView<'a, T> {
         self.arrays.indices()
     }
 
-    /// Returns the value of each stored place, row by row.
+    /// Returns the value of each entry, row by row.
     pub fn values(&self) -> &'a [T]
         ensures values { result.now ≡ self.now.values }
         ensures sound { IsSound self.now }
@@ -188,7 +188,8 @@ impl<'a, T> CsrView<'a, T> {
         }
     }
 
-    /// Returns the entry at a row and a column, both of which must be within bounds. Binary search in the row.
+    /// Returns the entry at a row and a column, or `Zero` if none is stored. Both indices must be within bounds. Binary
+    /// search in the row.
     pub fn index_entry(&self, row_index: usize, col_index: usize) -> SparseEntry<'a, T>
         requires { IsInBounds self.now.pattern row_index col_index }
         ensures entry { IsEntryAt self.now row_index col_index result }
@@ -197,7 +198,8 @@ impl<'a, T> CsrView<'a, T> {
         self.arrays.index_entry(row_index, col_index)
     }
 
-    /// Returns the entry at a row and a column, or `None` if one is out of bounds. Binary search in the row.
+    /// Returns the entry at a row and a column, `Zero` if none is stored, or `None` if an index is out of bounds.
+    /// Binary search in the row.
     pub fn get_entry(&self, row_index: usize, col_index: usize) -> Option<SparseEntry<'a, T>>
         ensures entry { IsEntryOf self.now row_index col_index result }
         ensures sound { IsSound self.now }
@@ -209,7 +211,7 @@ impl<'a, T> CsrView<'a, T> {
 impl<'a, T: Copy> CsrView<'a, T> {
     /// Returns a matrix with copies of the arrays, which are not checked again.
     ///
-    /// Linear in the number of rows and stored places; the memory is the result's. Fails only if an allocation fails.
+    /// Linear in the number of rows and entries; the memory is the result's. Fails only if an allocation fails.
     pub fn to_csr(&self, alloc: Global) -> Result<CsrMatrix<T>, AllocError>
         ensures { IfOk result (λ m. m ≡ self.now) }
     {
@@ -218,12 +220,12 @@ impl<'a, T: Copy> CsrView<'a, T> {
 }
 
 impl<'a, T: Ring> CsrView<'a, T> {
-    /// Returns the dot product of a row and a dense vector: the sum of the entries of the row, each times the
-    /// element of `x` there.
+    /// Returns the dot product of a row and a dense vector: the sum over the entries of the row of the value times the
+    /// element of `x` at its column.
     ///
     /// `row_index` must be less than `nrows()`, and `x` must have `ncols()` elements.
     ///
-    /// One multiplication for each place of the row. Allocates nothing.
+    /// One multiplication for each entry of the row. Allocates nothing.
     ///
     /// # Examples
     ///
@@ -258,7 +260,7 @@ impl<'a, T> Clone for CsrView<'a, T> {
     }
 }
 
-// A fault as an error, with the text of `CsrMatrix::try_from_csr_data`.
+// Returns the error that reports a fault, with the message of `CsrMatrix::try_from_csr_data`.
 fn error_of(fault: SortedFault) -> SparseFormatError
     ensures { result ≡ sorted_kind fault }
 {

@@ -1,4 +1,4 @@
-//! Round trips: the view of a matrix, copied, is the matrix.
+//! Round trips: a copy of the view of a matrix equals the matrix.
 
 ghost use Rattle.std.specs.Prelude.{◌≡◌, IfOk};
 
@@ -8,7 +8,7 @@ use sparse_csr_csc::csc::CscMatrix;
 use sparse_csr_csc::csr::CsrMatrix;
 use std::alloc::{AllocError, Global};
 
-/// Returns a copy of the view of a CSR matrix. It is the matrix.
+/// Returns a copy of the view of a CSR matrix. It equals the matrix.
 pub fn csr_view_returns<T: Copy>(
     alloc: Global,
     matrix: &CsrMatrix<T>,
@@ -18,7 +18,7 @@ pub fn csr_view_returns<T: Copy>(
     CsrView::of(matrix).to_csr(alloc)
 }
 
-/// Returns a copy of the view of a CSC matrix. It is the matrix.
+/// Returns a copy of the view of a CSC matrix. It equals the matrix.
 pub fn csc_view_returns<T: Copy>(
     alloc: Global,
     matrix: &CscMatrix<T>,
@@ -28,7 +28,7 @@ pub fn csc_view_returns<T: Copy>(
     CscView::of(matrix).to_csc(alloc)
 }
 
-/// Returns a copy of the view of a list. It is the list, with its triplets in the same order.
+/// Returns a copy of the view of a list. It equals the list, with its triplets in the same order.
 pub fn coo_view_returns<T: Copy>(
     alloc: Global,
     matrix: &CooMatrix<T>,

@@ -1,8 +1,9 @@
 //! Matrices whose arrays are borrowed: those of an owned matrix, or arrays of another program.
 //!
-//! To contracts a view is the matrix that it shows, so they say of it what they say of an owned matrix. It is made of an
-//! owned matrix in constant time, or of slices, which are checked where they are. Operations take owned matrices: a view
-//! is copied to one, and the copy of a CSR or CSC view is not checked again.
+//! The value of a view is that of an owned matrix with the same arrays, so contracts say of a view what they say of an
+//! owned matrix. A view is made from an owned matrix in constant time, or from slices, which are checked without a
+//! copy. Operations take owned matrices: a view is first copied to one, and the copy of a CSR or CSC view is not
+//! checked again.
 #![tactic(auto)]
 
 mod arrays;

@@ -1,4 +1,4 @@
--- The steps of the products of two matrices with themselves.
+-- The steps of the product of a matrix with itself.
 use Rattle.std.proofs.Common.{◌≡◌, ℕ, zero, suc, ◌+◌, ◌-◌, ◌<◌, ◌≤◌, true, List, [], ◌∷◌, length}
 use Rattle.std.proofs.Common.{ap, sym, subst, ◌∙◌, refl, arith}
 use Rattle.std.specs.Prelude.{slice_index, nat_eq, nat_lt, ◌&&◌}
@@ -8,12 +8,12 @@ use Rattle.std.proofs.lemmas.Bool.Decides.{nat_tests}
 use Rattle.std.proofs.Math.ListN.{length-take, length-drop}
 use Rattle.nalgebra_sparse.specs.Algebra.{CommRing}
 use Rattle.nalgebra_sparse.specs.Plain.{Plain, plain_product, plain_identity}
-use Rattle.nalgebra_sparse.specs.Raw.{Raw, IsValid, IsPlace, start_of, end_of, lane_of}
+use Rattle.nalgebra_sparse.specs.Raw.{Raw, IsValid, IsEntry, start_of, end_of, lane_of}
 use Rattle.nalgebra_sparse.specs.Raw.{nnz_of}
 use Rattle.nalgebra_sparse.specs.Prealloc.{IsCovered}
 use Rattle.nalgebra_sparse.specs.Compressed.{Compressed, IsSound}
 use Rattle.nalgebra_sparse.specs.PlainOfLanes.{plain_of_rows}
-use Rattle.nalgebra_sparse.specs.Standing.{HasLanesAsRows}
+use Rattle.nalgebra_sparse.specs.ArraysDeterminePlain.{HasLanesAsRows}
 use Rattle.nalgebra_sparse.specs.ScalarProducts.{triples_of}
 use Rattle.tests_acceptance.specs.Small.{small_of}
 
@@ -35,9 +35,9 @@ sum_ones g (x ∷ xs) one =
     let whole : sum_by g (x ∷ xs) ≡ g x + sum_by g xs = sum_by-cons g x xs in
     omega arith
 
--- a pattern whose places are the diagonal has one place in each lane
+-- a pattern whose entries are the diagonal has one entry in each lane
 module _ (d : Raw) (valid : IsValid d) (n : ℕ) (dim : d.major_dim ≡ n)
-    (only : (i j : ℕ) → IsPlace d i j → i ≡ j) (own : (i : ℕ) → i < n → IsPlace d i i) where
+    (only : (i j : ℕ) → IsEntry d i j → i ≡ j) (own : (i : ℕ) → i < n → IsEntry d i i) where
   place_at : (i p : ℕ) → i < n → start_of d i ≤ p → p < end_of d i
       → i ≡ slice_index d.indices p
   place_at i p lt from to = only i (slice_index d.indices p) (record {
@@ -92,7 +92,7 @@ module _ (d : Raw) (valid : IsValid d) (n : ℕ) (dim : d.major_dim ≡ n)
       (λ p lt. lane_length (slice_index d.indices p) (own_index p lt)) ∙ diagonal_count
 
 module _ (R : CommRing) {T : Type 0} (f : T → R.Carrier) where
-  -- the places of an identity, and the triples of its product with itself
+  -- the number of entries of an identity, and of triples (i, k, j) of its product with itself
   pub identity_steps : (m : Compressed T) (n : ℕ) → IsSound m
       → HasLanesAsRows R f m (plain_of_rows R f m) → plain_of_rows R f m ≡ plain_identity R n
       → (nnz_of m.pattern ≡ n) × (triples_of m.pattern m.pattern ≡ n)
@@ -100,9 +100,9 @@ module _ (R : CommRing) {T : Type 0} (f : T → R.Carrier) where
       let dim : m.pattern.major_dim ≡ n = ap (λ (p : Plain R). p.rows) is in
       let has : (i j : ℕ) → (plain_of_rows R f m).has i j ≡ (nat_eq i j && nat_lt i n) =
       λ i j. ap (λ (p : Plain R). p.has i j) is in
-      let only : (i j : ℕ) → IsPlace m.pattern i j → i ≡ j =
+      let only : (i j : ℕ) → IsEntry m.pattern i j → i ≡ j =
       λ i j place. on_diagonal i j n (sym (has i j) ∙ (stands.places i j).0 place) in
-      let own : (i : ℕ) → i < n → IsPlace m.pattern i i =
+      let own : (i : ℕ) → i < n → IsEntry m.pattern i i =
       λ i lt. (stands.places i i).1 (has i i ∙ diagonal_has i n lt) in (
         diagonal_count m.pattern sound.valid n dim only own,
         diagonal_triples m.pattern sound.valid n dim only own,

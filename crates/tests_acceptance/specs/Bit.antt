@@ -6,7 +6,7 @@ abbrev pub bit_not : Bool → Bool
 bit_not true = false
 bit_not false = true
 
--- one and one are zero
+-- the sum, where one and one are zero
 abbrev pub bit_add : Bool → Bool → Bool
 bit_add true b = bit_not b
 bit_add false b = b

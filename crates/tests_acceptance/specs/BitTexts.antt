@@ -6,7 +6,7 @@ use Rattle.nalgebra_sparse.specs.MatrixMarketErrorKind.TheVariants.{TypeMismatch
 use Rattle.nalgebra_sparse.specs.Reads.{Read, OnlyMismatch}
 use Rattle.nalgebra_sparse.specs.Scalars.{Scalar, IsNumberText}
 
--- the element that a number of a text is
+-- the element of a number in a text: 0 or 1
 abbrev pub bit_of : ℤ → Read Bool
 bit_of (pos zero) = Ok false
 bit_of (pos (suc zero)) = Ok true

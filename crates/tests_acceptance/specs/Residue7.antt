@@ -1,4 +1,4 @@
--- Residues modulo 7 that need not be reduced, with a tag that `==` passes over.
+-- Residues modulo 7 that need not be reduced, with a tag that `==` ignores.
 use Rattle.std.specs.Prelude.{◌≡◌, ℕ, ◌+◌, ◌*◌, ◌%◌, nat_eq, Bool, true}
 use Rattle.std.proofs.Common.{sym, ap, ◌∙◌, refl, arith}
 use Rattle.std.proofs.Math.Nat.{add-mod}

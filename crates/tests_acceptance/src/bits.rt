@@ -27,7 +27,7 @@ fn column(alloc: Global, values: [Bit; 2]) -> Result<DMatrix<Bit>, Fail> {
     Ok(DMatrix::from_column_slice(alloc, 2, 1, &values)?)
 }
 
-// Whether the lower triangle `1 .` over `1 1` takes the right side 1, 0 to 1, 1.
+// Whether the system with the lower triangle `1 .` and `1 1` and the right side 1, 0 has the solution 1, 1.
 fn a_triangle_is_solved(alloc: Global) -> Result<bool, Fail> {
     let (zero, one) = (Bit::zero(), Bit::one());
     let ones = symmetric(alloc, [one, one, one])?;
@@ -53,7 +53,7 @@ fn a_system_is_factored(alloc: Global) -> Result<bool, Fail> {
     Ok(own_pivots && b.as_slice() == [one, zero].as_slice())
 }
 
-// Whether the second pivot of the rows `1 1` and `1 1` is refused, since one and one are zero.
+// Whether the rows `1 1` and `1 1` have no factors: their second pivot is zero, since one and one are zero.
 fn ones_have_no_factors(alloc: Global) -> Result<bool, Fail> {
     let one = Bit::one();
     let matrix = symmetric(alloc, [one, one, one])?;
@@ -65,7 +65,7 @@ fn ones_have_no_factors(alloc: Global) -> Result<bool, Fail> {
     Ok(*error.kind() == OperationErrorKind::Singular)
 }
 
-// Whether a matrix divided by one is itself, and is not divided by zero.
+// Whether a matrix divided by one is unchanged, and division by zero is an error.
 fn one_alone_divides(alloc: Global) -> Result<bool, Fail> {
     let (zero, one) = (Bit::zero(), Bit::one());
     let matrix = symmetric(alloc, [one, zero, one])?;
@@ -100,7 +100,7 @@ fn is_kept(alloc: Global, text: &str) -> Result<bool, Fail> {
     Ok(save_to_matrix_market_str(alloc, &list)?.as_str() == text)
 }
 
-// Whether a text is refused in the words of the cause that the scalar gives.
+// Whether reading a text fails with the message of the error that the scalar returns.
 fn is_refused(alloc: Global, text: &str, message: &str) -> Result<bool, Fail> {
     let refused = load_coo_from_matrix_market_str::<Bit>(alloc, text).err();
     let error = refused.ok_or("no error")?;

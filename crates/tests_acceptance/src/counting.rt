@@ -50,7 +50,7 @@ fn steps_of_an_identity<T: Ring>(alloc: Global, n: usize) -> Result<Steps, Opera
     ensures least { IfOk result (λ steps. n ≤ steps) }
     ensures most { IfOk result (λ steps. steps ≤ 3 * n) }
 {
-    // The calls cost nothing: their contracts tell the prover which places an identity and its square have.
+    // The calls cost nothing: their contracts tell the prover which entries an identity and its square have.
     stands_law::<T>();
     identity_product_law::<T>();
     let matrix = CsrMatrix::<T>::identity(alloc, n)?;

@@ -1,4 +1,4 @@
-//! A type of values in texts as a user of the library may write one: numbers of 16 bits that stand for labels.
+//! A type of values in texts as a user of the library may write one: numbers of 16 bits that are labels.
 
 ghost use Rattle.std.specs.Int.{w16};
 ghost use Rattle.nalgebra_sparse.specs.ScalarTypes.{signed_scalar};
@@ -85,7 +85,7 @@ const OUT_OF_RANGE: &str = "%%MatrixMarket matrix coordinate integer general\n1 
 
 const PATTERN: &str = "%%MatrixMarket matrix coordinate pattern general\n1 1 1\n1 1\n";
 
-// Whether a text is refused since its only value is no label.
+// Whether reading a text fails since its only value is not a label.
 fn is_mismatch(alloc: Global, text: &str) -> bool {
     match list_of(alloc, text) {
         Ok(_) => false,

@@ -1,4 +1,4 @@
-//! Tests that cross crates, through the library's public face alone.
+//! Tests that cross crates, through the public paths of `nalgebra_sparse` alone.
 #![tactic(auto)]
 
 pub mod bit;

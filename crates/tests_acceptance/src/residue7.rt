@@ -1,4 +1,4 @@
-//! A scalar as a user of the library may write one: its `==` is coarser than being identical.
+//! A scalar as a user of the library may write one, whose `==` ignores a part of the value.
 
 ghost use Rattle.std.specs.Prelude.{◌%◌, nat_eq, refl};
 ghost use Rattle.std.proofs.Common.{rules};
@@ -6,7 +6,7 @@ ghost use Rattle.std.specs.Cmp.Rules.{comparing};
 
 use nalgebra_sparse::scalar::{Ring, Zero};
 
-/// A residue modulo 7 whose number need not be reduced, with a tag that `==` passes over.
+/// A residue modulo 7 whose number need not be reduced, with a tag that `==` ignores.
 #[derive(Clone, Copy, Debug)]
 pub struct Residue7 {
     number: u64,

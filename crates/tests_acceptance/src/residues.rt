@@ -8,7 +8,7 @@ use nalgebra_sparse::{CooMatrix, CsrMatrix};
 use std::alloc::Global;
 use std::test::Fail;
 
-// A residue whose tag is none that the operations give.
+// A residue with a tag that no operation returns.
 fn residue(number: u64) -> Residue7 {
     Residue7::new(number, 9)
 }
@@ -30,12 +30,12 @@ fn column(alloc: Global) -> Result<CsrMatrix<Residue7>, Fail> {
     Ok(convert_coo_csr(alloc, &list)?)
 }
 
-// Whether the sum of zero is stored.
+// Whether a sum that is zero is stored.
 fn a_sum_of_zero_stays(row: &CsrMatrix<Residue7>) -> bool {
     row.col_indices() == [0, 1].as_slice() && row.values() == [residue(10), residue(0)].as_slice()
 }
 
-// Whether the row times the column is 5, at the only place of the product's pattern.
+// Whether the row times the column is 5, the only entry of the product's pattern.
 fn a_row_times_a_column(
     alloc: Global,
     row: &CsrMatrix<Residue7>,

@@ -12,7 +12,7 @@ use nalgebra_sparse::ops::serial::{OperationError, mul_csc_dense, spsolve_csc_lo
 use nalgebra_sparse::scalar::Units;
 use std::alloc::Global;
 
-/// Solves `L X = B` over `b` and returns `L X`, which is the B that was given.
+/// Solves `L X = B`, writes X over the B in `b`, and returns `L X`, which equals that B.
 ///
 /// `l` must be square and lower triangular, with as many rows as `b`.
 pub fn solve_and_multiply<T: Units>(

@@ -3,7 +3,7 @@
 ghost use Rattle.std.specs.Prelude.{◌≡◌};
 
 use crate::square_patterns::Columns;
-use slow_programs::fill::fill_by_pairs;
+use reference_models::fill::fill_by_pairs;
 use sparse_factor::factorization::{CscSymbolicCholesky, Triangle};
 use sparse_pattern::pattern::SparsityPattern;
 use std::alloc::{AllocError, Global};
@@ -46,7 +46,7 @@ fn agrees(alloc: Global, columns: Columns, size: usize) -> Result<bool, AllocErr
     has_fill(alloc, pattern, &pairs)
 }
 
-// Adds a column whose places are the lowest bits of a number. Returns the bits that are left.
+// Adds a column whose entries are the lowest bits of a number. Returns the bits that are left.
 fn push_bits(columns: &mut Columns, size: usize, bits: u32) -> Result<u32, AllocError> {
     let mut rest = bits;
     for row in 0..size {
@@ -59,7 +59,7 @@ fn push_bits(columns: &mut Columns, size: usize, bits: u32) -> Result<u32, Alloc
     Ok(rest)
 }
 
-/// The square pattern whose places are the bits of a number, column by column.
+/// The square pattern whose entries are the bits of a number, column by column.
 pub fn of_bits(alloc: Global, size: usize, bits: u32) -> Result<Columns, AllocError> {
     let mut columns = Columns::new(alloc)?;
     let mut rest = bits;
@@ -86,7 +86,7 @@ fn every_small_pattern_has_its_fill(rt: HostRuntime) -> Result<(), Fail> {
     Ok(())
 }
 
-// Adds a column with about one place in five, from a linear congruential generator (Knuth's MMIX). Returns its new
+// Adds a column with about one entry in five, from a linear congruential generator (Knuth's MMIX). Returns its new
 // state.
 fn push_random(columns: &mut Columns, size: usize, seed: u64) -> Result<u64, AllocError> {
     let mut state = seed;
@@ -102,7 +102,7 @@ fn push_random(columns: &mut Columns, size: usize, seed: u64) -> Result<u64, All
     Ok(state)
 }
 
-/// The columns of a square pattern with about one place in five.
+/// The columns of a square pattern with about one entry in five.
 pub fn random(alloc: Global, size: usize, seed: u64) -> Result<Columns, AllocError> {
     let mut columns = Columns::new(alloc)?;
     let mut state = seed;

@@ -5,7 +5,7 @@ ghost use Rattle.std.specs.Prelude.{◌≡◌};
 
 use crate::compared_factors::{of_bits, random, stores};
 use crate::square_patterns::Columns;
-use slow_programs::fill::fill_by_pairs;
+use reference_models::fill::fill_by_pairs;
 use sparse_factor::factorization::{CscSymbolicCholesky, Triangle};
 use sparse_pattern::pattern::SparsityPattern;
 use std::alloc::{AllocError, Global};

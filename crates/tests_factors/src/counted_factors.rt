@@ -1,4 +1,4 @@
-//! Counted factorisations: the steps are at most as many as the pattern and its factor have places.
+//! Counted factorisations: the steps are at most as many as the pattern and its factor have entries.
 
 ghost use Rattle.std.specs.Prelude.{◌≡◌, ◌+◌, ◌≤◌, IfOk, IsTrue};
 
@@ -9,8 +9,8 @@ use sparse_pattern::pattern::SparsityPattern;
 use std::alloc::{AllocError, Global};
 use std::test::Fail;
 
-// The places of a square pattern and of its factor. The steps are counted: they are at most as many as both have
-// places.
+// The entries of a square pattern and of its factor. The steps are counted: they are at most as many as both have
+// entries.
 fn counted_places(
     alloc: Global,
     pattern: SparsityPattern,
@@ -24,7 +24,7 @@ fn counted_places(
     Ok((nnz, factor.l_pattern().nnz()))
 }
 
-/// Returns whether the columns are those of a square pattern with `places.0` places whose factor has `places.1`. The
+/// Returns whether the columns are those of a square pattern with `places.0` entries whose factor has `places.1`. The
 /// steps are then at most the sum.
 pub fn has_places(
     alloc: Global,

@@ -27,7 +27,8 @@ impl Generator {
     }
 }
 
-/// Returns a list of this shape with this many triplets, some of them at one place, or with none where a size is zero.
+/// Returns a list of this shape with this many triplets, some of them with the same row and column, or with none where
+/// a size is zero.
 pub fn list(
     alloc: Global,
     generator: &mut Generator,

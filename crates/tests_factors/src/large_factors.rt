@@ -9,7 +9,7 @@ use sparse_factor::factorization::CscSymbolicCholesky;
 use std::alloc::{AllocError, Global};
 use std::test::Fail;
 
-// Adds a column of the cycle: the diagonal and the places beside it, and in the last column the corner.
+// Adds a column of the cycle: the diagonal and the entries beside it, and in the last column the corner.
 fn push_on_cycle(columns: &mut Columns, size: usize, column: usize) -> Result<(), AllocError>
     requires { column < size }
 {
@@ -23,7 +23,7 @@ fn push_on_cycle(columns: &mut Columns, size: usize, column: usize) -> Result<()
     columns.end()
 }
 
-// The diagonal and the places beside it, and the two corners.
+// The diagonal and the entries beside it, and the two corners.
 fn cycle(alloc: Global, size: usize) -> Result<Columns, AllocError> {
     let mut columns = Columns::new(alloc)?;
     for column in 0..size {
@@ -50,7 +50,7 @@ fn arrow(alloc: Global, size: usize) -> Result<Columns, AllocError> {
     Ok(columns)
 }
 
-// The places of a square pattern and of its factor, or `None` where the columns are not those of one.
+// The entries of a square pattern and of its factor, or `None` where the columns are not those of one.
 fn places(
     alloc: Global,
     columns: Columns,

@@ -1,5 +1,5 @@
 //! Tests of the symbolic factor and of exact factorisations, and tests that compare the libraries with the slow
-//! programs of `slow_programs` on generated inputs.
+//! programs of `reference_models` on generated inputs.
 #![tactic(auto)]
 
 #[cfg(test)]

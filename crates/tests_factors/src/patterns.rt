@@ -1,6 +1,6 @@
 //! All small raw data of patterns.
 
-use slow_programs::pattern_faults::pattern_fault;
+use reference_models::pattern_faults::pattern_fault;
 use sparse_pattern::pattern::{SparsityPattern, SparsityPatternFormatError};
 use std::alloc::{AllocError, Global};
 use std::test::Fail;

@@ -1,8 +1,8 @@
 //! Lists of triplets by rows and columns, and their products.
 
 use crate::generated::{Generator, list};
-use slow_programs::products::{product_at, product_has};
-use slow_programs::sums::{has_triplet, sum_at};
+use reference_models::products::{product_at, product_has};
+use reference_models::sums::{has_triplet, sum_at};
 use sparse_algebra::scalar::W64;
 use sparse_convert::serial::{convert_coo_csc, convert_coo_csr};
 use sparse_coo_dense::coo::CooMatrix;

@@ -3,14 +3,14 @@
 ghost use Rattle.std.specs.Prelude.{◌≡◌, OnOk};
 ghost use Rattle.sparse_coo_dense.specs.DensePlain.{plain_of_dense};
 ghost use Rattle.sparse_compressed.specs.PlainOfLanes.{plain_of_cols};
-ghost use Rattle.sparse_with_dense.specs.Solutions.{plain_lower, IsSolution, HasSameValues};
+ghost use Rattle.sparse_dense_ops.specs.Solutions.{plain_lower, IsSolution, HasSameValues};
 
 use sparse_algebra::error::OperationError;
 use sparse_algebra::operand::Op;
 use sparse_algebra::scalar::Units;
 use sparse_coo_dense::dense::DMatrix;
 use sparse_csr_csc::csc::CscMatrix;
-use sparse_with_dense::spsolve_csc_lower_triangular;
+use sparse_dense_ops::spsolve_csc_lower_triangular;
 
 /// Solves a system, and has the values of a solution that was known before: there is no other one.
 pub fn solve_known<T: Units>(

@@ -76,7 +76,7 @@ fn refused_arrays_drop_their_values(rt: HostRuntime) {
     }
 }
 
-// Whether a pattern without places refuses these values by rows.
+// Whether a pattern without entries refuses these values by rows.
 fn refuses_values_by_rows(alloc: Global, values: Vec<Rc<i32>>) -> bool {
     match SparsityPattern::zeros(alloc, 1, 1) {
         Ok(pattern) => CsrMatrix::try_from_pattern_and_values(pattern, values).is_err(),
@@ -92,7 +92,7 @@ fn refuses_values_by_columns(alloc: Global, values: Vec<Rc<i32>>) -> bool {
     }
 }
 
-// Whether a pattern without places refuses copies of one value by rows.
+// Whether a pattern without entries refuses copies of one value by rows.
 fn refuses_copies_by_rows(alloc: Global, one: &Rc<i32>, count: usize) -> bool {
     match copies(alloc, one, count) {
         Ok(values) => refuses_values_by_rows(alloc, values),
@@ -108,7 +108,7 @@ fn refuses_copies_by_columns(alloc: Global, one: &Rc<i32>, count: usize) -> bool
     }
 }
 
-// Whether a pattern without places refuses values by rows and by columns, and none of them is left.
+// Whether a pattern without entries refuses values by rows and by columns, and none of them is left.
 fn drops_values(alloc: Global, count: usize) -> bool {
     match Rc::new(alloc, 7) {
         Ok(one) => {

@@ -1,7 +1,7 @@
 //! Offsets and slots of keys, with counts of both widths.
 
 use crate::fixtures::are_equal;
-use sparse_pattern::counting::{counts_to_offsets, key_offsets, next_slot};
+use sparse_pattern::counting::{counts_to_offsets, key_offsets, next_destination};
 use std::alloc::{AllocError, Global};
 
 // The offsets of the keys 2, 0, 2 and 1.
@@ -37,9 +37,9 @@ fn equal_keys_keep_their_order(alloc: Global) -> bool {
     let keys = [1, 0, 1];
     match key_offsets::<u32>(alloc, &keys, 2) {
         Ok((_, mut cursors)) => {
-            let first = next_slot(&keys, 0, &mut cursors);
-            let second = next_slot(&keys, 1, &mut cursors);
-            let third = next_slot(&keys, 2, &mut cursors);
+            let first = next_destination(&keys, 0, &mut cursors);
+            let second = next_destination(&keys, 1, &mut cursors);
+            let third = next_destination(&keys, 2, &mut cursors);
             first == 1 && second == 0 && third == 2
         }
         Err(_error) => false,

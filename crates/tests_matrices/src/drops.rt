@@ -5,7 +5,8 @@ use sparse_coo_dense::coo::CooMatrix;
 use std::alloc::{AllocError, Global};
 use std::rc::Rc;
 
-// Three triplets with copies of one value: two inside of 2 rows and 3 columns, and between them one at this place.
+// Three triplets with copies of one value: two inside of 2 rows and 3 columns, and between them one at this row and
+// column.
 fn with_copies(
     alloc: Global,
     one: &Rc<i32>,
@@ -30,7 +31,7 @@ fn refuses_copies(alloc: Global, one: &Rc<i32>, place: (usize, usize)) -> bool {
     }
 }
 
-// Whether triplets with this place are refused, and none of their values is left.
+// Whether triplets with this row and column are refused, and none of their values is left.
 fn drops_values(alloc: Global, place: (usize, usize)) -> bool {
     match Rc::new(alloc, 7) {
         Ok(one) => refuses_copies(alloc, &one, place) && Rc::strong_count(&one) == 1,

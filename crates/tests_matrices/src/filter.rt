@@ -1,4 +1,4 @@
-//! A predicate is asked once for each stored place. No clause says how often.
+//! A predicate is asked once for each stored entry. No clause says how often.
 
 use crate::fixtures::{BY_COLUMNS, BY_ROWS, csc, csr};
 use sparse_csr_csc::csc::CscMatrix;
@@ -6,7 +6,7 @@ use sparse_csr_csc::csr::CsrMatrix;
 use std::alloc::{AllocError, Global};
 use std::cell::Cell;
 
-// How often a predicate that keeps every place is asked by rows.
+// How often a predicate that keeps every entry is asked by rows.
 fn asked_by_rows(alloc: Global, matrix: &CsrMatrix<i32>) -> Result<u32, AllocError> {
     let asked = Cell::new(0u32);
     matrix.filter(alloc, |_, _, _| {

@@ -7,7 +7,7 @@ use sparse_csr_csc::csr::CsrMatrix;
 use sparse_pattern::pattern::SparsityPattern;
 use std::alloc::{AllocError, Global};
 
-// The places (0, 0), (0, 2) and (1, 1).
+// The entries (0, 0), (0, 2) and (1, 1).
 fn entries_end(pattern: &SparsityPattern) -> Result<bool, AllocError> {
     let mut entries = pattern.entries();
     let starts = entries.next() == Some((0, 0)) && entries.next() == Some((0, 2));

@@ -1,6 +1,6 @@
 //! JSON texts that are refused: deep nesting, and each proper prefix of a text.
 
-use sparse_data_structs::{CooData, CsrData};
+use sparse_serde::{CooData, CsrData};
 use std::alloc::{AllocError, Global};
 
 // Appends a character this often.

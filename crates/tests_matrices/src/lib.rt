@@ -1,5 +1,6 @@
-//! Tests of lists and matrices that rows of `cases` can't hold: values that are dropped, iterators, growth within reserved
-//! memory, counting by keys, generated texts, sizes at which a call could take too much time, and inverses by trial.
+//! Tests of lists and matrices that rows of `cases` can't hold: values that are dropped, iterators, growth within
+//! reserved memory, counting by keys, generated texts, sizes at which a call could take too much time, and inverses by
+//! trial.
 #![tactic(auto)]
 
 #[cfg(test)]

@@ -7,7 +7,7 @@ use sparse_convert::serial::{convert_coo_csc, convert_coo_csr};
 use sparse_coo_dense::coo::CooMatrix;
 use sparse_coo_dense::steps::Steps;
 use sparse_csr_csc::csr::CsrMatrix;
-use sparse_pattern::counting::{key_offsets, next_slot};
+use sparse_pattern::counting::{key_offsets, next_destination};
 use sparse_products::serial::{mul_csr, spmm_csr_prealloc_unchecked_counted};
 use std::alloc::{AllocError, Global};
 
@@ -41,7 +41,7 @@ const WIDE: Arrays<'static, i64> = (2, 1000, &[0, 2, 3], &[7, 999, 7], &[4, 5, 6
 
 // Whether C = A B, computed by 2 C + 3 A B in counted steps, has the values of 5 A B.
 //
-// The rows of C are longer than it has places, so each triple is added by a binary search.
+// The rows of C are longer than it has entries, so each triple is added by a binary search.
 fn is_updated_in_steps(
     alloc: Global,
     a: &CsrMatrix<W64>,
@@ -78,7 +78,7 @@ fn wide_rows_are_searched_in_steps(rt: HostRuntime) {
     assert!(rt; wide_rows_are_updated_in_steps(rt.alloc()));
 }
 
-// A list of triplets that go round the places of a 3 by 5 matrix.
+// A list of triplets that go round the entries of a 3 by 5 matrix.
 fn long_list(alloc: Global, count: usize) -> Result<CooMatrix<W64>, AllocError> {
     let mut coo = CooMatrix::new(alloc, 3, 5);
     for number in 0..count {
@@ -87,13 +87,13 @@ fn long_list(alloc: Global, count: usize) -> Result<CooMatrix<W64>, AllocError> 
     Ok(coo)
 }
 
-// The columns of all places of a 3 by 5 matrix, row by row.
+// The columns of all entries of a 3 by 5 matrix, row by row.
 const COLUMNS: [usize; 15] = [0, 1, 2, 3, 4, 0, 1, 2, 3, 4, 0, 1, 2, 3, 4];
 
-// The rows of all its places, column by column.
+// The rows of all its entries, column by column.
 const ROWS: [usize; 15] = [0, 1, 2, 0, 1, 2, 0, 1, 2, 0, 1, 2, 0, 1, 2];
 
-// Whether the list of 3000 triplets is converted: each place is met once in 15 triplets.
+// Whether the list of 3000 triplets is converted: each entry is met once in 15 triplets.
 fn long_list_is_converted(alloc: Global) -> bool {
     match long_list(alloc, 3000) {
         Ok(coo) => {
@@ -109,17 +109,17 @@ fn a_long_list_is_converted(rt: HostRuntime) {
     assert!(rt; long_list_is_converted(rt.alloc()));
 }
 
-// Only a list of 2^32 triplets is counted by `usize`, which is too long for a test. This takes three triplets of two rows
-// through the same two calls by wide counters.
+// Only a list of 2^32 triplets is counted by `usize`, which is too long for a test. This takes three triplets of two
+// rows through the same two calls by wide counters.
 fn are_placed_by_wide_counts(alloc: Global) -> bool {
     let rows = [1, 0, 1];
     let Ok((offsets, mut cursors)) = key_offsets::<usize>(alloc, &rows, 2) else {
         return false;
     };
     let mut entries = [(0, 0); 3];
-    entries[next_slot(&rows, 0, &mut cursors)] = (0, 5);
-    entries[next_slot(&rows, 1, &mut cursors)] = (1, 6);
-    entries[next_slot(&rows, 2, &mut cursors)] = (2, 7);
+    entries[next_destination(&rows, 0, &mut cursors)] = (0, 5);
+    entries[next_destination(&rows, 1, &mut cursors)] = (1, 6);
+    entries[next_destination(&rows, 2, &mut cursors)] = (2, 7);
     are_equal(&offsets, &[0, 1, 3]) && are_equal(&entries, &[(1, 6), (0, 5), (2, 7)])
 }
 

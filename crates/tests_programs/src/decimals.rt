@@ -199,7 +199,7 @@ fn outcome(alloc: Global, text: &str, scale: u32) -> Result<String, AllocError> 
     }
 }
 
-// The message of an error, behind the line at fault.
+// The message of an error, after the line at fault.
 fn message(alloc: Global, error: ScaleError) -> Result<String, AllocError> {
     match error.line() {
         Some(line) => format!(in alloc; "line {line}: {error}"),

@@ -1,7 +1,7 @@
 //! Writers that fail after each number of bytes: through `save_to_matrix_market`, and through `run`.
 
 use nalgebra_sparse::CooMatrix;
-use nalgebra_sparse::expr::{Expr, ExprError, Form, run};
+use nalgebra_sparse::expr::{Expr, ExprError, OutputOrder, run};
 use nalgebra_sparse::io::MatrixMarketErrorKind::IOError;
 use nalgebra_sparse::io::{MatrixMarketErrorKind, Out, save_to_matrix_market};
 use nalgebra_sparse::scalar::W64;
@@ -32,7 +32,7 @@ type Faults = (Option<ErrorKind>, Option<ErrorKind>);
 /// Then it answers the first fault, and then the second. After both it takes everything.
 #[derive(Drop)]
 struct Failing {
-    taken: [u8; 128],
+    accepted: [u8; 128],
     count: usize,
     step: usize,
     room: usize,
@@ -43,7 +43,7 @@ struct Failing {
 impl Failing {
     fn new(step: usize, room: usize, faults: Faults) -> Failing {
         Failing {
-            taken: [0; 128],
+            accepted: [0; 128],
             count: 0,
             step,
             room,
@@ -76,7 +76,7 @@ impl Write for Failing {
         }
         let start = self.count.min(128);
         let count = count.min(128 - start).min(bytes.len());
-        self.taken[start..start + count].copy_from_slice(&bytes[..count]);
+        self.accepted[start..start + count].copy_from_slice(&bytes[..count]);
         self.count = start + count;
         self.room = self.room.saturating_sub(count);
         Ok(count)
@@ -90,7 +90,7 @@ impl Write for Failing {
 // Whether the writer took the first bytes of the text alone.
 fn took(out: Out<Failing>, count: usize) -> bool {
     let writer = out.into_inner();
-    writer.taken.get(..writer.count) == TEXT.as_bytes().get(..count)
+    writer.accepted.get(..writer.count) == TEXT.as_bytes().get(..count)
 }
 
 /// What is written: a list, and an expression over its text.
@@ -142,7 +142,7 @@ fn run_ends(
     kind: Option<ErrorKind>,
 ) -> bool {
     let mut out = Out::new(writer);
-    let ended = run(alloc, Form::Rows, expr, &[SOURCE], &mut out).err();
+    let ended = run(alloc, OutputOrder::Rows, expr, &[SOURCE], &mut out).err();
     is_write(ended, kind) && took(out, count)
 }
 

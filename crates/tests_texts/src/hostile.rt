@@ -2,8 +2,8 @@
 
 use crate::files;
 use crate::matrices::is_listed;
-use slow_programs::texts::entries::Listed;
-use slow_programs::texts::meaning;
+use reference_models::texts::entries::Listed;
+use reference_models::texts::meaning;
 use sparse_coo_dense::coo::CooMatrix;
 use sparse_io::{
     MatrixMarketError, MatrixMarketErrorKind, MatrixMarketScalar, load_coo_from_matrix_market_str,
@@ -78,8 +78,8 @@ fn a_text_cut_at_each_byte(rt: HostRuntime) {
 // The text with the character at a position replaced.
 fn replaced(alloc: Global, text: &str, at: usize, by: char) -> Result<String, AllocError> {
     let mut copy = String::new(alloc);
-    for (position, character) in text.char_indices() {
-        copy.push(if position == at { by } else { character })?;
+    for (offset, character) in text.char_indices() {
+        copy.push(if offset == at { by } else { character })?;
     }
     Ok(copy)
 }

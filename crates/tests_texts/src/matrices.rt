@@ -5,7 +5,7 @@ use sparse_coo_dense::coo::CooMatrix;
 use sparse_io::MatrixMarketScalar;
 use std::alloc::{AllocError, Global};
 
-// The place and the value of a triplet, as a matrix gives them.
+// The row, the column and the value of a triplet, as a matrix gives them.
 fn parts<T>(triplet: &(usize, usize, T)) -> (usize, usize, &T) {
     (triplet.0, triplet.1, &triplet.2)
 }

@@ -55,7 +55,7 @@ fn writes_and_reads_a_text_longer_than_the_buffer(rt: HostRuntime) -> Result<(),
 /// A writer that takes at most `step` bytes a call. After `room` bytes it fails once, or takes none.
 #[derive(Drop)]
 struct Limited {
-    taken: Vec<u8>,
+    accepted: Vec<u8>,
     step: usize,
     room: usize,
     fault: Option<ErrorKind>,
@@ -71,7 +71,7 @@ impl Write for Limited {
                 None => Ok(0),
             };
         }
-        self.taken.extend_from_slice(&bytes[..count])?;
+        self.accepted.extend_from_slice(&bytes[..count])?;
         self.room -= count;
         Ok(count)
     }
@@ -93,12 +93,12 @@ fn saved(
         Err(error) => Some(error.kind()),
     };
     let Limited {
-        taken,
+        accepted,
         step: _,
         room: _,
         fault: _,
     } = out.into_inner();
-    Ok((refusal, taken))
+    Ok((refusal, accepted))
 }
 
 /// The most bytes that a writer takes a call, the numbers of bytes after which it fails, how it fails, and the kind of
@@ -146,14 +146,15 @@ const STOPS: &[Stop] = &[
 // bytes.
 fn stops(alloc: Global, case: &Stop, room: usize) -> bool {
     let writer = Limited {
-        taken: Vec::new(alloc),
+        accepted: Vec::new(alloc),
         step: case.step,
         room,
         fault: case.fault,
     };
     match saved(alloc, writer) {
-        Ok((refusal, taken)) => {
-            refusal == case.failure && taken.as_slice() == &TEXT.as_bytes()[..room.min(TEXT.len())]
+        Ok((refusal, accepted)) => {
+            refusal == case.failure
+                && accepted.as_slice() == &TEXT.as_bytes()[..room.min(TEXT.len())]
         }
         Err(AllocError) => false,
     }

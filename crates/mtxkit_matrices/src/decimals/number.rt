@@ -11,7 +11,7 @@ ghost use Rattle.mtxkit_matrices.specs.InnerPowers.{HasPower, signed};
 
 use crate::decimals::magnitude::{Power, magnitude};
 use crate::decimals::mantissa::read_digits;
-use sparse_parser::lines::split_front;
+use sparse_parser::lines::split_prefix;
 use sparse_parser::numbers::{after_sign, index, starts_with_minus};
 
 /// Why a number times a power of ten is not taken.
@@ -42,14 +42,14 @@ fn split_exponent(word: &[u8]) -> (&[u8], &[u8])
     ensures mantissa { result.0.now ≡ mantissa_of word.now }
     ensures exponent { result.1.now ≡ exponent_of word.now }
 {
-    split_front(after_sign(word), |byte| byte != b'e' && byte != b'E')
+    split_prefix(after_sign(word), |byte| byte != b'e' && byte != b'E')
 }
 
 // Returns the number of digits behind the point of a mantissa.
 fn places_behind(mantissa: &[u8]) -> usize
     ensures { result ≡ places_behind mantissa.now }
 {
-    let (_, rest) = split_front(mantissa, |byte| byte != b'.');
+    let (_, rest) = split_prefix(mantissa, |byte| byte != b'.');
     rest.len().saturating_sub(1)
 }
 

@@ -2,7 +2,7 @@
 
 ghost use Rattle.std.specs.Prelude.{◌≡◌, ℕ, ◌≤◌, ◌⊎◌, ◌↔◌, IfOk, IsTrue};
 ghost use Rattle.std.specs.Int.{abs_diff};
-ghost use Rattle.sparse_pattern.specs.Raw.{IsPlace};
+ghost use Rattle.sparse_pattern.specs.Raw.{IsEntry};
 ghost use Rattle.mtxkit_matrices.specs.Shapes.{IsSymmetricPattern};
 
 use sparse_pattern::pattern::SparsityPattern;
@@ -10,9 +10,9 @@ use std::alloc::{AllocError, Global};
 
 /// Returns the greatest distance of a place from the diagonal, or 0 if there are no places.
 pub fn bandwidth(pattern: &SparsityPattern) -> usize
-    ensures bound { (i j : ℕ) → IsPlace pattern.now i j → abs_diff i j ≤ result }
+    ensures bound { (i j : ℕ) → IsEntry pattern.now i j → abs_diff i j ≤ result }
     ensures reached { (result ≡ 0)
-        ⊎ ((i : ℕ) × (j : ℕ) × IsPlace pattern.now i j × (abs_diff i j ≡ result)) }
+        ⊎ ((i : ℕ) × (j : ℕ) × IsEntry pattern.now i j × (abs_diff i j ≡ result)) }
 {
     let mut widest = 0;
     for (row, col) in pattern.entries() {

@@ -2,9 +2,9 @@
 
 ghost use Rattle.std.specs.Prelude.{◌≡◌, ℕ, ◌*◌, ◌<◌, ◌≤◌, ◌⊎◌, ◌↔◌, IfOk, IsTrue, length, false};
 ghost use Rattle.std.specs.Prelude.{slice_index_or};
-ghost use Rattle.mtxkit_matrices.specs.Pictures.{cell_of, is_black, HasPlaceIn, IsMarked};
+ghost use Rattle.mtxkit_matrices.specs.Pictures.{cell_of, is_black, HasEntryIn, IsMarked};
 
-use sparse_algebra::learn;
+use sparse_algebra::recall;
 use sparse_pattern::pattern::SparsityPattern;
 use std::alloc::{AllocError, Global};
 use std::marker::Model;
@@ -67,7 +67,7 @@ pub fn draw(
     ensures height { IfOk result (λ p. p.height ≡ height) }
     ensures width { IfOk result (λ p. p.width ≡ width) }
     ensures black { IfOk result (λ p. (r c : ℕ) → r < height → c < width
-        → IsTrue (is_black p r c) ↔ HasPlaceIn pattern.now height width r c) }
+        → IsTrue (is_black p r c) ↔ HasEntryIn pattern.now height width r c) }
 {
     let count = height.checked_mul(width).ok_or(AllocError)?;
     let mut cells = vec![in alloc; false; count]?;
@@ -86,7 +86,7 @@ fn mark(cells: &mut [bool], pattern: &SparsityPattern, height: usize, width: usi
     ensures marked { (q : ℕ) → q < length cells.old → IsTrue (slice_index_or cells.new q false)
         ↔ (IsTrue (slice_index_or cells.old q false) ⊎ IsMarked pattern.now height width q) }
 {
-    learn(pattern.major_offsets());
+    recall(pattern.major_offsets());
     for (lane, index) in pattern.entries() {
         let row = cell_of(lane, pattern.major_dim(), height);
         let col = cell_of(index, pattern.minor_dim(), width);

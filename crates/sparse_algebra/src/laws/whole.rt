@@ -66,11 +66,11 @@ pub fn wrapped_matrix_law()
         ≡ plain_kept (wrapping_ring w) test (plain_wrapped w a) }
 {}
 
-/// If an entry of the integer result fits the signed range, the wrapping result has exactly that entry, even if partial
-/// sums overflow.
+/// If the integer result at a row and column fits the signed range, the wrapping result there is exactly that integer,
+/// even if partial sums overflow.
 ///
-/// The integer entry of a product is the sum of products; that of a list of triplets is the sum over the triplets at
-/// that pair.
+/// The integer result of a product is the sum of products; that of a list of triplets is the sum over the triplets at
+/// that row and column.
 pub fn whole_entry_law()
     ensures w32_triplets { (rows cols : ℕ) (ts : List (ℕ × ℕ × W32))
         → Shows w32 (plain_of_triplets (wrapping_ring w32)

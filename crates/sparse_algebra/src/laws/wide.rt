@@ -12,15 +12,15 @@ ghost use Rattle.sparse_algebra.specs.WrappingValues.{w128_number, w128_value};
 
 use crate::scalar::W128;
 
-/// The representative of the class that a scalar means is the number that `get` returns.
+/// The signed representative of the residue class of a scalar is the number that `get` returns.
 pub fn wide_read_back_law()
     ensures { (x : W128) → number_of w128 (w128_value x) ≡ w128_number x }
 {}
 
-/// The matrix of a list of triplets is that of their integers, reduced afterwards.
+/// The plain matrix of a list of triplets is the plain matrix of their integers, reduced modulo 2^128.
 ///
-/// If the integer sum of the triplets at a pair fits 128 bits, the entry there is exactly that sum, even if partial
-/// sums overflow.
+/// If the integer sum of the triplets at a row and column fits the signed range of 128 bits, the value there is exactly
+/// that sum, even if partial sums overflow.
 pub fn wide_triplets_law()
     ensures wrapped { (rows cols : ℕ) (ts : List (ℕ × ℕ × W128))
         → plain_wrapped w128 (plain_of_triplets whole_ring w128_number rows cols ts)

@@ -1,11 +1,11 @@
-//! Scalars whose inverses can be found.
+//! Scalars with a method that computes inverses.
 
 ghost use Rattle.std.specs.Prelude.{◌≡◌, ◌↔◌, IfSome, IsSome};
 ghost use Rattle.sparse_algebra.specs.Inverses.{HasInverse};
 
 use crate::scalar::Ring;
 
-/// A commutative ring whose inverses can be found.
+/// A commutative ring with a method that computes inverses.
 ///
 /// # Examples
 ///
@@ -18,7 +18,7 @@ use crate::scalar::Ring;
 /// }
 /// ```
 pub trait Units: Ring {
-    /// Returns the inverse, or `None` exactly where no scalar is one.
+    /// Returns the inverse, or `None` if and only if no scalar is an inverse.
     fn recip(self) -> Option<Self>
         ensures inverse { IfSome result (λ y.
             Self.ring.mul (Self.value self) (Self.value y) ≡ Self.ring.one) }

@@ -10,14 +10,14 @@ ghost use Rattle.sparse_algebra.specs.WrappingValues.{w64_value, w128_value};
 ghost use Rattle.sparse_algebra.specs.WrappingValues.{IsOdd};
 
 use crate::scalar::inverses::Units;
-use crate::scalar::newton::approach;
+use crate::scalar::newton::newton_inverse;
 use crate::scalar::wide::W128;
 use crate::scalar::{W32, W64};
 
 impl Units for W32 {
-    /// Returns the inverse, or `None` exactly where the number is even.
+    /// Returns the inverse, or `None` if and only if the number is even.
     ///
-    /// One is right in the last bit, and each of Newton's steps doubles the number of right bits.
+    /// Newton's iteration from one, which is correct in the last bit. Each step doubles the number of correct bits.
     fn recip(self) -> Option<W32>
         ensures inverse { IfSome result (λ y.
             (wrapping_ring w32).mul (w32_value self) (w32_value y) ≡ (wrapping_ring w32).one) }
@@ -27,14 +27,14 @@ impl Units for W32 {
         if self.get().cast_unsigned() % 2 == 0 {
             return None;
         }
-        Some(approach(self, 5))
+        Some(newton_inverse(self, 5))
     }
 }
 
 impl Units for W64 {
-    /// Returns the inverse, or `None` exactly where the number is even.
+    /// Returns the inverse, or `None` if and only if the number is even.
     ///
-    /// One is right in the last bit, and each of Newton's steps doubles the number of right bits.
+    /// Newton's iteration from one, which is correct in the last bit. Each step doubles the number of correct bits.
     fn recip(self) -> Option<W64>
         ensures inverse { IfSome result (λ y.
             (wrapping_ring w64).mul (w64_value self) (w64_value y) ≡ (wrapping_ring w64).one) }
@@ -44,14 +44,14 @@ impl Units for W64 {
         if self.get().cast_unsigned() % 2 == 0 {
             return None;
         }
-        Some(approach(self, 6))
+        Some(newton_inverse(self, 6))
     }
 }
 
 impl Units for W128 {
-    /// Returns the inverse, or `None` exactly where the number is even.
+    /// Returns the inverse, or `None` if and only if the number is even.
     ///
-    /// One is right in the last bit, and each of Newton's steps doubles the number of right bits.
+    /// Newton's iteration from one, which is correct in the last bit. Each step doubles the number of correct bits.
     fn recip(self) -> Option<W128>
         ensures inverse { IfSome result (λ y.
             (wrapping_ring w128).mul (w128_value self) (w128_value y) ≡ (wrapping_ring w128).one) }
@@ -62,6 +62,6 @@ impl Units for W128 {
         if self.get().cast_unsigned() % 2 == 0 {
             return None;
         }
-        Some(approach(self, 7))
+        Some(newton_inverse(self, 7))
     }
 }

@@ -7,7 +7,7 @@ ghost use Rattle.sparse_algebra.specs.Moduli.{mod_class, mod_decides};
 use crate::scalar::inverses::Units;
 use crate::scalar::{Ring, Zero};
 
-/// The integers modulo `M`, where 0 is read as 1.
+/// An integer modulo `M`. A modulus of 0 is read as 1.
 ///
 /// # Examples
 ///
@@ -32,7 +32,7 @@ impl<const M: u64> Mod<M> {
         if M == 0 { 1 } else { M }
     }
 
-    /// Returns the residue of a number.
+    /// Returns the residue of `number`.
     pub fn new(number: u64) -> Mod<M>
         ensures { mod_number result ≡ number % modulus M }
     {
@@ -41,7 +41,7 @@ impl<const M: u64> Mod<M> {
         }
     }
 
-    /// Returns the number, which is below the modulus.
+    /// Returns the representative of the residue that is below the modulus.
     pub fn get(self) -> u64
         ensures number { result ≡ mod_number self.entry }
         ensures below { result < modulus M }
@@ -104,7 +104,7 @@ impl<const M: u64> Units for Mod<M> {
     ghost use Rattle.sparse_algebra.specs.Inverses.{HasInverse};
     ghost use Rattle.sparse_algebra.specs.ModNumbers.{mod_number, mod_value};
 
-    /// Returns the inverse, or `None` exactly where the number and the modulus have a common divisor other than one.
+    /// Returns the inverse, or `None` if and only if the number and the modulus have a common divisor other than one.
     ///
     /// The extended Euclidean algorithm, in at most about 1.5 divisions for each bit of the modulus.
     fn recip(self) -> Option<Mod<M>>
@@ -115,17 +115,21 @@ impl<const M: u64> Units for Mod<M> {
     {
         let mut high = Self::modulus();
         let mut low = self.number;
-        let mut at_high: Mod<M> = Mod::zero();
-        let mut at_low: Mod<M> = Mod::one();
+        let mut high_coefficient: Mod<M> = Mod::zero();
+        let mut low_coefficient: Mod<M> = Mod::one();
         while low != 0 {
             let quotient: Mod<M> = Mod::new(high / low);
             let rest = high % low;
-            let at_rest = at_high.add(quotient.mul(at_low).neg());
+            let rest_coefficient = high_coefficient.add(quotient.mul(low_coefficient).neg());
             high = low;
             low = rest;
-            at_high = at_low;
-            at_low = at_rest;
+            high_coefficient = low_coefficient;
+            low_coefficient = rest_coefficient;
         }
-        if high == 1 { Some(at_high) } else { None }
+        if high == 1 {
+            Some(high_coefficient)
+        } else {
+            None
+        }
     }
 }

@@ -1,4 +1,4 @@
-//! The integers modulo 2^128, in signed form.
+//! The integers modulo 2^128, represented by signed integers.
 
 ghost use Rattle.std.specs.Prelude.{◌≡◌, pos};
 ghost use Rattle.std.specs.Int.{w128};
@@ -8,7 +8,7 @@ ghost use Rattle.sparse_algebra.specs.Wrapping.{class_of_zero};
 
 use crate::scalar::{Ring, Zero};
 
-/// The integers modulo 2^128. Sums and products wrap.
+/// An integer modulo 2^128, represented by an `i128`. Sums, products and negation wrap.
 ///
 /// # Examples
 ///
@@ -27,14 +27,14 @@ pub struct W128 {
 impl W128 {
     ghost use Rattle.sparse_algebra.specs.WrappingValues.{w128_number};
 
-    /// Returns the class of a number.
+    /// Returns the residue class of `number`.
     pub fn new(number: i128) -> W128
         ensures { w128_number result ≡ number }
     {
         W128 { number }
     }
 
-    /// Returns the number in signed form.
+    /// Returns the representative of the class as an `i128`.
     pub fn get(self) -> i128
         ensures { result ≡ w128_number self }
     {

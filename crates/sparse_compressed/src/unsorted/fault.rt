@@ -6,7 +6,7 @@ ghost use Rattle.sparse_compressed.specs.InnerUnsortedFaults.{fault_kind};
 use sparse_pattern::error::{SparseFormatError, SparseFormatErrorKind};
 use std::alloc::AllocError;
 
-// What is wrong with arrays whose lanes need not be sorted, each lane by its number; or that an allocation failed.
+// A fault of arrays whose lanes need not be sorted, with the lane where there is one; or that an allocation failed.
 #[derive(Clone, Copy)]
 pub(super) enum UnsortedFault {
     ValueCount,
@@ -21,7 +21,7 @@ pub(super) enum UnsortedFault {
 }
 
 impl UnsortedFault {
-    // The error that reports the fault.
+    // Returns the error that reports the fault.
     pub(super) fn error(self) -> SparseFormatError
         ensures { result ≡ fault_kind self }
     {

@@ -34,7 +34,7 @@ pub fn convert_dense_coo<T: Zero + Copy>(
         (filter (differs_from T.eq T.zero_value) (column_triplets T.zero_value dense.now))) }
 {
     let mut coo = CooMatrix::new(alloc, dense.nrows(), dense.ncols());
-    // Columns without values take no time.
+    // A matrix without rows takes no time, even if it has columns.
     if dense.nrows() == 0 {
         return Ok(coo);
     }
@@ -67,7 +67,7 @@ fn push_column<T: Zero + Copy>(
 /// Returns the CSC matrix of the values that are not `==` to zero.
 ///
 /// One pass over the values. Fails only if an allocation fails.
-#[tactic(auto, using(crate::proofs::Refusals::refused))]
+#[tactic(auto, using(sparse_algebra::proofs::EarlyReturns::early_return))]
 pub fn convert_dense_csc<T: Zero + Copy>(
     alloc: Global,
     dense: &DMatrix<T>,
@@ -96,7 +96,7 @@ pub fn convert_dense_csc<T: Zero + Copy>(
 ///     Ok(csr.col_indices() == [1].as_slice())
 /// }
 /// ```
-#[tactic(auto, using(crate::proofs::Refusals::refused))]
+#[tactic(auto, using(sparse_algebra::proofs::EarlyReturns::early_return))]
 pub fn convert_dense_csr<T: Zero + Copy>(
     alloc: Global,
     dense: &DMatrix<T>,
@@ -112,9 +112,9 @@ pub fn convert_dense_csr<T: Zero + Copy>(
     Ok(CsrMatrix::from_cs(cs))
 }
 
-// The compressed matrix of the nonzero values. Lanes start `lane_step` apart, and the values of a lane are `step`
-// apart.
-#[tactic(auto, using(crate::proofs::Refusals::refused))]
+// Returns the compressed matrix of the nonzero values. Lane i has at minor index k the value
+// `values[i * lane_step + k * step]`.
+#[tactic(auto, using(sparse_algebra::proofs::EarlyReturns::early_return))]
 fn compress_lanes<T: Zero + Copy>(
     alloc: Global,
     major_dim: usize,
@@ -148,8 +148,9 @@ fn compress_lanes<T: Zero + Copy>(
     Ok(CsMatrix::from_pattern_and_values(pattern, kept))
 }
 
-// Appends the indices and values of the nonzero values of a lane, which starts at `start` with its values `step` apart.
-#[tactic(auto, using(crate::proofs::Refusals::refused))]
+// Appends the indices and values of the nonzero values of a lane, whose value at minor index k is
+// `values[start + k * step]`.
+#[tactic(auto, using(sparse_algebra::proofs::EarlyReturns::early_return))]
 fn push_lane<T: Zero + Copy>(
     values: &[T],
     start: usize,
@@ -178,7 +179,8 @@ fn push_lane<T: Zero + Copy>(
     Ok(())
 }
 
-/// The plain matrix of each result has exactly the places of the dense matrix with a nonzero value, and these values.
+/// The plain matrix of each result has exactly the places where the dense matrix has a nonzero value, with these
+/// values.
 pub fn from_dense_law<T: Ring>()
     ensures coo { (d : Dense T)
         → IsNonzeroPart (plain_of_dense T.ring T.value d) (plain_of_coo T.ring T.value

@@ -6,7 +6,7 @@ ghost use Rattle.sparse_compressed.specs.Compressed.{Compressed, IsSound, compre
 ghost use Rattle.sparse_coo_dense.specs.CooPlain.{plain_of_coo};
 ghost use Rattle.sparse_compressed.specs.PlainOfLanes.{plain_of_rows, plain_of_cols};
 ghost use Rattle.sparse_convert.specs.OneMatrix.{Representation, Triplets, Rows, Cols, coo_of_rows};
-ghost use Rattle.sparse_convert.specs.OneMatrix.{coo_of_cols, IsSoundRepresentation, IsReached};
+ghost use Rattle.sparse_convert.specs.OneMatrix.{coo_of_cols, IsSoundRepresentation, ConvertsTo};
 ghost use Rattle.sparse_convert.specs.OneMatrix.{MeanOneMatrix};
 
 use sparse_algebra::scalar::Ring;
@@ -21,14 +21,14 @@ use sparse_compressed::laws::equal_law;
 pub fn one_matrix_law<T: Ring>()
     ensures three_representations { (x : Representation T) (a : Coo T) (m n : Compressed T)
         → IsSoundRepresentation x
-        → IsReached T.ring T.value x (Triplets a) → IsReached T.ring T.value x (Rows m)
-        → IsReached T.ring T.value x (Cols n)
+        → ConvertsTo T.ring T.value x (Triplets a) → ConvertsTo T.ring T.value x (Rows m)
+        → ConvertsTo T.ring T.value x (Cols n)
         → MeanOneMatrix T.ring T.value a m n }
     ensures rows_equal { (x : Representation T) (m n : Compressed T) → IsSoundRepresentation x
-        → IsReached T.ring T.value x (Rows m) → IsReached T.ring T.value x (Rows n)
+        → ConvertsTo T.ring T.value x (Rows m) → ConvertsTo T.ring T.value x (Rows n)
         → compressed_eq T.eq m n ≡ true }
     ensures cols_equal { (x : Representation T) (m n : Compressed T) → IsSoundRepresentation x
-        → IsReached T.ring T.value x (Cols m) → IsReached T.ring T.value x (Cols n)
+        → ConvertsTo T.ring T.value x (Cols m) → ConvertsTo T.ring T.value x (Cols n)
         → compressed_eq T.eq m n ≡ true }
     ensures rows_and_back { (m n : Compressed T) → IsSound m → IsSound n
         → plain_of_rows T.ring T.value n ≡ plain_of_coo T.ring T.value (coo_of_rows m)

@@ -15,8 +15,8 @@ use sparse_csr_csc::csc::CscMatrix;
 use sparse_csr_csc::csr::CsrMatrix;
 use std::alloc::{AllocError, Global};
 
-/// Returns the dense matrix of a list of triplets. Values of triplets at the same place are added; all other places are
-/// zero.
+/// Returns the dense matrix of a list of triplets. Values of triplets with the same row and column are added; all other
+/// values are zero.
 ///
 /// Time linear in the triplets and in `nrows * ncols`, memory for `nrows * ncols` values. Fails only if an allocation
 /// fails or `nrows * ncols` exceeds `usize::MAX`.
@@ -36,7 +36,7 @@ pub fn convert_coo_dense<T: Ring>(
     Ok(dense)
 }
 
-/// Returns the dense matrix of a CSR matrix, with zero at each place that is not stored.
+/// Returns the dense matrix of a CSR matrix, with zeros where it has no entry.
 ///
 /// Time linear in the rows and in `nrows * ncols`, memory for `nrows * ncols` values. Fails only if an allocation fails
 /// or `nrows * ncols` exceeds `usize::MAX`.
@@ -63,7 +63,7 @@ pub fn convert_csr_dense<T: Zero + Copy>(
     Ok(dense)
 }
 
-/// Returns the dense matrix of a CSC matrix, with zero at each place that is not stored.
+/// Returns the dense matrix of a CSC matrix, with zeros where it has no entry.
 ///
 /// Time linear in the columns and in `nrows * ncols`, memory for `nrows * ncols` values. Fails only if an allocation
 /// fails or `nrows * ncols` exceeds `usize::MAX`.
@@ -80,8 +80,8 @@ pub fn convert_csc_dense<T: Zero + Copy>(
     Ok(dense)
 }
 
-/// The dense matrix of a compressed matrix represents the same plain matrix, with every pair within the shape as a
-/// place.
+/// The dense matrix of a compressed matrix represents the same plain matrix, except that every pair within the shape is
+/// a place.
 pub fn to_dense_law<T: Ring>()
     ensures rows { (m : Compressed T) (d : Dense T) → IsSound m → IsDenseOfRows T.zero_value m d
         → plain_of_dense T.ring T.value d ≡ plain_full T.ring (plain_of_rows T.ring T.value m) }

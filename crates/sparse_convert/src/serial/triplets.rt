@@ -13,9 +13,9 @@ use sparse_csr_csc::csr::CsrMatrix;
 use sparse_pattern::pattern::SparsityPattern;
 use std::alloc::{AllocError, Global};
 
-/// Returns a triplet for each stored place, row by row, columns increasing. Stored zeros are included.
+/// Returns a triplet for each entry, row by row, columns increasing. Stored zeros are included.
 ///
-/// Linear in the number of places and rows, with memory for the triplets. Fails only if an allocation fails.
+/// Linear in the number of entries and rows, with memory for the triplets. Fails only if an allocation fails.
 ///
 /// # Examples
 ///
@@ -36,9 +36,9 @@ pub fn convert_csr_coo<T: Copy>(
     Ok(coo_from_lists(csr.nrows(), csr.ncols(), rows, cols, values))
 }
 
-/// Returns a triplet for each stored place, column by column, rows increasing. Stored zeros are included.
+/// Returns a triplet for each entry, column by column, rows increasing. Stored zeros are included.
 ///
-/// Linear in the number of places and columns, with memory for the triplets. Fails only if an allocation fails.
+/// Linear in the number of entries and columns, with memory for the triplets. Fails only if an allocation fails.
 pub fn convert_csc_coo<T: Copy>(
     alloc: Global,
     csc: &CscMatrix<T>,
@@ -49,8 +49,8 @@ pub fn convert_csc_coo<T: Copy>(
     Ok(coo_from_lists(csc.nrows(), csc.ncols(), rows, cols, values))
 }
 
-// The lane, the index and the value of each stored place, lane by lane.
-#[tactic(auto, using(crate::proofs::Refusals::refused))]
+// Returns the lanes, the minor indices and the values of all entries, as three lists, lane by lane.
+#[tactic(auto, using(sparse_algebra::proofs::EarlyReturns::early_return))]
 fn triplet_lists<T: Copy>(
     alloc: Global,
     cs: &CsMatrix<T>,
@@ -60,14 +60,14 @@ fn triplet_lists<T: Copy>(
     ensures values { IfOk result (λ lists. lists.2.items ≡ map (λ t. t.2) (lane_triplets cs.now)) }
     ensures sound { IsSound cs.now }
 {
-    let lanes = lanes_of_places(alloc, cs.pattern())?;
+    let lanes = lanes_of_entries(alloc, cs.pattern())?;
     let indices = Vec::from_slice(alloc, cs.pattern().minor_indices())?;
     let values = Vec::from_slice(alloc, cs.values())?;
     Ok((lanes, indices, values))
 }
 
-// The lane of each stored place.
-fn lanes_of_places(alloc: Global, pattern: &SparsityPattern) -> Result<Vec<usize>, AllocError>
+// Returns the lane of each entry.
+fn lanes_of_entries(alloc: Global, pattern: &SparsityPattern) -> Result<Vec<usize>, AllocError>
     ensures { IfOk result (λ v. v.items ≡ map (λ place. place.0) (entries_of pattern.now)) }
 {
     let mut lanes = Vec::with_capacity(alloc, pattern.nnz())?;
@@ -77,7 +77,7 @@ fn lanes_of_places(alloc: Global, pattern: &SparsityPattern) -> Result<Vec<usize
     Ok(lanes)
 }
 
-// The matrix of lists that are known to fit each other and the shape.
+// Returns the coordinate list of three lists, which have the same length and indices within the shape.
 fn coo_from_lists<T: Copy>(
     nrows: usize,
     ncols: usize,

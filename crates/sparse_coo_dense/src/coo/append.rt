@@ -1,4 +1,4 @@
-//! Triplets appended within the memory that a matrix has.
+//! Appending triplets within the memory that a matrix has.
 
 ghost use Rattle.std.specs.Prelude.{◌≡◌, ◌<◌, ◌+◌, [], ◌∷◌};
 ghost use Rattle.sparse_coo_dense.specs.Coo.{appended};
@@ -6,10 +6,10 @@ ghost use Rattle.sparse_coo_dense.specs.Coo.{appended};
 use super::CooMatrix;
 use std::marker::Model;
 
-/// A matrix in coordinate form to which triplets are appended as long as it has memory for them.
+/// A matrix in coordinate format to which triplets are appended as long as it has memory for them.
 ///
-/// It never allocates. A loop that appends to it keeps its pointers in registers, and one test decides whether all
-/// three lists have room.
+/// It never allocates. A loop that appends to it keeps its pointers in registers, and one test of its room decides
+/// whether all three lists have memory for a triplet.
 #[derive(Drop)]
 pub struct CooAppender<T> {
     nrows: usize,
@@ -17,7 +17,7 @@ pub struct CooAppender<T> {
     row_indices: Vec<usize>,
     col_indices: Vec<usize>,
     values: Vec<T>,
-    // How many triplets fit at least.
+    // The number of triplets that can still be appended: at most the spare capacity of each list.
     room: usize,
 }
 
@@ -44,7 +44,7 @@ impl<T> Model for CooAppender<T> {
 }
 
 impl<T> CooAppender<T> {
-    /// Takes a matrix with the memory that it has.
+    /// Returns an appender for the matrix, with the memory that the matrix has.
     pub fn new(matrix: CooMatrix<T>) -> Self
         ensures matrix { result.matrix ≡ matrix }
     {
@@ -68,7 +68,7 @@ impl<T> CooAppender<T> {
         }
     }
 
-    /// Returns the matrix.
+    /// Returns the matrix with all triplets.
     pub fn into_matrix(self) -> CooMatrix<T>
         ensures { result ≡ self.matrix }
     {
@@ -105,7 +105,7 @@ impl<T> CooAppender<T> {
         self.ncols
     }
 
-    /// Returns how many triplets fit at least.
+    /// Returns the number of triplets that can still be appended.
     #[inline(always)]
     pub fn room(&self) -> usize
         ensures { result ≡ self.now.room }

@@ -1,12 +1,12 @@
-//! Triplet lists as data.
+//! Conversions between triplet lists and their data struct.
 
 ghost use Rattle.std.specs.Prelude.{◌≡◌, length, IfOk, IfErr, IsOk, OnOk};
 ghost use Rattle.sparse_coo_dense.specs.TripletFaults.{IsFirstTripletFault};
 ghost use Rattle.sparse_coo_dense.specs.CooData.{coo_in, IsCooData};
 
 use super::CooMatrix;
-use sparse_data_structs::CooData;
 use sparse_pattern::error::SparseFormatError;
+use sparse_serde::CooData;
 use std::alloc::{AllocError, Global};
 
 impl<T> CooMatrix<T> {

@@ -5,20 +5,20 @@ ghost use Rattle.std.specs.Prelude.{◌≡◌};
 use super::CooMatrix;
 
 impl<T> CooMatrix<T> {
-    ghost use Rattle.sparse_coo_dense.specs.CooEquality.{coo_sizes_eq, coo_places_eq};
+    ghost use Rattle.sparse_coo_dense.specs.CooEquality.{coo_shape_eq, coo_indices_eq};
 
-    // Whether the shapes are equal.
-    fn has_same_sizes(&self, other: &Self) -> bool
-        ensures { result ≡ coo_sizes_eq self.now other.now }
+    // Returns whether the shapes are equal.
+    fn has_same_shape(&self, other: &Self) -> bool
+        ensures { result ≡ coo_shape_eq self.now other.now }
     {
         self.nrows() == other.nrows() && self.ncols() == other.ncols()
     }
 
-    // Whether the shapes and the lists of rows and of columns are equal.
-    fn has_same_places(&self, other: &Self) -> bool
-        ensures { result ≡ coo_places_eq self.now other.now }
+    // Returns whether the shapes and the lists of rows and of columns are equal.
+    fn has_same_indices(&self, other: &Self) -> bool
+        ensures { result ≡ coo_indices_eq self.now other.now }
     {
-        self.has_same_sizes(other)
+        self.has_same_shape(other)
             && self.row_indices() == other.row_indices()
             && self.col_indices() == other.col_indices()
     }
@@ -33,7 +33,7 @@ impl<T: PartialEq> PartialEq for CooMatrix<T> {
     ghost laws = { coo_eq-laws T.laws };
 
     fn eq(&self, other: &Self) -> bool {
-        self.has_same_places(other) && self.values() == other.values()
+        self.has_same_indices(other) && self.values() == other.values()
     }
 }
 

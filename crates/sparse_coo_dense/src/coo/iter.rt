@@ -4,7 +4,7 @@ ghost use Rattle.std.specs.Prelude.{◌≡◌, ⊤};
 ghost use Rattle.std.specs.Borrow.{sem};
 ghost use Rattle.std.specs.Iterator.{YieldsFirstBy, item_count};
 ghost use Rattle.sparse_coo_dense.specs.Coo.{IsInside};
-ghost use Rattle.sparse_coo_dense.specs.CooLending.{triplets_to_lend, values_lent, LendsTriplets};
+ghost use Rattle.sparse_coo_dense.specs.CooLending.{remaining_triplets, borrowed_values, LendsTriplets};
 
 use super::CooMatrix;
 use std::alloc::AllocError;
@@ -41,8 +41,8 @@ impl<T> CooMatrix<T> {
     /// }
     /// ```
     pub fn triplet_iter_mut(&mut self) -> CooTripletIterMut<'_, T>
-        ensures* writes_back { sem 𝓛 (LendsTriplets T.row self.entry (values_lent result)) }
-        ensures all { triplets_to_lend result ≡ self.old.triplets }
+        ensures* writes_back { sem 𝓛 (LendsTriplets T.row self.entry (borrowed_values result)) }
+        ensures all { remaining_triplets result ≡ self.old.triplets }
         ensures inside { IsInside self.old }
     {
         CooTripletIterMut {
@@ -123,9 +123,9 @@ pub struct CooTripletIterMut<'a, T> {
 impl<'a, T> Iterator for CooTripletIterMut<'a, T> {
     type Item = (usize, usize, &'a mut T);
 
-    ghost next_gives = { YieldsFirstBy (λ x. (x.0, x.1, x.2.now)) triplets_to_lend };
+    ghost next_gives = { YieldsFirstBy (λ x. (x.0, x.1, x.2.now)) remaining_triplets };
 
-    ghost remaining = { item_count triplets_to_lend };
+    ghost remaining = { item_count remaining_triplets };
 
     fn next(&mut self) -> Option<(usize, usize, &'a mut T)> {
         let (row, rows) = self.rows.split_first()?;

@@ -1,4 +1,4 @@
-//! Dense blocks as triplets.
+//! Appending a dense block to a list of triplets.
 
 ghost use Rattle.std.specs.Prelude.{◌≡◌, ◌+◌, ◌*◌, ◌<◌, ◌≤◌, ◌^◌, ◌⊎◌, ℕ, ◌++◌, length, vec_len};
 ghost use Rattle.std.specs.Prelude.{vec_capacity, IsOk, OnOk, OnErr};
@@ -56,7 +56,7 @@ impl<T: Copy> CooMatrix<T> {
     }
 }
 
-// Appends the rows, the columns and the values of a block. There is room for them.
+// Appends the rows, the columns and the values of a block to three lists, which must have memory for them.
 fn push_block<T: Copy>(
     rows: &mut Vec<usize>,
     cols: &mut Vec<usize>,

@@ -3,7 +3,7 @@
 ghost use Rattle.std.specs.Prelude.{◌≡◌, ◌<◌, ◌≤◌, length, All, Any, MatchBool, IfSome, IsNone};
 ghost use Rattle.sparse_pattern.specs.FirstFault.{IsFirst};
 ghost use Rattle.sparse_coo_dense.specs.TripletFaults.{HasTripletFault, triplet_rank, triplet_kind};
-ghost use Rattle.sparse_coo_dense.specs.InnerTripletFaults.{spot_of};
+ghost use Rattle.sparse_coo_dense.specs.InnerTripletFaults.{rule_of};
 
 use sparse_pattern::error::{SparseFormatError, SparseFormatErrorKind};
 
@@ -19,7 +19,7 @@ pub(super) enum TripletFault {
 impl TripletFault {
     // Returns the error that reports the fault.
     pub(super) fn error(self) -> SparseFormatError
-        ensures { result ≡ triplet_kind (spot_of self) }
+        ensures { result ≡ triplet_kind (rule_of self) }
     {
         let (kind, message) = match self {
             TripletFault::ColCount => (
@@ -52,7 +52,7 @@ pub(super) fn first_fault(
     count: usize,
 ) -> Option<TripletFault>
     ensures fault { IfSome result (λ fault. IsFirst triplet_rank
-        (HasTripletFault nrows ncols rows.now cols.now count) (spot_of fault)) }
+        (HasTripletFault nrows ncols rows.now cols.now count) (rule_of fault)) }
     ensures counts { IsNone result
         → (length rows.now ≡ length cols.now) × (length cols.now ≡ count) }
     ensures bounds { IsNone result → All (λ i. i < nrows) rows.now × All (λ j. j < ncols) cols.now }

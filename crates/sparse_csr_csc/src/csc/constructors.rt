@@ -1,11 +1,11 @@
-//! CSC matrices made of arrays, of a pattern with values, and the identity.
+//! Constructors of CSC matrices from arrays and from a pattern with values, and the identity.
 
 ghost use Rattle.std.specs.Prelude.{◌≡◌, ◌≢◌, ◌⊎◌, length, IfOk, IfErr, IsOk, OnOk, IsOkUnless};
 ghost use Rattle.sparse_algebra.specs.Plain.{plain_identity};
 ghost use Rattle.sparse_compressed.specs.Compressed.{compressed_of, arrays_of, IsSound};
 ghost use Rattle.sparse_compressed.specs.PlainOfLanes.{plain_of_cols};
 ghost use Rattle.sparse_compressed.specs.SortedFaults.{IsSortedRefusal, sorted_kind};
-ghost use Rattle.sparse_compressed.specs.UnsortedFaults.{NeedsSorting, IsFaultless, IsSortedForm};
+ghost use Rattle.sparse_compressed.specs.UnsortedFaults.{NeedsSorting, HasNoFault, IsSortedForm};
 ghost use Rattle.sparse_compressed.specs.UnsortedFaults.{IsUnsortedRefusal};
 
 use super::CscMatrix;
@@ -16,9 +16,9 @@ use sparse_pattern::pattern::{SparsityPattern, SparsityPatternFormatError};
 use std::alloc::{AllocError, Global};
 
 impl<T> CscMatrix<T> {
-    /// Returns the matrix of a pattern, whose lanes are the columns, and its values. Nothing is tested.
+    /// Returns the matrix of a pattern, whose lanes are the columns, and its values. Nothing is checked.
     ///
-    /// There must be one value for each place of the pattern. Constant time. Allocates nothing.
+    /// There must be one value for each entry of the pattern. Constant time. Allocates nothing.
     ///
     /// # Examples
     ///
@@ -41,15 +41,14 @@ impl<T> CscMatrix<T> {
 }
 
 impl<T: Drop> CscMatrix<T> {
-    /// Returns the matrix of arrays whose columns are sorted by row.
+    /// Returns the matrix with these arrays, whose columns must be sorted by row.
     ///
-    /// Linear in the number of columns and stored places. Allocates nothing.
+    /// Linear in the number of columns and entries. Allocates nothing.
     ///
     /// # Errors
     ///
     /// Returns the first fault: that of the offsets and indices, in the order of
-    /// [`SparsityPattern::try_from_offsets_and_indices`](sparse_pattern::pattern::SparsityPattern::try_from_offsets_and_indices),
-    /// and then the number of values. The arrays are dropped.
+    /// [`SparsityPattern::try_from_offsets_and_indices`], and then the number of values. The arrays are dropped.
     pub fn try_from_csc_data(
         nrows: usize,
         ncols: usize,
@@ -63,7 +62,7 @@ impl<T: Drop> CscMatrix<T> {
         ensures fault { IfErr result
             (IsSortedRefusal (arrays_of ncols nrows col_offsets.items row_indices.items
             values.items)) }
-        ensures taken { IsSound
+        ensures accepted { IsSound
             (arrays_of ncols nrows col_offsets.items row_indices.items values.items)
             → IsOk result }
     {
@@ -75,7 +74,7 @@ impl<T: Drop> CscMatrix<T> {
 
     /// Returns the matrix of a pattern, whose lanes are the columns, and its values.
     ///
-    /// Returns `InvalidStructure` if the number of values is not the number of places; pattern and values are then
+    /// Returns `InvalidStructure` if the number of values is not the number of entries; pattern and values are then
     /// dropped. Allocates nothing.
     pub fn try_from_pattern_and_values(
         pattern: SparsityPattern,
@@ -85,7 +84,7 @@ impl<T: Drop> CscMatrix<T> {
         ensures sound { IfOk result IsSound }
         ensures fault { IfErr result (λ kind. (kind ≡ SparseFormatErrorKind.InvalidStructure)
             × (length values.items ≢ length pattern.indices)) }
-        ensures taken { length values.items ≡ length pattern.indices → IsOk result }
+        ensures accepted { length values.items ≡ length pattern.indices → IsOk result }
     {
         match CsMatrix::try_from_pattern_and_values(pattern, values) {
             Ok(cs) => Ok(CscMatrix { cs }),
@@ -94,7 +93,7 @@ impl<T: Drop> CscMatrix<T> {
     }
 }
 
-// A fault as an error, with its text in the words of columns.
+// Returns the error that reports a fault, with a message that speaks of columns.
 fn error_of(fault: SortedFault) -> SparseFormatError
     ensures { result ≡ sorted_kind fault }
 {
@@ -137,7 +136,7 @@ impl<T: Ring> CscMatrix<T> {
 }
 
 impl<T: Copy> CscMatrix<T> {
-    /// Returns the matrix of arrays whose columns need not be sorted. Each value moves with its row index.
+    /// Returns the matrix with these arrays, whose columns need not be sorted. Each value moves with its row index.
     ///
     /// Columns that are already sorted take one pass and no memory. Other columns are sorted.
     ///
@@ -170,8 +169,8 @@ impl<T: Copy> CscMatrix<T> {
         ensures sorted { IfOk result
             (IsSortedForm (arrays_of ncols nrows col_offsets.items row_indices.items
             values.items)) }
-        ensures faultless { OnOk result
-            (IsFaultless (arrays_of ncols nrows col_offsets.items row_indices.items values.items)) }
+        ensures no_fault { OnOk result
+            (HasNoFault (arrays_of ncols nrows col_offsets.items row_indices.items values.items)) }
         ensures fault { IfErr result (λ kind. (kind ≡ SparseFormatErrorKind.OutOfMemory)
             ⊎ IsUnsortedRefusal (arrays_of ncols nrows col_offsets.items row_indices.items
             values.items) kind) }
@@ -181,7 +180,7 @@ impl<T: Copy> CscMatrix<T> {
         ensures sound { IsSound
             (arrays_of ncols nrows col_offsets.items row_indices.items values.items)
             → IsOk result }
-        ensures taken { IsFaultless
+        ensures accepted { HasNoFault
             (arrays_of ncols nrows col_offsets.items row_indices.items values.items)
             → IsOkUnless result SparseFormatErrorKind.OutOfMemory }
     {

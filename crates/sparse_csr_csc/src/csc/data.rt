@@ -1,4 +1,4 @@
-//! CSC matrices as data.
+//! Conversion of CSC matrices from and to the data struct that `serde` reads and writes.
 
 ghost use Rattle.std.specs.Prelude.{◌≡◌, IfOk, IfErr, IsOk, OnOk};
 ghost use Rattle.sparse_compressed.specs.Compressed.{IsSound};
@@ -6,21 +6,21 @@ ghost use Rattle.sparse_compressed.specs.SortedFaults.{IsSortedRefusal};
 ghost use Rattle.sparse_csr_csc.specs.CscData.{csc_in};
 
 use super::CscMatrix;
-use sparse_data_structs::CscData;
 use sparse_pattern::error::SparseFormatError;
+use sparse_serde::CscData;
 use std::alloc::{AllocError, Global};
 
 impl<T> CscMatrix<T> {
-    /// Returns the matrix of the data, or its first fault, as [`CscMatrix::try_from_csc_data`] does.
+    /// Returns the matrix of the data, or the error of its first fault, as [`CscMatrix::try_from_csc_data`] does.
     ///
-    /// Linear in columns and places. Allocates nothing. Invalid data is dropped.
+    /// Linear in columns and entries. Allocates nothing. Invalid data is dropped.
     pub fn try_from_data(source: CscData<T>) -> Result<CscMatrix<T>, SparseFormatError>
     where
         T: Drop,
         ensures ok { IfOk result (λ m. m ≡ csc_in source) }
         ensures sound { OnOk result (IsSound (csc_in source)) }
         ensures fault { IfErr result (IsSortedRefusal (csc_in source)) }
-        ensures taken { IsSound (csc_in source) → IsOk result }
+        ensures accepted { IsSound (csc_in source) → IsOk result }
     {
         CscMatrix::try_from_csc_data(
             source.nrows,

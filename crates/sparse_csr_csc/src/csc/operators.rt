@@ -26,8 +26,8 @@ impl<T: Ring> MulAssign<T> for CscMatrix<T> {
     ghost mul_assign_gives = { λ a s m. plain_of_cols T.ring T.value m
         ≡ plain_scaled T.ring (T.value s) (plain_of_cols T.ring T.value a) };
 
-    fn mul_assign(&mut self, factor: T) {
-        self.cs.scale(factor);
+    fn mul_assign(&mut self, coefficient: T) {
+        self.cs.scale(coefficient);
     }
 }
 
@@ -36,7 +36,7 @@ impl<'a, T: Ring> MulAssign<&'a T> for CscMatrix<T> {
     ghost mul_assign_gives = { λ a s m. plain_of_cols T.ring T.value m
         ≡ plain_scaled T.ring (T.value s.now) (plain_of_cols T.ring T.value a) };
 
-    fn mul_assign(&mut self, factor: &'a T) {
-        self.cs.scale(*factor);
+    fn mul_assign(&mut self, coefficient: &'a T) {
+        self.cs.scale(*coefficient);
     }
 }

@@ -12,7 +12,7 @@ use sparse_rows_cols::col::{CscCol, CscColIter};
 use sparse_rows_cols::col_triplets::CscTripletIter;
 
 impl<T> CscMatrix<T> {
-    /// Returns the offset of the first stored place of each column, followed by the number of stored places.
+    /// Returns the offset of the first entry of each column, followed by the number of entries.
     pub fn col_offsets(&self) -> &[usize]
         ensures offsets { result.now ≡ self.now.pattern.offsets }
         ensures sound { IsSound self.now }
@@ -20,7 +20,7 @@ impl<T> CscMatrix<T> {
         self.cs.pattern().major_offsets()
     }
 
-    /// Returns the row of each stored place, column by column.
+    /// Returns the row of each entry, column by column.
     pub fn row_indices(&self) -> &[usize]
         ensures indices { result.now ≡ self.now.pattern.indices }
         ensures sound { IsSound self.now }
@@ -28,7 +28,7 @@ impl<T> CscMatrix<T> {
         self.cs.pattern().minor_indices()
     }
 
-    /// Returns the value of each stored place, column by column.
+    /// Returns the value of each entry, column by column.
     pub fn values(&self) -> &[T]
         ensures values { result.now ≡ self.now.values }
         ensures sound { IsSound self.now }
@@ -77,7 +77,7 @@ impl<T> CscMatrix<T> {
         }
     }
 
-    /// Returns an iterator over the columns, including those without stored places.
+    /// Returns an iterator over the columns, including those without entries.
     ///
     /// # Examples
     ///
@@ -95,7 +95,8 @@ impl<T> CscMatrix<T> {
         CscColIter::from_lanes(self.cs.lane_iter())
     }
 
-    /// Returns the entry at a row and a column, both of which must be within bounds. Binary search in the column.
+    /// Returns the entry at a row and a column, or `Zero` if none is stored. Both indices must be within bounds. Binary
+    /// search in the column.
     pub fn index_entry(&self, row_index: usize, col_index: usize) -> SparseEntry<'_, T>
         requires { IsInBounds self.now.pattern col_index row_index }
         ensures entry { IsEntryAt self.now col_index row_index result }
@@ -105,7 +106,8 @@ impl<T> CscMatrix<T> {
         self.cs.index_entry(col_index, row_index)
     }
 
-    /// Returns the entry at a row and a column, or `None` if one is out of bounds. Binary search in the column.
+    /// Returns the entry at a row and a column, `Zero` if none is stored, or `None` if an index is out of bounds.
+    /// Binary search in the column.
     pub fn get_entry(&self, row_index: usize, col_index: usize) -> Option<SparseEntry<'_, T>>
         ensures entry { IsEntryOf self.now col_index row_index result }
         ensures sound { IsSound self.now }

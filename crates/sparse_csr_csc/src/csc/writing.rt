@@ -9,7 +9,7 @@ ghost use Rattle.sparse_compressed.specs.Writing.{IsFoundAt, IsEntryMutAt, IsEnt
 ghost use Rattle.sparse_csr_csc.specs.CscWriting.{LendsValues, LendsCol, LendsColIf, LendsEntry};
 ghost use Rattle.sparse_csr_csc.specs.CscWriting.{LendsIndexed};
 ghost use Rattle.sparse_csr_csc.specs.InnerCscWriting.{LendsCoreIf, LendsFound};
-ghost use Rattle.sparse_rows_cols.specs.ColWriting.{lent_col, col_values};
+ghost use Rattle.sparse_rows_cols.specs.ColWriting.{col_as_lane, col_values};
 ghost use Rattle.sparse_rows_cols.specs.ColWriting.{all_col_values, cols_left};
 ghost use Rattle.sparse_rows_cols.specs.ColWriting.{csc_triplet_values, csc_triplets_left};
 
@@ -21,7 +21,7 @@ use sparse_rows_cols::col_mut::{CscColIterMut, CscColMut};
 use sparse_rows_cols::col_triplets::CscTripletIterMut;
 
 impl<T> CscMatrix<T> {
-    /// Returns the value of each stored place, column by column, borrowed mutably.
+    /// Returns the value of each entry, column by column, borrowed mutably.
     ///
     /// # Examples
     ///
@@ -45,7 +45,7 @@ impl<T> CscMatrix<T> {
     pub fn col_mut(&mut self, index: usize) -> CscColMut<'_, T>
         requires { index < self.old.pattern.major_dim }
         ensures* writes_back { sem 𝓛 (LendsCol T.row self.entry index (col_values result)) }
-        ensures col { lent_col result ≡ lane_at self.old index }
+        ensures col { col_as_lane result ≡ lane_at self.old index }
         ensures sound { IsSound self.old }
     {
         CscColMut::of(&mut self.cs, index)
@@ -55,7 +55,7 @@ impl<T> CscMatrix<T> {
     pub fn get_col_mut(&mut self, index: usize) -> Option<CscColMut<'_, T>>
         ensures* writes_back { sem 𝓛 (LendsColIf T.row self.entry index result) }
         ensures bounds { IsSome result ↔ (index < self.old.pattern.major_dim) }
-        ensures col { IfSome result (λ col. lent_col col ≡ lane_at self.old index) }
+        ensures col { IfSome result (λ col. col_as_lane col ≡ lane_at self.old index) }
         ensures sound { IsSound self.old }
     {
         match self.cs_with_col(index) {
@@ -64,7 +64,7 @@ impl<T> CscMatrix<T> {
         }
     }
 
-    // The core, or `None` if it has no such column.
+    // Returns the underlying storage, borrowed mutably, or `None` if `index` is out of bounds.
     fn cs_with_col(&mut self, index: usize) -> Option<&mut CsMatrix<T>>
         ensures* writes_back { sem 𝓛 (LendsCoreIf T.row self.entry result) }
         ensures bounds { IsSome result ↔ (index < self.old.pattern.major_dim) }
@@ -87,8 +87,8 @@ impl<T> CscMatrix<T> {
         self.cs.pattern_and_values_mut()
     }
 
-    /// Returns the entry at a row and a column, borrowed mutably, or `None` if one is out of bounds. Binary search in
-    /// the column.
+    /// Returns the entry at a row and a column, borrowed mutably, `Zero` if none is stored, or `None` if an index is
+    /// out of bounds. Binary search in the column.
     pub fn get_entry_mut(
         &mut self,
         row_index: usize,
@@ -101,8 +101,8 @@ impl<T> CscMatrix<T> {
         into_entry(self.find_mut(row_index, col_index))
     }
 
-    /// Returns the entry at a row and a column, borrowed mutably. Both must be within bounds. Binary search in the
-    /// column.
+    /// Returns the entry at a row and a column, borrowed mutably, or `Zero` if none is stored. Both indices must be
+    /// within bounds. Binary search in the column.
     pub fn index_entry_mut(&mut self, row_index: usize, col_index: usize) -> SparseEntryMut<'_, T>
         requires { IsInBounds self.old.pattern col_index row_index }
         ensures* writes_back { sem 𝓛 (LendsIndexed T.row self.entry col_index row_index result) }
@@ -133,7 +133,7 @@ impl<T> CscMatrix<T> {
         CscTripletIterMut::from_triplets(self.cs.triplet_iter_mut())
     }
 
-    /// Returns an iterator over the columns, including those without stored places, that borrows their values mutably.
+    /// Returns an iterator over the columns, including those without entries, that borrows their values mutably.
     pub fn col_iter_mut(&mut self) -> CscColIterMut<'_, T>
         ensures* writes_back { sem 𝓛 (LendsValues T.row self.entry (all_col_values result)) }
         ensures all { cols_left result ≡ lanes_of self.old }
@@ -142,7 +142,7 @@ impl<T> CscMatrix<T> {
         CscColIterMut::from_lanes(self.cs.lane_iter_mut())
     }
 
-    // The value at a row and a column, or why there is none.
+    // Returns the value stored at a row and a column, borrowed mutably, or why there is none.
     fn find_mut(&mut self, row: usize, col: usize) -> Found<'_, T>
         ensures* writes_back { sem 𝓛 (LendsFound T.row self.entry col row result) }
         ensures found { IsFoundAt self.old col row result }

@@ -1,11 +1,11 @@
-//! CSR matrices made of arrays, of a pattern with values, and the identity.
+//! Constructors of CSR matrices from arrays and from a pattern with values, and the identity.
 
 ghost use Rattle.std.specs.Prelude.{◌≡◌, ◌≢◌, ◌⊎◌, length, IfOk, IfErr, IsOk, OnOk, IsOkUnless};
 ghost use Rattle.sparse_algebra.specs.Plain.{plain_identity};
 ghost use Rattle.sparse_compressed.specs.Compressed.{compressed_of, arrays_of, IsSound};
 ghost use Rattle.sparse_compressed.specs.PlainOfLanes.{plain_of_rows};
 ghost use Rattle.sparse_compressed.specs.SortedFaults.{IsSortedRefusal, sorted_kind};
-ghost use Rattle.sparse_compressed.specs.UnsortedFaults.{NeedsSorting, IsFaultless, IsSortedForm};
+ghost use Rattle.sparse_compressed.specs.UnsortedFaults.{NeedsSorting, HasNoFault, IsSortedForm};
 ghost use Rattle.sparse_compressed.specs.UnsortedFaults.{IsUnsortedRefusal};
 
 use super::CsrMatrix;
@@ -16,9 +16,9 @@ use sparse_pattern::pattern::{SparsityPattern, SparsityPatternFormatError};
 use std::alloc::{AllocError, Global};
 
 impl<T> CsrMatrix<T> {
-    /// Returns the matrix of a pattern, whose lanes are the rows, and its values. Nothing is tested.
+    /// Returns the matrix of a pattern, whose lanes are the rows, and its values. Nothing is checked.
     ///
-    /// There must be one value for each place of the pattern. Constant time. Allocates nothing.
+    /// There must be one value for each entry of the pattern. Constant time. Allocates nothing.
     ///
     /// # Examples
     ///
@@ -41,15 +41,14 @@ impl<T> CsrMatrix<T> {
 }
 
 impl<T: Drop> CsrMatrix<T> {
-    /// Returns the matrix of arrays whose rows are sorted by column.
+    /// Returns the matrix with these arrays, whose rows must be sorted by column.
     ///
-    /// Linear in the number of rows and stored places. Allocates nothing.
+    /// Linear in the number of rows and entries. Allocates nothing.
     ///
     /// # Errors
     ///
     /// Returns the first fault: that of the offsets and indices, in the order of
-    /// [`SparsityPattern::try_from_offsets_and_indices`](sparse_pattern::pattern::SparsityPattern::try_from_offsets_and_indices),
-    /// and then the number of values. The arrays are dropped.
+    /// [`SparsityPattern::try_from_offsets_and_indices`], and then the number of values. The arrays are dropped.
     ///
     /// # Examples
     ///
@@ -77,7 +76,7 @@ impl<T: Drop> CsrMatrix<T> {
         ensures fault { IfErr result
             (IsSortedRefusal (arrays_of nrows ncols row_offsets.items col_indices.items
             values.items)) }
-        ensures taken { IsSound
+        ensures accepted { IsSound
             (arrays_of nrows ncols row_offsets.items col_indices.items values.items)
             → IsOk result }
     {
@@ -89,7 +88,7 @@ impl<T: Drop> CsrMatrix<T> {
 
     /// Returns the matrix of a pattern, whose lanes are the rows, and its values.
     ///
-    /// Returns `InvalidStructure` if the number of values is not the number of places; pattern and values are then
+    /// Returns `InvalidStructure` if the number of values is not the number of entries; pattern and values are then
     /// dropped. Allocates nothing.
     pub fn try_from_pattern_and_values(
         pattern: SparsityPattern,
@@ -99,7 +98,7 @@ impl<T: Drop> CsrMatrix<T> {
         ensures sound { IfOk result IsSound }
         ensures fault { IfErr result (λ kind. (kind ≡ SparseFormatErrorKind.InvalidStructure)
             × (length values.items ≢ length pattern.indices)) }
-        ensures taken { length values.items ≡ length pattern.indices → IsOk result }
+        ensures accepted { length values.items ≡ length pattern.indices → IsOk result }
     {
         match CsMatrix::try_from_pattern_and_values(pattern, values) {
             Ok(cs) => Ok(CsrMatrix { cs }),
@@ -108,7 +107,7 @@ impl<T: Drop> CsrMatrix<T> {
     }
 }
 
-// A fault as an error, with its text in the words of rows.
+// Returns the error that reports a fault, with a message that speaks of rows.
 fn error_of(fault: SortedFault) -> SparseFormatError
     ensures { result ≡ sorted_kind fault }
 {
@@ -160,7 +159,7 @@ impl<T: Ring> CsrMatrix<T> {
 }
 
 impl<T: Copy> CsrMatrix<T> {
-    /// Returns the matrix of arrays whose rows need not be sorted. Each value moves with its column index.
+    /// Returns the matrix with these arrays, whose rows need not be sorted. Each value moves with its column index.
     ///
     /// Rows that are already sorted take one pass and no memory. Other rows are sorted.
     ///
@@ -193,8 +192,8 @@ impl<T: Copy> CsrMatrix<T> {
         ensures sorted { IfOk result
             (IsSortedForm (arrays_of nrows ncols row_offsets.items col_indices.items
             values.items)) }
-        ensures faultless { OnOk result
-            (IsFaultless (arrays_of nrows ncols row_offsets.items col_indices.items values.items)) }
+        ensures no_fault { OnOk result
+            (HasNoFault (arrays_of nrows ncols row_offsets.items col_indices.items values.items)) }
         ensures fault { IfErr result (λ kind. (kind ≡ SparseFormatErrorKind.OutOfMemory)
             ⊎ IsUnsortedRefusal (arrays_of nrows ncols row_offsets.items col_indices.items
             values.items) kind) }
@@ -204,7 +203,7 @@ impl<T: Copy> CsrMatrix<T> {
         ensures sound { IsSound
             (arrays_of nrows ncols row_offsets.items col_indices.items values.items)
             → IsOk result }
-        ensures taken { IsFaultless
+        ensures accepted { HasNoFault
             (arrays_of nrows ncols row_offsets.items col_indices.items values.items)
             → IsOkUnless result SparseFormatErrorKind.OutOfMemory }
     {

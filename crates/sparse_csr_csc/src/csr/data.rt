@@ -1,4 +1,4 @@
-//! CSR matrices as data.
+//! Conversion of CSR matrices from and to the data struct that `serde` reads and writes.
 
 ghost use Rattle.std.specs.Prelude.{◌≡◌, IfOk, IfErr, IsOk, OnOk};
 ghost use Rattle.sparse_compressed.specs.Compressed.{IsSound};
@@ -6,21 +6,21 @@ ghost use Rattle.sparse_compressed.specs.SortedFaults.{IsSortedRefusal};
 ghost use Rattle.sparse_csr_csc.specs.CsrData.{csr_in};
 
 use super::CsrMatrix;
-use sparse_data_structs::CsrData;
 use sparse_pattern::error::SparseFormatError;
+use sparse_serde::CsrData;
 use std::alloc::{AllocError, Global};
 
 impl<T> CsrMatrix<T> {
-    /// Returns the matrix of the data, or its first fault, as [`CsrMatrix::try_from_csr_data`] does.
+    /// Returns the matrix of the data, or the error of its first fault, as [`CsrMatrix::try_from_csr_data`] does.
     ///
-    /// Linear in rows and places. Allocates nothing. Invalid data is dropped.
+    /// Linear in rows and entries. Allocates nothing. Invalid data is dropped.
     pub fn try_from_data(source: CsrData<T>) -> Result<CsrMatrix<T>, SparseFormatError>
     where
         T: Drop,
         ensures ok { IfOk result (λ m. m ≡ csr_in source) }
         ensures sound { OnOk result (IsSound (csr_in source)) }
         ensures fault { IfErr result (IsSortedRefusal (csr_in source)) }
-        ensures taken { IsSound (csr_in source) → IsOk result }
+        ensures accepted { IsSound (csr_in source) → IsOk result }
     {
         CsrMatrix::try_from_csr_data(
             source.nrows,

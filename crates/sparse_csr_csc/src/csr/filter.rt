@@ -1,21 +1,20 @@
-//! Selection of stored places of a CSR matrix.
+//! Selection of entries of a CSR matrix.
 
 ghost use Rattle.std.specs.Prelude.{◌≡◌, ℕ, Bool, IfOk};
 ghost use Rattle.std.specs.List.{filter};
 ghost use Rattle.sparse_compressed.specs.Compressed.{IsSound, lane_triplets};
-ghost use Rattle.sparse_compressed.specs.Filter.{Answers, AnswersAs, HasSizesOf, IsKept, is_upper};
+ghost use Rattle.sparse_compressed.specs.Filter.{Answers, AnswersAs, HasShapeOf, IsKept, is_upper};
 ghost use Rattle.sparse_compressed.specs.Filter.{is_lower, is_diagonal};
 
 use super::CsrMatrix;
 use std::alloc::{AllocError, Global};
 
 impl<T: Copy> CsrMatrix<T> {
-    /// Returns a matrix of the same shape with the stored places (row, column) for which `predicate` returns `true`,
-    /// and their values.
+    /// Returns a matrix of the same shape with the entries (row, column, value) for which `predicate` returns `true`.
     ///
-    /// The predicate is called once for each stored place, including those whose value is zero, row by row, columns
-    /// increasing. It must be callable with any arguments. Linear in rows and places; the memory is proportional to the
-    /// rows and the places kept. Fails only if an allocation fails.
+    /// The predicate is called once for each entry, including those whose value is zero, row by row, columns
+    /// increasing. It must be callable with any arguments. Linear in rows and entries; the memory is proportional to
+    /// the rows and the entries kept. Fails only if an allocation fails.
     ///
     /// # Examples
     ///
@@ -30,7 +29,7 @@ impl<T: Copy> CsrMatrix<T> {
     where
         P: Fn(usize, usize, &T) -> bool,
         requires { P.IsAlwaysCallable predicate }
-        ensures sizes { IfOk result (HasSizesOf self.now) }
+        ensures same_shape { IfOk result (HasShapeOf self.now) }
         ensures kept { IfOk result
             (λ m. IsKept (Answers P.Fn predicate) (lane_triplets self.now) (lane_triplets m)) }
         ensures tested { (test : ℕ × ℕ × T → Bool) → AnswersAs P.Fn predicate test
@@ -42,7 +41,7 @@ impl<T: Copy> CsrMatrix<T> {
         })
     }
 
-    /// Returns a matrix of the same shape with the stored places (i, j) where `i <= j`. Cost and errors are those of
+    /// Returns a matrix of the same shape with the entries (i, j) where `i <= j`. Cost and errors are those of
     /// [`CsrMatrix::filter`].
     ///
     /// # Examples
@@ -55,7 +54,7 @@ impl<T: Copy> CsrMatrix<T> {
     /// }
     /// ```
     pub fn upper_triangle(&self, alloc: Global) -> Result<Self, AllocError>
-        ensures sizes { IfOk result (HasSizesOf self.now) }
+        ensures same_shape { IfOk result (HasShapeOf self.now) }
         ensures kept { IfOk result
             (λ m. lane_triplets m ≡ filter is_upper (lane_triplets self.now)) }
         ensures sound { IfOk result IsSound }
@@ -63,10 +62,10 @@ impl<T: Copy> CsrMatrix<T> {
         self.filter(alloc, |row, column, _| row <= column)
     }
 
-    /// Returns a matrix of the same shape with the stored places (i, j) where `i >= j`. Cost and errors are those of
+    /// Returns a matrix of the same shape with the entries (i, j) where `i >= j`. Cost and errors are those of
     /// [`CsrMatrix::filter`].
     pub fn lower_triangle(&self, alloc: Global) -> Result<Self, AllocError>
-        ensures sizes { IfOk result (HasSizesOf self.now) }
+        ensures same_shape { IfOk result (HasShapeOf self.now) }
         ensures kept { IfOk result
             (λ m. lane_triplets m ≡ filter is_lower (lane_triplets self.now)) }
         ensures sound { IfOk result IsSound }
@@ -74,10 +73,9 @@ impl<T: Copy> CsrMatrix<T> {
         self.filter(alloc, |row, column, _| row >= column)
     }
 
-    /// Returns a matrix of the same shape with the stored places (i, i). Cost and errors are those of
-    /// [`CsrMatrix::filter`].
+    /// Returns a matrix of the same shape with the entries (i, i). Cost and errors are those of [`CsrMatrix::filter`].
     pub fn diagonal_as_csr(&self, alloc: Global) -> Result<Self, AllocError>
-        ensures sizes { IfOk result (HasSizesOf self.now) }
+        ensures same_shape { IfOk result (HasShapeOf self.now) }
         ensures kept { IfOk result
             (λ m. lane_triplets m ≡ filter is_diagonal (lane_triplets self.now)) }
         ensures sound { IfOk result IsSound }

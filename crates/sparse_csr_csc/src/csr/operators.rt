@@ -36,8 +36,8 @@ impl<T: Ring> MulAssign<T> for CsrMatrix<T> {
     ghost mul_assign_gives = { λ a s m. plain_of_rows T.ring T.value m
         ≡ plain_scaled T.ring (T.value s) (plain_of_rows T.ring T.value a) };
 
-    fn mul_assign(&mut self, factor: T) {
-        self.cs.scale(factor);
+    fn mul_assign(&mut self, coefficient: T) {
+        self.cs.scale(coefficient);
     }
 }
 
@@ -46,7 +46,7 @@ impl<'a, T: Ring> MulAssign<&'a T> for CsrMatrix<T> {
     ghost mul_assign_gives = { λ a s m. plain_of_rows T.ring T.value m
         ≡ plain_scaled T.ring (T.value s.now) (plain_of_rows T.ring T.value a) };
 
-    fn mul_assign(&mut self, factor: &'a T) {
-        self.cs.scale(*factor);
+    fn mul_assign(&mut self, coefficient: &'a T) {
+        self.cs.scale(*coefficient);
     }
 }

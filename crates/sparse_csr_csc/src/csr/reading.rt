@@ -12,7 +12,7 @@ use sparse_rows_cols::row::{CsrRow, CsrRowIter};
 use sparse_rows_cols::row_triplets::CsrTripletIter;
 
 impl<T> CsrMatrix<T> {
-    /// Returns the offset of the first stored place of each row, followed by the number of stored places.
+    /// Returns the offset of the first entry of each row, followed by the number of entries.
     pub fn row_offsets(&self) -> &[usize]
         ensures offsets { result.now ≡ self.now.pattern.offsets }
         ensures sound { IsSound self.now }
@@ -20,7 +20,7 @@ impl<T> CsrMatrix<T> {
         self.cs.pattern().major_offsets()
     }
 
-    /// Returns the column of each stored place, row by row.
+    /// Returns the column of each entry, row by row.
     pub fn col_indices(&self) -> &[usize]
         ensures indices { result.now ≡ self.now.pattern.indices }
         ensures sound { IsSound self.now }
@@ -28,7 +28,7 @@ impl<T> CsrMatrix<T> {
         self.cs.pattern().minor_indices()
     }
 
-    /// Returns the value of each stored place, row by row.
+    /// Returns the value of each entry, row by row.
     pub fn values(&self) -> &[T]
         ensures values { result.now ≡ self.now.values }
         ensures sound { IsSound self.now }
@@ -87,7 +87,7 @@ impl<T> CsrMatrix<T> {
         }
     }
 
-    /// Returns an iterator over the rows, including those without stored places.
+    /// Returns an iterator over the rows, including those without entries.
     pub fn row_iter(&self) -> CsrRowIter<'_, T>
         ensures all { result ≡ lanes_of self.now }
         ensures sound { IsSound self.now }
@@ -95,7 +95,8 @@ impl<T> CsrMatrix<T> {
         CsrRowIter::from_lanes(self.cs.lane_iter())
     }
 
-    /// Returns the entry at a row and a column, both of which must be within bounds. Binary search in the row.
+    /// Returns the entry at a row and a column, or `Zero` if none is stored. Both indices must be within bounds. Binary
+    /// search in the row.
     pub fn index_entry(&self, row_index: usize, col_index: usize) -> SparseEntry<'_, T>
         requires { IsInBounds self.now.pattern row_index col_index }
         ensures entry { IsEntryAt self.now row_index col_index result }
@@ -105,7 +106,8 @@ impl<T> CsrMatrix<T> {
         self.cs.index_entry(row_index, col_index)
     }
 
-    /// Returns the entry at a row and a column, or `None` if one is out of bounds. Binary search in the row.
+    /// Returns the entry at a row and a column, `Zero` if none is stored, or `None` if an index is out of bounds.
+    /// Binary search in the row.
     ///
     /// # Examples
     ///

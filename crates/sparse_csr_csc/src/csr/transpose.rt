@@ -1,4 +1,4 @@
-//! The transpose of a CSR matrix, in the same form.
+//! The transpose of a CSR matrix, in the same format.
 
 ghost use Rattle.std.specs.Prelude.{IfOk};
 ghost use Rattle.sparse_compressed.specs.Compressed.{IsSound};
@@ -8,10 +8,10 @@ use super::CsrMatrix;
 use std::alloc::{AllocError, Global};
 
 impl<T: Copy> CsrMatrix<T> {
-    /// Returns the transpose in CSR form: its value at (j, i) is the value of this matrix at (i, j). Stored zeros stay
-    /// stored.
+    /// Returns the transpose in CSR format: its value at (j, i) is the value of this matrix at (i, j). Stored zeros
+    /// stay stored.
     ///
-    /// A counting sort: linear in the number of places, rows and columns. Beside the result it allocates one counter
+    /// A counting sort: linear in the number of entries, rows and columns. Beside the result it allocates one counter
     /// for each row of the result. Fails only if an allocation fails.
     ///
     /// # Examples

@@ -9,7 +9,7 @@ ghost use Rattle.sparse_compressed.specs.Writing.{IsFoundAt, IsEntryMutAt, IsEnt
 ghost use Rattle.sparse_csr_csc.specs.CsrWriting.{LendsValues, LendsRow, LendsRowIf, LendsEntry};
 ghost use Rattle.sparse_csr_csc.specs.CsrWriting.{LendsIndexed};
 ghost use Rattle.sparse_csr_csc.specs.InnerCsrWriting.{LendsCoreIf, LendsFound};
-ghost use Rattle.sparse_rows_cols.specs.RowWriting.{lent_row, row_values};
+ghost use Rattle.sparse_rows_cols.specs.RowWriting.{row_as_lane, row_values};
 ghost use Rattle.sparse_rows_cols.specs.RowWriting.{all_row_values, rows_left};
 ghost use Rattle.sparse_rows_cols.specs.RowWriting.{csr_triplet_values, csr_triplets_left};
 
@@ -21,7 +21,7 @@ use sparse_rows_cols::row_mut::{CsrRowIterMut, CsrRowMut};
 use sparse_rows_cols::row_triplets::CsrTripletIterMut;
 
 impl<T> CsrMatrix<T> {
-    /// Returns the value of each stored place, row by row, borrowed mutably.
+    /// Returns the value of each entry, row by row, borrowed mutably.
     pub fn values_mut(&mut self) -> &mut [T]
         ensures* writes_back { sem 𝓛 (LendsValues T.row self.entry result) }
         ensures values { result.now ≡ self.old.values }
@@ -33,7 +33,7 @@ impl<T> CsrMatrix<T> {
     pub fn row_mut(&mut self, index: usize) -> CsrRowMut<'_, T>
         requires { index < self.old.pattern.major_dim }
         ensures* writes_back { sem 𝓛 (LendsRow T.row self.entry index (row_values result)) }
-        ensures row { lent_row result ≡ lane_at self.old index }
+        ensures row { row_as_lane result ≡ lane_at self.old index }
         ensures sound { IsSound self.old }
     {
         CsrRowMut::of(&mut self.cs, index)
@@ -43,7 +43,7 @@ impl<T> CsrMatrix<T> {
     pub fn get_row_mut(&mut self, index: usize) -> Option<CsrRowMut<'_, T>>
         ensures* writes_back { sem 𝓛 (LendsRowIf T.row self.entry index result) }
         ensures bounds { IsSome result ↔ (index < self.old.pattern.major_dim) }
-        ensures row { IfSome result (λ row. lent_row row ≡ lane_at self.old index) }
+        ensures row { IfSome result (λ row. row_as_lane row ≡ lane_at self.old index) }
         ensures sound { IsSound self.old }
     {
         match self.cs_with_row(index) {
@@ -52,7 +52,7 @@ impl<T> CsrMatrix<T> {
         }
     }
 
-    // The core, or `None` if it has no such row.
+    // Returns the underlying storage, borrowed mutably, or `None` if `index` is out of bounds.
     fn cs_with_row(&mut self, index: usize) -> Option<&mut CsMatrix<T>>
         ensures* writes_back { sem 𝓛 (LendsCoreIf T.row self.entry result) }
         ensures bounds { IsSome result ↔ (index < self.old.pattern.major_dim) }
@@ -75,8 +75,8 @@ impl<T> CsrMatrix<T> {
         self.cs.pattern_and_values_mut()
     }
 
-    /// Returns the entry at a row and a column, borrowed mutably, or `None` if one is out of bounds. Binary search in
-    /// the row.
+    /// Returns the entry at a row and a column, borrowed mutably, `Zero` if none is stored, or `None` if an index is
+    /// out of bounds. Binary search in the row.
     pub fn get_entry_mut(
         &mut self,
         row_index: usize,
@@ -89,7 +89,8 @@ impl<T> CsrMatrix<T> {
         into_entry(self.find_mut(row_index, col_index))
     }
 
-    /// Returns the entry at a row and a column, borrowed mutably. Both must be within bounds. Binary search in the row.
+    /// Returns the entry at a row and a column, borrowed mutably, or `Zero` if none is stored. Both indices must be
+    /// within bounds. Binary search in the row.
     pub fn index_entry_mut(&mut self, row_index: usize, col_index: usize) -> SparseEntryMut<'_, T>
         requires { IsInBounds self.old.pattern row_index col_index }
         ensures* writes_back { sem 𝓛 (LendsIndexed T.row self.entry row_index col_index result) }
@@ -132,7 +133,7 @@ impl<T> CsrMatrix<T> {
         CsrTripletIterMut::from_triplets(self.cs.triplet_iter_mut())
     }
 
-    /// Returns an iterator over the rows, including those without stored places, that borrows their values mutably.
+    /// Returns an iterator over the rows, including those without entries, that borrows their values mutably.
     pub fn row_iter_mut(&mut self) -> CsrRowIterMut<'_, T>
         ensures* writes_back { sem 𝓛 (LendsValues T.row self.entry (all_row_values result)) }
         ensures all { rows_left result ≡ lanes_of self.old }
@@ -141,7 +142,7 @@ impl<T> CsrMatrix<T> {
         CsrRowIterMut::from_lanes(self.cs.lane_iter_mut())
     }
 
-    // The value at a row and a column, or why there is none.
+    // Returns the value stored at a row and a column, borrowed mutably, or why there is none.
     fn find_mut(&mut self, row: usize, col: usize) -> Found<'_, T>
         ensures* writes_back { sem 𝓛 (LendsFound T.row self.entry row col result) }
         ensures found { IsFoundAt self.old row col result }

@@ -1,30 +1,31 @@
-//! The columns of a factorisation, one after the other.
+//! The columns of L D Lᵀ, left-looking, one after the other.
 
 ghost use Rattle.std.specs.Prelude.{◌≡◌, ℕ, ◌+◌, ◌<◌, ◌≤◌, length, slice_index_or, IfErr, OnErr};
 ghost use Rattle.std.specs.Prelude.{OnOk};
 ghost use Rattle.sparse_compressed.specs.Compressed.{IsSound, compressed_of};
 ghost use Rattle.sparse_compressed.specs.PlainOfLanes.{plain_of_cols};
 ghost use Rattle.sparse_factor.specs.InnerFactors.{AreCursors, AreInverses, ArePartFactors};
-ghost use Rattle.sparse_factor.specs.InnerFactors.{IsColumnMoved};
-ghost use Rattle.sparse_factor.specs.InnerFactors.{IsFilledPattern, IsIncluded, IsLeft};
+ghost use Rattle.sparse_factor.specs.InnerFactors.{IsColumnGathered};
+ghost use Rattle.sparse_factor.specs.InnerFactors.{IsFilledPattern, IsIncluded, IsUpdated};
 ghost use Rattle.sparse_factor.specs.InnerFactors.{IsLowerPattern, IsRowOf};
 ghost use Rattle.sparse_algebra.specs.declared.error.OperationErrorKind.TheVariants.{Singular};
 ghost use Rattle.sparse_pattern.specs.TransposedPattern.{IsTransposedPattern};
-ghost use Rattle.sparse_with_dense.specs.SparseVectors.{elements};
+ghost use Rattle.sparse_dense_ops.specs.SparseVectors.{elements};
 
 use sparse_algebra::error::OperationError;
-use sparse_algebra::learn;
+use sparse_algebra::recall;
 use sparse_algebra::scalar::{Ring, Units};
 use sparse_csr_csc::csc::CscMatrix;
+use sparse_dense_ops::{axpy_csc_col, usaxpy};
 use sparse_pattern::pattern::SparsityPattern;
-use sparse_with_dense::{axpy_csc_col, usaxpy};
 
-// Computes the columns of L, the diagonal of D and its inverses, for the symmetric matrix with this lower triangle.
+// Computes the columns of L, the diagonal of D and the inverses of its entries, for the symmetric matrix whose lower
+// triangle is `lower`.
 //
-// Left-looking: column j of the matrix, less the multiples of the columns of L before it that have row j, divided by
-// the pivot (Davis 2006, chapter 4). `rows` is the transposed pattern of L. `cursors` has for each column of L the
-// position of its first row from j on. `column` is zero from row j on between two steps, and has the pivots before it;
-// on return it has those of all.
+// Left-looking (Davis 2006, chapter 4): column j of L is column j of the matrix, less the updates by the columns before
+// it that have row j, divided by the pivot. `rows` is the transposed pattern of L. `cursors` has for each column of L
+// the offset of its first row from j on. `column` is a scratch column: before step j it has the pivots in the rows
+// before j, and zeros from row j on. On return it has all pivots.
 pub fn factor_columns<T: Units>(
     lower: &CscMatrix<T>,
     rows: &SparsityPattern,
@@ -55,28 +56,29 @@ pub fn factor_columns<T: Units>(
         (plain_of_cols T.ring T.value lower.now).value m c → ⊥) }
     ensures kind { IfErr result (λ e. e ≡ Singular) }
 {
-    learn(l.values());
+    recall(l.values());
     let (starts, columns) = (rows.major_offsets(), rows.minor_indices());
     let (pattern, values) = l.pattern_and_values_mut();
     for j in 0..inverses.len() {
         axpy_csc_col(T::one(), lower, j, column);
         let row = &columns[starts[j]..starts[j + 1]];
-        subtract_columns(pattern, values, row, j, cursors, column);
+        update_column(pattern, values, row, j, cursors, column);
         let pivot = column[j];
         let Some(inverse) = pivot.recip() else {
             return Err(OperationError::of_singular_diagonal());
         };
-        move_column(pattern, j, inverse, values, column);
-        // Later steps leave row j alone.
+        gather_column(pattern, j, inverse, values, column);
+        // Later steps do not change row j of the scratch column.
         column[j] = pivot;
         inverses[j] = inverse;
     }
     Ok(())
 }
 
-// Subtracts the columns before j from row j on, each times its pivot and its entry in row j, and moves the cursors past
-// row j. `column` has the pivots in the rows before j.
-fn subtract_columns<T: Ring>(
+// Updates column j: subtracts from it, from row j on, each column k before it that has row j, times pivot k and the
+// entry (j, k) of L. Moves the cursors past row j. `row` has the columns with an entry in row j of L, and `column` has
+// the pivots in the rows before j.
+fn update_column<T: Ring>(
     pattern: &SparsityPattern,
     values: &[T],
     row: &[usize],
@@ -96,7 +98,7 @@ fn subtract_columns<T: Ring>(
     ensures rows { length column.new ≡ length column.old }
     ensures above { (i : ℕ) → i < j → T.value (slice_index_or column.new i T.zero_value)
         ≡ T.value (slice_index_or column.old i T.zero_value) }
-    ensures left { IsLeft T.ring (length column.old) j
+    ensures left { IsUpdated T.ring (length column.old) j
         (plain_of_cols T.ring T.value (compressed_of pattern.now values.now)).value
         (elements T.ring T.value T.zero_value column.old) j
         (elements T.ring T.value T.zero_value column.new)
@@ -115,8 +117,8 @@ fn subtract_columns<T: Ring>(
     }
 }
 
-// Moves the places of column j out of the scratch column into the values, times the inverse of the pivot.
-fn move_column<T: Ring>(
+// Gathers the entries of column j of L from the scratch column, times the inverse of the pivot, and clears them there.
+fn gather_column<T: Ring>(
     pattern: &SparsityPattern,
     j: usize,
     inverse: T,
@@ -126,7 +128,7 @@ fn move_column<T: Ring>(
     requires lane { j < pattern.now.major_dim }
     requires count { length values.old ≡ length pattern.now.indices }
     requires rows { length column.old ≡ pattern.now.minor_dim }
-    ensures moved { IsColumnMoved T.ring T.value T.zero_value pattern.now j (T.value inverse)
+    ensures gathered { IsColumnGathered T.ring T.value T.zero_value pattern.now j (T.value inverse)
         values.old values.new column.old column.new }
 {
     let (offsets, rows) = (pattern.major_offsets(), pattern.minor_indices());

@@ -10,13 +10,13 @@ ghost use Rattle.sparse_factor.specs.InnerFactors.{AreInverses, ArePartFactors, 
 ghost use Rattle.sparse_factor.specs.InnerFactors.{IsIncluded};
 ghost use Rattle.sparse_algebra.specs.declared.error.OperationErrorKind.TheVariants.{OutOfMemory};
 ghost use Rattle.sparse_algebra.specs.declared.error.OperationErrorKind.TheVariants.{Singular};
-ghost use Rattle.sparse_pattern.specs.Raw.{IsPlace};
+ghost use Rattle.sparse_pattern.specs.Raw.{IsEntry};
 ghost use Rattle.sparse_pattern.specs.TransposedPattern.{IsTransposedPattern};
-ghost use Rattle.sparse_with_dense.specs.SparseVectors.{elements};
+ghost use Rattle.sparse_dense_ops.specs.SparseVectors.{elements};
 
 use super::columns::factor_columns;
 use sparse_algebra::error::OperationError;
-use sparse_algebra::learn;
+use sparse_algebra::recall;
 use sparse_algebra::scalar::{Ring, Units, Zero};
 use sparse_compressed::laws::{kept_cols_law, transpose_law};
 use sparse_csr_csc::csc::CscMatrix;
@@ -55,16 +55,16 @@ fn lower_triangle<T: Ring>(alloc: Global, a: &CscMatrix<T>) -> Result<CscMatrix<
     ensures columns { IfOk result (λ m. m.pattern.major_dim ≡ a.now.pattern.minor_dim) }
     ensures plain { IfOk result (λ m. plain_of_cols T.ring T.value m ≡ plain_transpose T.ring
         (plain_upper T.ring (plain_of_cols T.ring T.value a.now))) }
-    ensures places { IfOk result (λ m. (i j : ℕ) → IsPlace m.pattern j i
+    ensures places { IfOk result (λ m. (i j : ℕ) → IsEntry m.pattern j i
         → UpperBase a.now.pattern i j) }
 {
-    learn(a.values());
+    recall(a.values());
     kept_cols_law::<T>();
     transpose_law::<T>();
     a.upper_triangle(alloc)?.transpose(alloc)
 }
 
-// Returns the matrix of zeros at the places of a pattern.
+// Returns the matrix that stores a zero for each entry of a pattern.
 fn matrix_of_zeros<T: Zero + Copy>(
     alloc: Global,
     pattern: SparsityPattern,
@@ -86,8 +86,8 @@ fn zeros<T: Zero + Copy>(alloc: Global, count: usize) -> Result<Vec<T>, AllocErr
     Ok(zeros)
 }
 
-// Returns L, the diagonal of D, and the inverses of its entries for the symmetric matrix with this lower triangle. `l`
-// has the pattern of L, and `rows` is its transpose.
+// Returns L, the diagonal of D, and the inverses of its entries, for the symmetric matrix whose lower triangle is
+// `lower`. `l` has the pattern of L, and `rows` is its transpose.
 fn factor_lower<T: Units>(
     alloc: Global,
     lower: &CscMatrix<T>,

@@ -98,7 +98,7 @@ fn finished<T: MatrixMarketScalar>(
     Err(SparseFormatError::new(SparseFormatErrorKind::IndexOutOfBounds, text).into())
 }
 
-// Whether the number of data lines is the one given.
+// Whether the number of data lines is the one that the size line gives.
 fn is_count(count: Option<usize>, lines: usize) -> bool
     ensures { result ≡ is_count count lines }
 {
@@ -108,7 +108,9 @@ fn is_count(count: Option<usize>, lines: usize) -> bool
     }
 }
 
-// The number of triplets to reserve: the one given by the size line, unless the text is too short for it.
+// The number of triplets to reserve: twice the number of entries if the matrix has a symmetry, and none for real and
+// complex entries, which are errors. The number of entries in the size line counts only if the text is long enough for
+// half of them.
 fn room(header: Header, count: Option<usize>, len: usize) -> usize {
     let shortest = match (header.format, header.field) {
         (Format::Array, _) => 2,

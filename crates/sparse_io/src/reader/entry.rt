@@ -22,7 +22,7 @@ pub type Triplet<T> = (usize, usize, T);
 /// An entry, and the value of the mirrored one if the symmetry implies one.
 pub type Triplets<T> = (Triplet<T>, Option<T>);
 
-/// Returns the triplets of a data line. An array's entry has the given place.
+/// Returns the triplets of a data line. `at` is the row and the column of an array's entry.
 #[tactic(auto, unfolding(sparse_parser::specs::Meaning::triplets_of))]
 pub fn triplets<T: MatrixMarketScalar>(
     header: Header,
@@ -40,7 +40,7 @@ pub fn triplets<T: MatrixMarketScalar>(
     with_mirrored(header.symmetry, entry)
 }
 
-/// Returns the triplets of an integer entry; its row and column count from 1.
+/// Returns the triplets of an integer entry, whose row and column count from 1.
 #[inline(always)]
 pub fn integer_triplets<T: MatrixMarketScalar>(
     symmetry: Symmetry,
@@ -56,9 +56,9 @@ pub fn integer_triplets<T: MatrixMarketScalar>(
     with_mirrored(symmetry, (row, col, value))
 }
 
-/// Returns the triplets of a pattern entry; its row and column count from 1.
+/// Returns the triplets of a pattern entry, whose row and column count from 1.
 #[inline(always)]
-pub fn place_triplets<T: MatrixMarketScalar>(
+pub fn pattern_triplets<T: MatrixMarketScalar>(
     symmetry: Symmetry,
     row: usize,
     col: usize,
@@ -71,7 +71,7 @@ pub fn place_triplets<T: MatrixMarketScalar>(
     with_mirrored(symmetry, (row, col, value))
 }
 
-/// Returns the triplets of an integer entry of an array.
+/// Returns the triplets of an integer entry of an array, at the given row and column.
 #[inline(always)]
 pub fn value_triplets<T: MatrixMarketScalar>(
     symmetry: Symmetry,
@@ -85,7 +85,7 @@ pub fn value_triplets<T: MatrixMarketScalar>(
     with_mirrored(symmetry, (at.0, at.1, value))
 }
 
-// The entry of a coordinate line.
+// The entry of a data line in the coordinate format.
 #[tactic(auto, unfolding(sparse_parser::specs::Meaning::entry_of, sparse_parser::specs::Meaning::field_value))]
 fn coordinate_entry<T: MatrixMarketScalar>(
     field: Field,
@@ -110,7 +110,7 @@ fn coordinate_entry<T: MatrixMarketScalar>(
     }
 }
 
-// The entry of a row and a column alone.
+// The entry of a data line with a row and a column.
 #[inline(always)]
 fn pattern_entry<T: MatrixMarketScalar>(
     row: Number<'_>,
@@ -128,7 +128,7 @@ fn pattern_entry<T: MatrixMarketScalar>(
     Ok((row, col, T::from_pattern(())?))
 }
 
-// The entry of a row, a column and an integer.
+// The entry of a data line with a row, a column and an integer.
 #[inline(always)]
 fn integer_entry<T: MatrixMarketScalar>(
     row: Number<'_>,
@@ -147,7 +147,7 @@ fn integer_entry<T: MatrixMarketScalar>(
     integer_at(index_place(row, col)?, value)
 }
 
-// The error of an entry whose value has no type here: that of its place, or else the given one.
+// The error of a real or complex entry: that of its row and column, or else the given one.
 #[inline(always)]
 fn refused_entry<T: MatrixMarketScalar>(
     row: Number<'_>,
@@ -166,7 +166,7 @@ fn refused_entry<T: MatrixMarketScalar>(
     Err(MatrixMarketError::new(cause))
 }
 
-// The entry of an array, which has the given place.
+// The entry of a data line in the array format, at the given row and column.
 #[tactic(auto, unfolding(sparse_parser::specs::Meaning::entry_of, sparse_parser::specs::Meaning::field_value))]
 fn array_entry<T: MatrixMarketScalar>(
     field: Field,
@@ -188,7 +188,7 @@ fn array_entry<T: MatrixMarketScalar>(
     }
 }
 
-// The entry of an integer at a place.
+// The entry of an integer at a row and a column.
 #[inline(always)]
 fn integer_at<T: MatrixMarketScalar>(
     place: (usize, usize),
@@ -201,7 +201,7 @@ fn integer_at<T: MatrixMarketScalar>(
     Ok((place.0, place.1, integer_value(number)?))
 }
 
-// The place of two indices counted from 1.
+// The row and the column counted from 0, given as numbers that count from 1.
 #[tactic(auto, unfolding(sparse_parser::specs::Meaning::place_of))]
 fn index_place(row: Number<'_>, col: Number<'_>) -> Result<(usize, usize), Cause>
     requires row_is { IsNumber row }
@@ -216,7 +216,7 @@ fn index_place(row: Number<'_>, col: Number<'_>) -> Result<(usize, usize), Cause
     place(row, col)
 }
 
-// The place of a row and a column counted from 1.
+// The row and the column counted from 0, given counted from 1.
 #[tactic(auto, unfolding(sparse_parser::specs::Meaning::place_of))]
 #[inline(always)]
 fn place(row: usize, col: usize) -> Result<(usize, usize), Cause>

@@ -1,4 +1,4 @@
-//! The kinds of data lines that are read by loops of their own.
+//! The kinds of data lines for which the reader has loops of their own.
 
 ghost use Rattle.std.specs.Prelude.{◌≤◌, MatchOption, Ok, length, drop, map, slice_get};
 ghost use Rattle.sparse_parser.specs.InnerBytes.{BeginsLine};
@@ -6,22 +6,22 @@ ghost use Rattle.sparse_parser.specs.Meaning.{value_triplet};
 ghost use Rattle.sparse_io.specs.InnerEntries.{both_of, IsLineRead};
 ghost use Rattle.sparse_io.specs.InnerPlaces.{places_left};
 
-use crate::reader::entry::{Triplets, integer_triplets, place_triplets, value_triplets};
+use crate::reader::entry::{Triplets, integer_triplets, pattern_triplets, value_triplets};
 use crate::reader::places::Places;
 use sparse_market_scalar::MatrixMarketScalar;
 use sparse_parser::header::Header;
-use sparse_parser::integer_lines::{integer_line, place_line, value_line};
+use sparse_parser::integer_lines::{integer_line, pattern_line, value_line};
 use sparse_parser::lines::next_line_at;
 
 /// A kind of data line.
 pub trait LineKind<T: MatrixMarketScalar> {
     ghost use Rattle.sparse_parser.specs.declared.header.Header.{Header};
 
-    // The headers of the files that have such lines.
+    // The headers of the texts that have such lines.
     ghost is_for: { Header → Type 0 };
 
-    /// Reads the line at a position. Returns its triplets and the position of the next line, or `None` if the line has
-    /// another form or is refused.
+    /// Reads the line at an offset. Returns its triplets and the offset of the next line, or `None` if the fast path
+    /// does not apply or the line has an error.
     fn line(
         header: Header,
         places: &Places,
@@ -41,9 +41,9 @@ pub trait LineKind<T: MatrixMarketScalar> {
 pub struct IntegerLines;
 
 /// Lines of two indices.
-pub struct PlaceLines;
+pub struct PatternLines;
 
-/// Lines of an integer, as arrays have them.
+/// Lines of an integer: the data lines of arrays.
 pub struct ValueLines;
 
 impl<T: MatrixMarketScalar> LineKind<T> for IntegerLines {
@@ -66,10 +66,10 @@ impl<T: MatrixMarketScalar> LineKind<T> for IntegerLines {
     }
 }
 
-impl<T: MatrixMarketScalar> LineKind<T> for PlaceLines {
-    ghost use Rattle.sparse_io.specs.InnerEntries.{HasPlaces};
+impl<T: MatrixMarketScalar> LineKind<T> for PatternLines {
+    ghost use Rattle.sparse_io.specs.InnerEntries.{HasIndices};
 
-    ghost is_for = { HasPlaces };
+    ghost is_for = { HasIndices };
 
     #[inline(always)]
     fn line(
@@ -78,8 +78,8 @@ impl<T: MatrixMarketScalar> LineKind<T> for PlaceLines {
         text: &[u8],
         from: usize,
     ) -> Option<(Triplets<T>, usize)> {
-        let (row, col, end) = place_line(text, from)?;
-        match place_triplets(header.symmetry, row, col) {
+        let (row, col, end) = pattern_line(text, from)?;
+        match pattern_triplets(header.symmetry, row, col) {
             Ok(found) => Some((found, next_line_at(text, end))),
             Err(_) => None,
         }

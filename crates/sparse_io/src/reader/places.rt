@@ -1,11 +1,11 @@
-//! The places of an array's entries.
+//! The rows and columns of an array's entries.
 
 ghost use Rattle.std.specs.Prelude.{◌≡◌, ◌<◌, ◌==◌, Some, slice_get, drop, length};
 ghost use Rattle.sparse_parser.specs.ArrayPlaces.{first_row, places_of};
 
 use sparse_parser::header::{Format, Symmetry};
 
-/// The places of an array's entries that are left, column by column.
+/// The rows and columns of the entries of an array that are left to read, column by column.
 #[derive(Clone, Copy)]
 pub struct Places {
     symmetry: Symmetry,
@@ -13,15 +13,15 @@ pub struct Places {
     cols: usize,
     row: usize,
     col: usize,
-    // The first place lies in the array, unless none is left.
+    // The first entry lies in the array, unless none is left.
     ghost in_array: { col < cols → row < rows },
 }
 
 impl Places {
     ghost use Rattle.sparse_io.specs.InnerPlaces.{places_left, left_from, columns_left};
 
-    /// Returns the places of an array of this shape. In the coordinate format there are none, since each data line
-    /// gives its own.
+    /// Returns the rows and columns of the entries of an array of this shape. In the coordinate format there are none,
+    /// since each data line gives its own.
     pub fn new(format: Format, symmetry: Symmetry, rows: usize, cols: usize) -> Places
         ensures { places_left result ≡ places_of format symmetry rows cols }
     {
@@ -39,7 +39,7 @@ impl Places {
         }
     }
 
-    /// Returns whether no place is left.
+    /// Returns whether no entry is left.
     #[inline(always)]
     pub fn is_empty(&self) -> bool
         ensures { result ≡ (length (places_left self.now) == 0) }
@@ -47,7 +47,7 @@ impl Places {
         self.col >= self.cols
     }
 
-    /// Returns the first place. There must be one.
+    /// Returns the row and the column of the first entry. There must be one.
     #[inline(always)]
     pub fn first(&self) -> (usize, usize)
         requires { 0 < length (places_left self.now) }
@@ -56,7 +56,7 @@ impl Places {
         (self.row, self.col)
     }
 
-    /// Removes the first place, if there is one.
+    /// Removes the first entry, if there is one.
     #[inline(always)]
     pub fn remove_first(&mut self)
         ensures { places_left self.new ≡ drop 1 (places_left self.old) }
@@ -73,7 +73,7 @@ impl Places {
         }
     }
 
-    /// Removes and returns the first place.
+    /// Removes the first entry, and returns its row and its column. Returns `None` if there is none.
     #[inline(always)]
     pub fn take_first(&mut self) -> Option<(usize, usize)>
         ensures first { result ≡ slice_get (places_left self.old) 0 }
@@ -87,8 +87,8 @@ impl Places {
         Some(place)
     }
 
-    // Returns the first place from a column on, or `(0, cols)` if there is none. After a column without places there
-    // are no more.
+    // The row and the column of the first entry from a column on, or `(0, cols)` if there is none. After a column
+    // without entries there are none.
     #[inline(always)]
     fn first_from(symmetry: Symmetry, rows: usize, cols: usize, col: usize) -> (usize, usize)
         ensures places { left_from symmetry rows cols result.0 result.1

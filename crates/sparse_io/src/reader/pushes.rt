@@ -1,4 +1,4 @@
-//! Pushing triplets, as long as all lie within the shape.
+//! Pushing triplets while all of them lie within the shape.
 
 ghost use Rattle.std.specs.Prelude.{◌≡◌, ◌<◌, ◌&&◌, IsTrue, IfOk, OnOk, map};
 ghost use Rattle.std.specs.List.{list_all};
@@ -74,7 +74,7 @@ pub fn push_all<T: MatrixMarketScalar>(
     }
 }
 
-/// Pushes an entry and the mirrored one, unless one of them or one before lies outside the shape.
+/// Pushes an entry and the mirrored one, unless one of them or an earlier triplet lies outside the shape.
 #[inline(never)]
 pub fn add_all<T: MatrixMarketScalar>(
     matrix: &mut CooMatrix<T>,

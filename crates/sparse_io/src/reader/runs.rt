@@ -1,6 +1,7 @@
-//! Runs of data lines of one kind, each read by a loop of its own.
+//! Runs of data lines of one kind, which are read by loops of their own.
 //!
-//! The loop is compiled anew for each kind of line, so that it stays small and keeps what it needs in registers.
+//! The loop is compiled for each kind of line and each symmetry, so that it is small and its variables stay in
+//! registers.
 
 ghost use Rattle.std.specs.Prelude.{◌≡◌, ◌≤◌, ◌+◌, true, length};
 ghost use Rattle.sparse_parser.specs.InnerBytes.{BeginsLine};
@@ -8,7 +9,7 @@ ghost use Rattle.sparse_parser.specs.Meaning.{values_of};
 ghost use Rattle.sparse_io.specs.InnerEntries.{numbered_symmetry, IsReadOn, reading};
 ghost use Rattle.sparse_io.specs.InnerPlaces.{places_left};
 
-use crate::reader::kinds::{IntegerLines, LineKind, PlaceLines, ValueLines};
+use crate::reader::kinds::{IntegerLines, LineKind, PatternLines, ValueLines};
 use crate::reader::places::Places;
 use crate::reader::pushes::{append_all, are_inside};
 use sparse_coo_dense::CooAppender;
@@ -16,8 +17,8 @@ use sparse_coo_dense::coo::CooMatrix;
 use sparse_market_scalar::MatrixMarketScalar;
 use sparse_parser::header::{Field, Format, Header, Symmetry};
 
-/// Reads lines of integers, places or values as long as they have the common form, their triplets lie within the shape
-/// and there is memory for them. Returns the matrix, the number of data lines and the text that is left.
+/// Reads lines of integers, of rows and columns, or of values while the fast path applies, their triplets lie within
+/// the shape and there is memory for them. Returns the matrix, the number of data lines read and the rest of the text.
 pub fn common_lines<'a, T: MatrixMarketScalar>(
     header: Header,
     matrix: CooMatrix<T>,
@@ -41,7 +42,7 @@ pub fn common_lines<'a, T: MatrixMarketScalar>(
             lines_of::<T, IntegerLines>(header, matrix, places, read, text)
         }
         (Format::Coordinate, Field::Pattern) => {
-            lines_of::<T, PlaceLines>(header, matrix, places, read, text)
+            lines_of::<T, PatternLines>(header, matrix, places, read, text)
         }
         (Format::Array, Field::Integer) => {
             lines_of::<T, ValueLines>(header, matrix, places, read, text)
@@ -50,7 +51,7 @@ pub fn common_lines<'a, T: MatrixMarketScalar>(
     }
 }
 
-// Reads lines of one kind.
+// Reads lines of one kind, by the loop for the symmetry of the header.
 fn lines_of<'a, T: MatrixMarketScalar, K: LineKind<T>>(
     header: Header,
     matrix: CooMatrix<T>,
@@ -75,18 +76,18 @@ fn lines_of<'a, T: MatrixMarketScalar, K: LineKind<T>>(
     }
 }
 
-// The symmetries as numbers, since an enumeration cannot be a constant of a function.
+// The symmetries as numbers, since a const parameter cannot be an enumeration.
 const GENERAL: u8 = 0;
 
 const SYMMETRIC: u8 = 1;
 
 const SKEW_SYMMETRIC: u8 = 2;
 
-// Reads lines of one kind as long as they have the common form, their triplets lie within the shape and there is room
-// for two more.
+// Reads lines of one kind while the fast path applies, their triplets lie within the shape and there is room for two
+// more.
 //
-// The matrix is passed by value, so that its pointers stay in registers. No test of its own ends the loop with the
-// text: an empty text has no line of any kind.
+// The matrix is passed by value, so that its pointers stay in registers. No test for the end of the text is needed: an
+// empty text has no line of any kind.
 #[inline(never)]
 fn run<'a, T: MatrixMarketScalar, K: LineKind<T>, const SYMMETRY: u8>(
     header: Header,
@@ -124,7 +125,7 @@ fn run<'a, T: MatrixMarketScalar, K: LineKind<T>, const SYMMETRY: u8>(
     (list.into_matrix(), read, rest)
 }
 
-// The same header, with its symmetry as a constant.
+// The header, with its symmetry known at compile time.
 #[inline(always)]
 fn with_symmetry<const SYMMETRY: u8>(header: Header) -> Header
     requires { numbered_symmetry SYMMETRY ≡ header.symmetry }

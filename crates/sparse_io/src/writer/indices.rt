@@ -11,7 +11,7 @@ const FIELD: usize = 21;
 // The length of the two indices of a triplet.
 pub(super) const ROOM: usize = 2 * FIELD;
 
-// Writes a number and a blank so that they end at `end`. Returns where they start.
+// Writes a number and a blank that end at the offset `end`. Returns the offset at which they start.
 #[inline(always)]
 fn write_field(number: usize, bytes: &mut [u8], end: usize) -> usize
     requires room { FIELD ≤ end }

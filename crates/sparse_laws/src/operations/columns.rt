@@ -1,16 +1,17 @@
-//! The laws of sums and products of matrices by columns.
+//! Laws of sums and products of CSC matrices, over every ring.
 
 ghost use Rattle.std.specs.Prelude.{◌≡◌, IfOk};
 ghost use Rattle.sparse_algebra.specs.Plain.{plain_product, plain_sum, plain_transpose};
 ghost use Rattle.sparse_compressed.specs.PlainOfLanes.{plain_of_cols};
 
 use sparse_algebra::laws::{identity_product_law, product_distributes_law, transpose_product_law};
-use sparse_algebra::learn;
+use sparse_algebra::recall;
 use sparse_algebra::scalar::Ring;
 use sparse_compressed::laws::stands_law;
 use sparse_csr_csc::csc::CscMatrix;
-use sparse_products::serial::{add_csc, mul_csc, neg_csc, sub_csc};
+use sparse_products::serial::mul_csc;
 use sparse_products::transposes::transposed_csc;
+use sparse_sums::{add_csc, neg_csc, sub_csc};
 use std::alloc::{AllocError, Global};
 
 /// Returns `a * (b + c)` and `a * b + a * c`, which are equal. Fails only if an allocation fails.
@@ -46,7 +47,7 @@ pub fn product_distributes_right<T: Ring>(
         ≡ plain_of_cols T.ring T.value m.1) }
 {
     product_distributes_law::<T>();
-    let product = sum_with_factor(alloc, a, b, c)?;
+    let product = sum_times_matrix(alloc, a, b, c)?;
     let products = sum_of_products(alloc, a, c, b, c)?;
     Ok((product, products))
 }
@@ -77,34 +78,32 @@ pub fn negative_twice<T: Ring>(alloc: Global, a: &CscMatrix<T>) -> Result<CscMat
     neg_csc(alloc, &negative)
 }
 
-/// Returns the product of the identity and `a`, which is equal to `a`. Fails only if an allocation
-/// fails.
+/// Returns the product of the identity and `a`, which is equal to `a`. Fails only if an allocation fails.
 pub fn identity_times<T: Ring>(alloc: Global, a: &CscMatrix<T>) -> Result<CscMatrix<T>, AllocError>
     ensures { IfOk result (λ m. plain_of_cols T.ring T.value m
         ≡ plain_of_cols T.ring T.value a.now) }
 {
     stands_law::<T>();
     identity_product_law::<T>();
-    learn(a.values());
+    recall(a.values());
     let identity = CscMatrix::identity(alloc, a.nrows())?;
     mul_csc(alloc, &identity, a)
 }
 
-/// Returns the product of `a` and the identity, which is equal to `a`. Fails only if an allocation
-/// fails.
+/// Returns the product of `a` and the identity, which is equal to `a`. Fails only if an allocation fails.
 pub fn times_identity<T: Ring>(alloc: Global, a: &CscMatrix<T>) -> Result<CscMatrix<T>, AllocError>
     ensures { IfOk result (λ m. plain_of_cols T.ring T.value m
         ≡ plain_of_cols T.ring T.value a.now) }
 {
     stands_law::<T>();
     identity_product_law::<T>();
-    learn(a.values());
+    recall(a.values());
     let identity = CscMatrix::identity(alloc, a.ncols())?;
     mul_csc(alloc, a, &identity)
 }
 
-/// Returns the transpose of `a * b`, and the product of the transposes in reverse order, which are
-/// equal. Fails only if an allocation fails.
+/// Returns the transpose of `a * b`, and the product of the transposes in reverse order, which are equal. Fails only if
+/// an allocation fails.
 pub fn transpose_of_product<T: Ring>(
     alloc: Global,
     a: &CscMatrix<T>,
@@ -171,7 +170,7 @@ fn product_with_sum<T: Ring>(
 }
 
 // Returns `(a + b) * c`.
-fn sum_with_factor<T: Ring>(
+fn sum_times_matrix<T: Ring>(
     alloc: Global,
     a: &CscMatrix<T>,
     b: &CscMatrix<T>,

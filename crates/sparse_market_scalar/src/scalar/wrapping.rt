@@ -1,4 +1,4 @@
-//! Wrapping integers, in signed form.
+//! Wrapping integers, whose texts are decimal numbers in signed form.
 
 ghost use Rattle.std.specs.Int.{w32, w64, w128};
 ghost use Rattle.sparse_algebra.specs.Numbers.{w32_number, w64_number};

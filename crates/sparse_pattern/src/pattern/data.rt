@@ -1,4 +1,4 @@
-//! Patterns as data.
+//! Conversions between patterns and their data struct.
 
 ghost use Rattle.std.specs.Prelude.{◌≡◌, IfOk, IfErr, IsOk, OnOk};
 ghost use Rattle.sparse_pattern.specs.Raw.{IsValid};
@@ -6,7 +6,7 @@ ghost use Rattle.sparse_pattern.specs.PatternFaults.{IsFirstFault};
 ghost use Rattle.sparse_pattern.specs.PatternData.{pattern_in};
 
 use crate::pattern::{SparsityPattern, SparsityPatternFormatError};
-use sparse_pattern_data::PatternData;
+use sparse_serde_pattern::PatternData;
 use std::alloc::{AllocError, Global};
 
 impl SparsityPattern {
@@ -17,7 +17,7 @@ impl SparsityPattern {
         ensures ok { IfOk result (λ p. p ≡ pattern_in source) }
         ensures valid { OnOk result (IsValid (pattern_in source)) }
         ensures fault { IfErr result (IsFirstFault (pattern_in source)) }
-        ensures taken { IsValid (pattern_in source) → IsOk result }
+        ensures accepted { IsValid (pattern_in source) → IsOk result }
     {
         SparsityPattern::try_from_offsets_and_indices(
             source.major_dim,

@@ -9,7 +9,7 @@ use crate::error::SparseFormatErrorKind;
 use std::cmp::Ordering;
 use thiserror::Error;
 
-// The texts of the faults, which a fault and the error of a matrix with this fault both show.
+// The messages of the faults, which the errors of patterns and of matrices share.
 const OFFSET_COUNT: &str = "Length of offset array is not equal to (major_dim + 1).";
 
 const FIRST_LAST: &str = "First or last offset is incompatible with format.";
@@ -81,7 +81,7 @@ pub fn one_first_fault()
         → e ≡ f }
 {}
 
-/// Checks that offsets and indices describe a pattern, where they are.
+/// Checks that borrowed offsets and indices describe a pattern.
 ///
 /// Linear in the number of lanes and indices. Allocates nothing.
 ///
@@ -117,7 +117,7 @@ pub fn check(
     Ok(())
 }
 
-// Returns the first fault among the indices of one lane.
+// Checks the indices of one lane, and returns the first fault.
 fn check_lane(
     minor_dim: usize,
     indices: &[usize],

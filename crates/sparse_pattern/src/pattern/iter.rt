@@ -1,19 +1,19 @@
-//! The iterator over the places of a pattern.
+//! The iterator over the entries of a pattern.
 
 ghost use Rattle.std.specs.Prelude.{◌≡◌, ℕ, ◌↔◌, ⊤, length, Contains, AllPairs};
 ghost use Rattle.std.specs.Iterator.{YieldsFirst, item_count};
-ghost use Rattle.sparse_pattern.specs.Raw.{IsPlace, Precedes, entries_of};
+ghost use Rattle.sparse_pattern.specs.Raw.{IsEntry, Precedes, entries_of};
 
 use super::SparsityPattern;
 use std::alloc::AllocError;
 use std::marker::Model;
 
 impl SparsityPattern {
-    /// Returns an iterator over the places (lane, minor index), lane by lane, minor indices increasing.
+    /// Returns an iterator over the entries (lane, minor index), lane by lane, minor indices increasing.
     pub fn entries(&self) -> SparsityPatternIter<'_>
         ensures all { result ≡ entries_of self.now }
         ensures count { length result ≡ length self.now.indices }
-        ensures places { (i j : ℕ) → Contains result (i, j) ↔ IsPlace self.now i j }
+        ensures places { (i j : ℕ) → Contains result (i, j) ↔ IsEntry self.now i j }
         ensures rising { AllPairs Precedes result }
     {
         let remaining: &[usize] = if self.major_offsets.len() > 1 {
@@ -30,7 +30,7 @@ impl SparsityPattern {
     }
 }
 
-/// An iterator over the places of a [`SparsityPattern`], lane by lane, minor indices increasing.
+/// An iterator over the entries of a [`SparsityPattern`], lane by lane, minor indices increasing.
 #[derive(Drop)]
 pub struct SparsityPatternIter<'a> {
     major_offsets: &'a [usize],

@@ -1,4 +1,4 @@
-//! A product into a given matrix, which may lack a place.
+//! Products that are added to a given matrix, whose pattern is tested.
 
 ghost use Rattle.std.specs.Prelude.{◌≡◌, ◌⊎◌, IsOk, IfErr, OnOk, OnErr};
 ghost use Rattle.sparse_algebra.specs.declared.error.OperationErrorKind.TheVariants.{InvalidPattern};
@@ -9,27 +9,27 @@ ghost use Rattle.sparse_compressed.specs.PlainOfLanes.{plain_of_rows, plain_of_c
 ghost use Rattle.sparse_products.specs.Products.{product_by_rows, product_by_cols};
 ghost use Rattle.sparse_products.specs.ScalarProducts.{IfNotTransposed};
 
-use super::factor::{csc_operands, csr_operands};
+use super::multiplicands::{csc_operands, csr_operands};
 use super::update::{Update, update_checked};
 use sparse_algebra::error::OperationError;
-use sparse_algebra::learn;
 use sparse_algebra::operand::Op;
+use sparse_algebra::recall;
 use sparse_algebra::scalar::Ring;
 use sparse_csr_csc::csc::CscMatrix;
 use sparse_csr_csc::csr::CsrMatrix;
 use std::alloc::Global;
 
-/// Replaces `c` by `beta * c + alpha * op(a) * op(b)` on the places of `c`.
+/// Replaces `c` by `beta * c + alpha * op(a) * op(b)`, on the pattern of `c`.
 ///
-/// The inner dimensions of `op(a)` and `op(b)` must be equal, and `c` must have the shape of their product. Refuses
-/// with [`InvalidPattern`](sparse_algebra::error::OperationErrorKind::InvalidPattern) only where the product's pattern
-/// has a place that `c` lacks, whatever its value is, and with `OutOfMemory` only if an allocation fails; `c` is then
+/// The inner dimensions of `op(a)` and `op(b)` must be equal, and `c` must have the shape of their product. Returns
+/// [`InvalidPattern`](sparse_algebra::error::OperationErrorKind::InvalidPattern) only if the pattern of the product has
+/// an entry that `c` does not store, whatever its value is, and `OutOfMemory` only if an allocation fails; `c` is then
 /// unchanged.
 ///
 /// Two binary searches in a row of `c` for each triple (i, k, j) with (i, k) in `op(a)` and (k, j) in `op(b)`: the
-/// first pass tests the pattern, the second writes. No memory is asked for where neither operand is transposed; a
-/// transposed operand is transposed first.
-#[tactic(auto, using(crate::proofs::Refusals::refused))]
+/// first pass tests the pattern, the second adds. Allocates nothing if neither operand is transposed; otherwise the
+/// transposes are computed first.
+#[tactic(auto, using(sparse_algebra::proofs::EarlyReturns::early_return))]
 pub fn spmm_csr_prealloc<T: Ring>(
     alloc: Global,
     beta: T,
@@ -57,27 +57,27 @@ pub fn spmm_csr_prealloc<T: Ring>(
         (product_by_rows T.ring T.value a.entry b.entry)) }
 {
     let operands = csr_operands(alloc, a, b)?;
-    learn(c.values());
+    recall(c.values());
     let (pattern, values) = c.pattern_and_values_mut();
     let update = Update {
         beta,
         alpha,
-        factors: operands.factors(),
+        matrices: operands.matrices(),
     };
     update_checked(update, pattern, values)
 }
 
-/// Replaces `c` by `beta * c + alpha * op(a) * op(b)` on the places of `c`.
+/// Replaces `c` by `beta * c + alpha * op(a) * op(b)`, on the pattern of `c`.
 ///
-/// The inner dimensions of `op(a)` and `op(b)` must be equal, and `c` must have the shape of their product. Refuses
-/// with [`InvalidPattern`](sparse_algebra::error::OperationErrorKind::InvalidPattern) only where the product's pattern
-/// has a place that `c` lacks, whatever its value is, and with `OutOfMemory` only if an allocation fails; `c` is then
+/// The inner dimensions of `op(a)` and `op(b)` must be equal, and `c` must have the shape of their product. Returns
+/// [`InvalidPattern`](sparse_algebra::error::OperationErrorKind::InvalidPattern) only if the pattern of the product has
+/// an entry that `c` does not store, whatever its value is, and `OutOfMemory` only if an allocation fails; `c` is then
 /// unchanged.
 ///
 /// Two binary searches in a column of `c` for each triple (i, k, j) with (i, k) in `op(a)` and (k, j) in `op(b)`: the
-/// first pass tests the pattern, the second writes. No memory is asked for where neither operand is transposed; a
-/// transposed operand is transposed first.
-#[tactic(auto, using(crate::proofs::Refusals::refused))]
+/// first pass tests the pattern, the second adds. Allocates nothing if neither operand is transposed; otherwise the
+/// transposes are computed first.
+#[tactic(auto, using(sparse_algebra::proofs::EarlyReturns::early_return))]
 pub fn spmm_csc_prealloc<T: Ring>(
     alloc: Global,
     beta: T,
@@ -105,12 +105,12 @@ pub fn spmm_csc_prealloc<T: Ring>(
         (product_by_cols T.ring T.value a.entry b.entry)) }
 {
     let operands = csc_operands(alloc, a, b)?;
-    learn(c.values());
+    recall(c.values());
     let (pattern, values) = c.pattern_and_values_mut();
     let update = Update {
         beta,
         alpha,
-        factors: operands.factors(),
+        matrices: operands.matrices(),
     };
     update_checked(update, pattern, values)
 }

@@ -3,9 +3,9 @@
 ghost use Rattle.std.specs.Prelude.{◌≡◌, IfOk};
 ghost use Rattle.sparse_algebra.specs.Plain.{plain_product};
 ghost use Rattle.sparse_compressed.specs.PlainOfLanes.{plain_of_rows, plain_of_cols};
-ghost use Rattle.sparse_products.specs.InnerFactors.{CanMultiply, product_of};
+ghost use Rattle.sparse_products.specs.InnerOperands.{CanMultiply, product_of};
 
-use super::factor::Factors;
+use super::multiplicands::Matrices;
 use super::pattern::{is_wide, spmm_csr_pattern};
 use super::rows::multiply_rows;
 use super::update::{Update, update_covered};
@@ -18,19 +18,19 @@ use std::alloc::{AllocError, Global};
 
 /// Returns the product `a * b`.
 ///
-/// The result stores every place of [`spmm_csr_pattern`], even where the sum is zero. `a.ncols()` must equal
-/// `b.nrows()`.
+/// The result has the pattern [`spmm_csr_pattern`], even where a sum is zero. `a.ncols()` must equal `b.nrows()`.
 ///
-/// Gustavson's algorithm (1978), row by row: the walk of
-/// [`spmm_csr_prealloc_unchecked`](crate::serial::spmm_csr_prealloc_unchecked) adds up a row in a scratch row, and
-/// notes its indices in a set of bits, from which they are read in order. It takes one multiplication for each triple
-/// (i, k, j) and one for each place of `a`, and for each row one step for each 262,144 columns. Scratch memory: a value
-/// and a bit for each column. If a row is longer than both factors have places, the pattern is made first and
-/// each triple added by a binary search, in scratch memory for the triples of a row. Fails only if an allocation fails.
+/// Gustavson's algorithm (1978): the terms of each row are added in a scratch row, as in
+/// [`spmm_csr_prealloc_unchecked`](crate::serial::spmm_csr_prealloc_unchecked), and its column indices are collected in
+/// a bit set, from which they are read in increasing order. It takes one multiplication for each triple (i, k, j) with
+/// (i, k) in `a` and (k, j) in `b`, one for each entry of `a`, and for each row one step for each 262,144 columns of
+/// `b`. Scratch memory: a value and a bit for each column of `b`. If `b` has more columns than `a` and `b` have entries
+/// together, the pattern is computed first and each triple is added by a binary search, in scratch memory for the
+/// triples of one row. Fails only if an allocation fails.
 ///
-/// The room for the result is guessed: an eighth more places than if each row had as many for a triple as some 64 rows
-/// that stand equally far apart, but at most one for each pair (i, j). It grows by doubling where it does not suffice
-/// or can't be had. What is over at the end is given back.
+/// The number of entries of the result is estimated: extrapolated from about 64 evenly spaced rows, plus an eighth, and
+/// at most one for each pair (i, j). The arrays of the result start empty if the memory for the estimate can't be had,
+/// and grow by doubling where the estimate is too small. Unused memory is released at the end.
 ///
 /// # Examples
 ///
@@ -57,11 +57,11 @@ pub fn mul_csr<T: Ring>(
 
 /// Returns the product `a * b`.
 ///
-/// The result stores every place of [`spmm_csc_pattern`](crate::serial::spmm_csc_pattern), even where the sum is zero.
+/// The result has the pattern [`spmm_csc_pattern`](crate::serial::spmm_csc_pattern), even where a sum is zero.
 /// `a.ncols()` must equal `b.nrows()`.
 ///
-/// It is the product by rows of the transposes, in reverse order. Time and memory are those of [`mul_csr`] with the
-/// factors exchanged: scratch memory for one column of `a`. Fails only if an allocation fails.
+/// Computes the product of the transposes by rows, in reverse order. Time and memory are those of [`mul_csr`] with the
+/// operands exchanged: scratch memory for one column of `a`. Fails only if an allocation fails.
 pub fn mul_csc<T: Ring>(
     alloc: Global,
     a: &CscMatrix<T>,
@@ -75,7 +75,7 @@ pub fn mul_csc<T: Ring>(
     Ok(CscMatrix::from_cs(multiply(alloc, b.cs(), a.cs())?))
 }
 
-// The product of two matrices whose lanes are rows.
+// Returns `a * b`, where the lanes of both matrices are rows.
 fn multiply<T: Ring>(
     alloc: Global,
     a: &CsMatrix<T>,
@@ -87,26 +87,30 @@ fn multiply<T: Ring>(
         (plain_of_rows T.ring T.value b.now)) }
 {
     if is_wide(a.pattern(), b.pattern()) {
-        multiply_wide(alloc, Factors { a, b })
+        multiply_wide(alloc, Matrices { a, b })
     } else {
-        multiply_rows(alloc, Factors { a, b })
+        multiply_rows(alloc, Matrices { a, b })
     }
 }
 
-// The product where no memory is asked for the length of a row: the pattern first, and then the values, from zeros.
-#[tactic(auto, using(crate::proofs::Refusals::refused))]
-fn multiply_wide<T: Ring>(alloc: Global, factors: Factors<'_, T>) -> Result<CsMatrix<T>, AllocError>
-    requires { CanMultiply factors }
+// Returns the product without scratch memory of the length of a row: computes the pattern, then adds the terms to
+// zeros.
+#[tactic(auto, using(sparse_algebra::proofs::EarlyReturns::early_return))]
+fn multiply_wide<T: Ring>(
+    alloc: Global,
+    matrices: Matrices<'_, T>,
+) -> Result<CsMatrix<T>, AllocError>
+    requires { CanMultiply matrices }
     ensures { IfOk result
-        (λ m. plain_of_rows T.ring T.value m ≡ product_of T.ring T.value factors.entry) }
+        (λ m. plain_of_rows T.ring T.value m ≡ product_of T.ring T.value matrices.entry) }
 {
-    let pattern = spmm_csr_pattern(alloc, factors.a.pattern(), factors.b.pattern())?;
+    let pattern = spmm_csr_pattern(alloc, matrices.a.pattern(), matrices.b.pattern())?;
     let mut values = Vec::new(alloc);
     values.resize(pattern.nnz(), T::zero())?;
     let update = Update {
         beta: T::zero(),
         alpha: T::one(),
-        factors,
+        matrices,
     };
     update_covered(alloc, update, &pattern, &mut values, &mut Steps::new())?;
     Ok(CsMatrix::from_pattern_and_values(pattern, values))

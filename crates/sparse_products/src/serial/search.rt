@@ -1,21 +1,21 @@
-//! A product that is added to the values of a pattern by binary search, without memory.
+//! Updates the values of a pattern by a product, by binary searches and without scratch memory.
 
 ghost use Rattle.std.specs.Prelude.{◌≡◌, ℕ, ◌+◌, ◌<◌, ◌↔◌, length, All, IsTrue};
-ghost use Rattle.sparse_pattern.specs.Raw.{IsPlace};
+ghost use Rattle.sparse_pattern.specs.Raw.{IsEntry};
 ghost use Rattle.sparse_compressed.specs.ChangedValues.{AreChanged};
 ghost use Rattle.sparse_products.specs.InnerProducts.{IsInLanes};
-ghost use Rattle.sparse_products.specs.InnerUpdates.{CanUpdate, HasProductPlaces, IsUpdated};
+ghost use Rattle.sparse_products.specs.InnerUpdates.{CanUpdate, ContainsProduct, IsUpdated};
 ghost use Rattle.sparse_products.specs.InnerUpdates.{steps_of};
 
+use super::accumulate::{Accumulators, add_product_row};
 use super::update::Update;
-use super::walk::{Slots, add_product_row};
-use sparse_algebra::learn;
+use sparse_algebra::recall;
 use sparse_algebra::scalar::Ring;
-use sparse_compressed::position_of;
+use sparse_compressed::offset_of;
 use sparse_coo_dense::steps::Steps;
 use sparse_pattern::pattern::SparsityPattern;
 
-// Whether the pattern has each place of the product of `a` and `b`.
+// Whether the pattern contains that of the product of `a` and `b`.
 pub(super) fn covers_product(
     pattern: &SparsityPattern,
     a: &SparsityPattern,
@@ -23,11 +23,11 @@ pub(super) fn covers_product(
 ) -> bool
     requires inner { a.now.minor_dim ≡ b.now.major_dim }
     requires lanes { a.now.major_dim ≡ pattern.now.major_dim }
-    ensures { IsTrue result ↔ HasProductPlaces pattern.now a.now b.now }
+    ensures { IsTrue result ↔ ContainsProduct pattern.now a.now b.now }
 {
-    learn(pattern.major_offsets());
-    learn(a.major_offsets());
-    learn(b.major_offsets());
+    recall(pattern.major_offsets());
+    recall(a.major_offsets());
+    recall(b.major_offsets());
     for i in 0..pattern.major_dim() {
         if !covers_lanes(pattern, i, a.lane(i), b) {
             return false;
@@ -36,11 +36,11 @@ pub(super) fn covers_product(
     true
 }
 
-// Whether lane i of the pattern has the indices of the lanes of `b` that `lanes` lists.
+// Whether lane i of the pattern contains lane k of `b` for each k in `lanes`.
 fn covers_lanes(pattern: &SparsityPattern, i: usize, lanes: &[usize], b: &SparsityPattern) -> bool
     requires lane { i < pattern.now.major_dim }
     requires shared { All (λ k. k < b.now.major_dim) lanes.now }
-    ensures { IsTrue result ↔ ((j : ℕ) → IsInLanes b.now lanes.now j → IsPlace pattern.now i j) }
+    ensures { IsTrue result ↔ ((j : ℕ) → IsInLanes b.now lanes.now j → IsEntry pattern.now i j) }
 {
     for k in lanes {
         if !covers_lane(pattern, i, b, *k) {
@@ -50,17 +50,17 @@ fn covers_lanes(pattern: &SparsityPattern, i: usize, lanes: &[usize], b: &Sparsi
     true
 }
 
-// Whether lane i of the pattern has the indices of lane k of `b`.
+// Whether lane i of the pattern contains lane k of `b`.
 fn covers_lane(pattern: &SparsityPattern, i: usize, b: &SparsityPattern, k: usize) -> bool
     requires lane { i < pattern.now.major_dim }
     requires shared { k < b.now.major_dim }
-    ensures { IsTrue result ↔ ((j : ℕ) → IsPlace b.now k j → IsPlace pattern.now i j) }
+    ensures { IsTrue result ↔ ((j : ℕ) → IsEntry b.now k j → IsEntry pattern.now i j) }
 {
-    learn(pattern.major_offsets());
-    learn(b.major_offsets());
+    recall(pattern.major_offsets());
+    recall(b.major_offsets());
     let indices = b.lane(k);
     for j in indices {
-        match position_of(pattern, i, *j) {
+        match offset_of(pattern, i, *j) {
             Some(_) => {}
             None => return false,
         }
@@ -68,69 +68,77 @@ fn covers_lane(pattern: &SparsityPattern, i: usize, b: &SparsityPattern, k: usiz
     true
 }
 
-// The positions of a lane of a pattern as slots of its columns.
+// The accumulators are the values of a lane of a pattern.
 #[derive(Drop)]
-struct LaneSlots<'a> {
+struct EntryAccumulators<'a> {
     pattern: &'a SparsityPattern,
     lane: usize,
 }
 
-// The slot of a column is the position of its place, and nothing is noted.
-impl<'a> Slots for LaneSlots<'a> {
+// The accumulator of a column is the value at the offset of its index in the lane. Nothing is noted.
+impl<'a> Accumulators for EntryAccumulators<'a> {
     ghost use Rattle.std.specs.Prelude.{⊤};
     ghost use Rattle.std.proofs.Common.{sym, ◌∙◌};
-    ghost use Rattle.sparse_pattern.proofs.Positions.{one_position};
-    ghost use Rattle.sparse_products.specs.InnerWalks.{IsSlotOf};
+    ghost use Rattle.sparse_pattern.proofs.OffsetsInLanes.{one_offset};
+    ghost use Rattle.sparse_products.specs.InnerAccumulators.{IsEntryOffset};
 
-    ghost slot = { λ s. IsSlotOf s.pattern.now s.lane };
+    ghost sum_at = { λ s. IsEntryOffset s.pattern.now s.lane };
 
     ghost noted = { λ _ _. ⊤ };
 
     #[inline(always)]
-    fn slot_of(&mut self, column: usize) -> usize {
-        match position_of(self.pattern, self.lane, column) {
+    fn accumulator_of(&mut self, column: usize) -> usize {
+        match offset_of(self.pattern, self.lane, column) {
             Some(at) => at,
             None => 0,
         }
     }
 
-    ghost one_slot = { λ s j p q here there. one_position s.pattern.now here.0 s.lane p q here.1.0
+    ghost one_sum = { λ s j p q here there. one_offset s.pattern.now here.0 s.lane p q here.1.0
         there.1.0 (here.1.1 ∙ sym there.1.1) };
 
     ghost one_column = { λ s i j p here there. sym here.1.1 ∙ there.1.1 };
 }
 
-// Updates the matrix of a pattern and its values, which has the places of the product.
+// Replaces the matrix `c` of a pattern and its values by `beta * c + alpha * a * b`. The pattern contains that of the
+// product.
 pub(super) fn search_rows<T: Ring>(
     update: Update<'_, T>,
     pattern: &SparsityPattern,
     values: &mut [T],
     steps: &mut Steps,
 )
-    requires sizes { CanUpdate update.factors pattern.now values.old }
-    requires places { HasProductPlaces pattern.now update.factors.a.now.pattern
-        update.factors.b.now.pattern }
+    requires sizes { CanUpdate update.matrices pattern.now values.old }
+    requires places { ContainsProduct pattern.now update.matrices.a.now.pattern
+        update.matrices.b.now.pattern }
     ensures updated { IsUpdated T.ring T.value update.entry pattern.now values.old values.new }
-    ensures counted { steps.new ≡ steps.old + steps_of update.entry.factors pattern.now }
+    ensures counted { steps.new ≡ steps.old + steps_of update.entry.matrices pattern.now }
 {
-    learn(pattern.major_offsets());
-    learn(update.factors.a.values());
-    learn(update.factors.b.values());
+    recall(pattern.major_offsets());
+    recall(update.matrices.a.values());
+    recall(update.matrices.b.values());
     scale_values(update.beta, values, steps);
     for i in 0..pattern.major_dim() {
-        let mut slots = LaneSlots { pattern, lane: i };
-        add_product_row(update.alpha, update.factors, i, &mut slots, values, steps);
+        let mut row_sums = EntryAccumulators { pattern, lane: i };
+        add_product_row(
+            update.alpha,
+            update.matrices,
+            i,
+            &mut row_sums,
+            values,
+            steps,
+        );
     }
 }
 
-// Multiplies each value by `factor`.
-fn scale_values<T: Ring>(factor: T, values: &mut [T], steps: &mut Steps)
-    ensures scaled { AreChanged T.value (T.ring.mul (T.value factor)) T.zero_value values.old
+// Multiplies each value by `scale`.
+fn scale_values<T: Ring>(scale: T, values: &mut [T], steps: &mut Steps)
+    ensures scaled { AreChanged T.value (T.ring.mul (T.value scale)) T.zero_value values.old
         values.new }
     ensures counted { steps.new ≡ steps.old + length values.old }
 {
     for value in values.iter_mut() {
         steps.tick();
-        *value = factor.mul(*value);
+        *value = scale.mul(*value);
     }
 }

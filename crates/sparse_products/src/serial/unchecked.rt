@@ -1,4 +1,4 @@
-//! A product into a given matrix that has each place.
+//! Products that are added to a given matrix whose pattern contains that of the product.
 
 ghost use Rattle.std.specs.Prelude.{◌≡◌, ◌+◌, ◌≤◌, IfErr, OnOk, OnErr};
 ghost use Rattle.sparse_algebra.specs.declared.error.OperationErrorKind.TheVariants.{OutOfMemory};
@@ -9,26 +9,26 @@ ghost use Rattle.sparse_compressed.specs.PlainOfLanes.{plain_of_rows, plain_of_c
 ghost use Rattle.sparse_products.specs.Products.{product_by_rows, product_by_cols};
 ghost use Rattle.sparse_products.specs.ScalarProducts.{IfNotTransposed, triples_of};
 
-use super::factor::{csc_operands, csr_operands};
+use super::multiplicands::{csc_operands, csr_operands};
 use super::update::{Update, update_covered};
 use sparse_algebra::error::OperationError;
-use sparse_algebra::learn;
 use sparse_algebra::operand::Op;
+use sparse_algebra::recall;
 use sparse_algebra::scalar::Ring;
 use sparse_coo_dense::steps::Steps;
 use sparse_csr_csc::csc::CscMatrix;
 use sparse_csr_csc::csr::CsrMatrix;
 use std::alloc::Global;
 
-/// Replaces `c` by `beta * c + alpha * op(a) * op(b)`, where `c` has each place of the product's pattern.
+/// Replaces `c` by `beta * c + alpha * op(a) * op(b)`, where the pattern of `c` contains that of the product.
 ///
-/// The inner dimensions of `op(a)` and `op(b)` must be equal, and `c` must have the shape of their product. Refuses
-/// with `OutOfMemory` only if an allocation fails; `c` is then unchanged.
+/// The inner dimensions of `op(a)` and `op(b)` must be equal, and `c` must have the shape of their product. Returns
+/// `OutOfMemory` only if an allocation fails; `c` is then unchanged.
 ///
 /// Gustavson's algorithm (1978): one multiplication for each triple (i, k, j) with (i, k) in `op(a)` and (k, j) in
-/// `op(b)`, and one for each place of `op(a)` and of `c`. Scratch memory for one row of `c`; none if it is longer than
-/// `c` and `op(b)` have places, where each triple is added by a binary search. A transposed operand is transposed
-/// first.
+/// `op(b)`, and one for each entry of `op(a)` and of `c`. Scratch memory for one row of `c`; none if the row is longer
+/// than the number of entries of `c` and `op(b)` together: then each triple is added by a binary search. If an operand
+/// is transposed, its transpose is computed first.
 pub fn spmm_csr_prealloc_unchecked<T: Ring>(
     alloc: Global,
     beta: T,
@@ -56,9 +56,9 @@ pub fn spmm_csr_prealloc_unchecked<T: Ring>(
 
 /// Does what [`spmm_csr_prealloc_unchecked`] does, and counts its steps: one for each multiplication of scalars.
 ///
-/// If neither operand is transposed, the count grows by at most the number of places of `a` and of `c` and of triples
-/// (i, k, j) with (i, k) in `a` and (k, j) in `b`, also where the call refuses, and at `Ok` by at least the number of
-/// triples.
+/// If neither operand is transposed, the count grows by at most the number of entries of `a` and of `c` and of triples
+/// (i, k, j) with (i, k) in `a` and (k, j) in `b`, even if the call returns an error, and at `Ok` by at least the
+/// number of triples.
 ///
 /// # Examples
 ///
@@ -81,7 +81,7 @@ pub fn spmm_csr_prealloc_unchecked<T: Ring>(
 ///     Ok(square == matrix)
 /// }
 /// ```
-#[tactic(auto, using(crate::proofs::Refusals::refused))]
+#[tactic(auto, using(sparse_algebra::proofs::EarlyReturns::early_return))]
 pub fn spmm_csr_prealloc_unchecked_counted<T: Ring>(
     alloc: Global,
     beta: T,
@@ -111,27 +111,27 @@ pub fn spmm_csr_prealloc_unchecked_counted<T: Ring>(
         steps.old + triples_of m.now.pattern n.now.pattern ≤ steps.new)) }
 {
     let operands = csr_operands(alloc, a, b)?;
-    learn(c.values());
+    recall(c.values());
     let (pattern, values) = c.pattern_and_values_mut();
     let update = Update {
         beta,
         alpha,
-        factors: operands.factors(),
+        matrices: operands.matrices(),
     };
     update_covered(alloc, update, pattern, values, steps)?;
     Ok(())
 }
 
-/// Replaces `c` by `beta * c + alpha * op(a) * op(b)`, where `c` has each place of the product's pattern.
+/// Replaces `c` by `beta * c + alpha * op(a) * op(b)`, where the pattern of `c` contains that of the product.
 ///
-/// The inner dimensions of `op(a)` and `op(b)` must be equal, and `c` must have the shape of their product. Refuses
-/// with `OutOfMemory` only if an allocation fails; `c` is then unchanged.
+/// The inner dimensions of `op(a)` and `op(b)` must be equal, and `c` must have the shape of their product. Returns
+/// `OutOfMemory` only if an allocation fails; `c` is then unchanged.
 ///
 /// Gustavson's algorithm (1978): one multiplication for each triple (i, k, j) with (i, k) in `op(a)` and (k, j) in
-/// `op(b)`, and one for each place of `op(a)` and of `c`. Scratch memory for one column of `c`; none if it is longer
-/// than `c` and `op(a)` have places, where each triple is added by a binary search. A transposed operand is transposed
-/// first.
-#[tactic(auto, using(crate::proofs::Refusals::refused))]
+/// `op(b)`, and one for each entry of `op(a)` and of `c`. Scratch memory for one column of `c`; none if the column is
+/// longer than the number of entries of `c` and `op(a)` together: then each triple is added by a binary search. If an
+/// operand is transposed, its transpose is computed first.
+#[tactic(auto, using(sparse_algebra::proofs::EarlyReturns::early_return))]
 pub fn spmm_csc_prealloc_unchecked<T: Ring>(
     alloc: Global,
     beta: T,
@@ -155,12 +155,12 @@ pub fn spmm_csc_prealloc_unchecked<T: Ring>(
         (product_by_cols T.ring T.value a.entry b.entry)) }
 {
     let operands = csc_operands(alloc, a, b)?;
-    learn(c.values());
+    recall(c.values());
     let (pattern, values) = c.pattern_and_values_mut();
     let update = Update {
         beta,
         alpha,
-        factors: operands.factors(),
+        matrices: operands.matrices(),
     };
     update_covered(alloc, update, pattern, values, &mut Steps::new())?;
     Ok(())

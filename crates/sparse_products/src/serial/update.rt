@@ -1,51 +1,52 @@
-//! A product that is added to the values of a given pattern.
+//! Updates of the values of a given pattern by a product.
 
 ghost use Rattle.std.specs.Prelude.{◌≡◌, ◌+◌, ◌≤◌, ◌↔◌, IsOk, IfErr, OnErr, OnOk};
 ghost use Rattle.sparse_algebra.specs.declared.error.OperationErrorKind.TheVariants.{InvalidPattern};
 ghost use Rattle.sparse_algebra.specs.Prealloc.{IsCovered};
 ghost use Rattle.sparse_compressed.specs.Compressed.{compressed_of};
 ghost use Rattle.sparse_compressed.specs.PlainOfLanes.{plain_of_rows};
-ghost use Rattle.sparse_products.specs.InnerFactors.{product_of};
+ghost use Rattle.sparse_products.specs.InnerOperands.{product_of};
 ghost use Rattle.sparse_products.specs.InnerUpdates.{CanUpdate, IsUpdated, steps_of};
 ghost use Rattle.sparse_products.specs.ScalarProducts.{triples_of};
 
-use super::factor::Factors;
+use super::multiplicands::Matrices;
 use super::scatter::scatter_rows;
 use super::search::{covers_product, search_rows};
 use sparse_algebra::error::OperationError;
-use sparse_algebra::learn;
+use sparse_algebra::recall;
 use sparse_algebra::scalar::Ring;
 use sparse_coo_dense::steps::Steps;
 use sparse_pattern::pattern::SparsityPattern;
 use std::alloc::{AllocError, Global};
 
-// The update `beta * c + alpha * a * b` of a matrix `c`, on the places of `c`.
+// The update of a matrix `c` to `beta * c + alpha * a * b`, on the pattern of `c`.
 #[derive(Clone, Copy)]
 pub(super) struct Update<'a, T> {
     pub(super) beta: T,
     pub(super) alpha: T,
-    pub(super) factors: Factors<'a, T>,
+    pub(super) matrices: Matrices<'a, T>,
 }
 
-// Updates the matrix of a pattern and its values, or refuses before any value is written.
+// Updates the matrix of a pattern and its values. Returns an error, before a value is written, if the pattern does not
+// contain that of the product.
 pub(super) fn update_checked<T: Ring>(
     update: Update<'_, T>,
     pattern: &SparsityPattern,
     values: &mut [T],
 ) -> Result<(), OperationError>
-    requires { CanUpdate update.factors pattern.now values.old }
-    ensures covered { IsOk result ↔ IsCovered (product_of T.ring T.value update.entry.factors)
+    requires { CanUpdate update.matrices pattern.now values.old }
+    ensures covered { IsOk result ↔ IsCovered (product_of T.ring T.value update.entry.matrices)
         (plain_of_rows T.ring T.value (compressed_of pattern.now values.old)) }
     ensures kind { IfErr result (λ e. e ≡ InvalidPattern) }
     ensures unchanged { OnErr result (values.new ≡ values.old) }
     ensures updated { OnOk result
         (IsUpdated T.ring T.value update.entry pattern.now values.old values.new) }
 {
-    learn(pattern.major_offsets());
+    recall(pattern.major_offsets());
     if !covers_product(
         pattern,
-        update.factors.a.pattern(),
-        update.factors.b.pattern(),
+        update.matrices.a.pattern(),
+        update.matrices.b.pattern(),
     ) {
         return Err(OperationError::of_product_pattern());
     }
@@ -53,9 +54,9 @@ pub(super) fn update_checked<T: Ring>(
     Ok(())
 }
 
-// Updates the matrix of a pattern and its values, which has the places of the product.
+// Updates the matrix of a pattern and its values. The pattern contains that of the product.
 //
-// Memory for a scratch row is taken only if the row is no longer than `b` and the pattern have places.
+// A scratch row is allocated only if it is not longer than the number of entries of `b` and of the pattern together.
 pub(super) fn update_covered<T: Ring>(
     alloc: Global,
     update: Update<'_, T>,
@@ -63,22 +64,22 @@ pub(super) fn update_covered<T: Ring>(
     values: &mut [T],
     steps: &mut Steps,
 ) -> Result<(), AllocError>
-    requires sizes { CanUpdate update.factors pattern.now values.old }
-    requires width { update.factors.b.now.pattern.minor_dim ≡ pattern.now.minor_dim }
-    requires covered { IsCovered (product_of T.ring T.value update.factors)
+    requires sizes { CanUpdate update.matrices pattern.now values.old }
+    requires width { update.matrices.b.now.pattern.minor_dim ≡ pattern.now.minor_dim }
+    requires covered { IsCovered (product_of T.ring T.value update.matrices)
         (plain_of_rows T.ring T.value (compressed_of pattern.now values.old)) }
     ensures unchanged { OnErr result (values.new ≡ values.old) }
     ensures updated { OnOk result
         (IsUpdated T.ring T.value update.entry pattern.now values.old values.new) }
-    ensures no_more { steps.new ≤ steps.old + steps_of update.entry.factors pattern.now }
+    ensures no_more { steps.new ≤ steps.old + steps_of update.entry.matrices pattern.now }
     ensures all_multiplied { OnOk result (steps.old + triples_of
-        update.entry.factors.a.now.pattern update.entry.factors.b.now.pattern ≤ steps.new) }
+        update.entry.matrices.a.now.pattern update.entry.matrices.b.now.pattern ≤ steps.new) }
 {
-    learn(pattern.major_offsets());
-    learn(update.factors.a.values());
+    recall(pattern.major_offsets());
+    recall(update.matrices.a.values());
     if pattern
         .nnz()
-        .saturating_add(update.factors.b.pattern().nnz())
+        .saturating_add(update.matrices.b.pattern().nnz())
         < pattern.minor_dim()
     {
         search_rows(update, pattern, values, steps);

@@ -1,6 +1,6 @@
 //! The library beside the slow program that solves the equations column by column.
 
-use slow_programs::ldl::{DenseFactors, factors_by_columns};
+use reference_models::ldl::{DenseFactors, factors_by_columns};
 use sparse_algebra::error::{OperationError, OperationErrorKind};
 use sparse_algebra::scalar::Units;
 use sparse_convert::serial::{convert_csc_dense, convert_dense_csc};

@@ -6,8 +6,8 @@ use sparse_algebra::scalar::{Mod, W64};
 use sparse_convert::serial::convert_dense_csc;
 use sparse_coo_dense::dense::DMatrix;
 use sparse_csr_csc::csc::CscMatrix;
+use sparse_dense_ops::mul_csc_dense;
 use sparse_factor::ldl::Ldl;
-use sparse_with_dense::mul_csc_dense;
 use std::alloc::{AllocError, Global};
 
 // Whether both programs agree on matrices of each size, whose entries below the diagonal are mostly not those above.

@@ -7,7 +7,7 @@ pub type FillCase = (
     Result<&'static str, &'static str>,
 );
 
-// A place on each side of the diagonal.
+// An entry on each side of the diagonal.
 const TWO_SIDES: &str = "%%MatrixMarket matrix coordinate pattern general\n3 3 2\n2 1\n1 3\n";
 
 // One row and as many columns as can be, and the transpose.
@@ -22,19 +22,19 @@ pub const FILL_CASES: &[FillCase] = &[
         "%%MatrixMarket matrix coordinate pattern symmetric\n3 3 2\n3 1\n3 2\n",
         Ok("3 3 3\n3 1 \n3 2 \n3 3 \n"),
     ),
-    // A repeated place counts once.
+    // A repeated entry counts once.
     (
         &["fill"],
         "%%MatrixMarket matrix coordinate pattern general\n1 1 2\n1 1\n1 1\n",
         Ok("1 1 1\n1 1 \n"),
     ),
-    // Places in no order, one of them repeated.
+    // Entries in no order, one of them repeated.
     (
         &["fill"],
         "%%MatrixMarket matrix coordinate pattern general\n3 3 4\n3 3\n1 3\n1 1\n1 3\n",
         Ok("3 3 3\n1 1 \n3 1 \n3 3 \n"),
     ),
-    // Places below the diagonal alone.
+    // Entries below the diagonal alone.
     (
         &["fill"],
         "%%MatrixMarket matrix coordinate pattern general\n2 2 1\n2 1\n",

@@ -7,7 +7,7 @@ pub type Case = (&'static [&'static str], &'static str, &'static str);
 pub const SYMMETRIC: &str =
     "%%MatrixMarket matrix coordinate integer symmetric\n3 3 4\n1 1 2\n2 1 -1\n2 2 0\n3 2 5\n";
 
-/// Two places in the first row, one of them named twice.
+/// Two entries in the first row, one of them named twice.
 pub const PATTERN: &str =
     "%%MatrixMarket matrix coordinate pattern general\n2 3 3\n1 1\n1 3\n1 1\n";
 
@@ -18,7 +18,7 @@ pub const WIDE: &str = "%%MatrixMarket matrix coordinate integer symmetric
 2 1 170141183460469231731687303715884105727
 ";
 
-/// Ten places in one row.
+/// Ten entries in one row.
 pub const LONG_ROW: &str = "%%MatrixMarket matrix coordinate pattern general
 1 10 10
 1 1
@@ -43,7 +43,7 @@ pub const CASES: &[Case] = &[
     // The other side is scaled alike, to one cell at least.
     (&["spy", "--size", "4", "-"], LONG_ROW, "P1\n4 1\n1111\n"),
     (&["spy", "-"], PATTERN, "P1\n3 2\n101\n000\n"),
-    // Rows and columns 1 and 2 lie in the first of two cells, and no place lies at (3, 3).
+    // Rows and columns 1 and 2 lie in the first of two cells, and no entry lies at (3, 3).
     (&["spy", "--size", "2", "-"], SYMMETRIC, "P1\n2 2\n11\n10\n"),
     (&["spy", "-", "--text"], SYMMETRIC, "██▄\n ▀ \n"),
     (

@@ -1,6 +1,6 @@
 //! The texts of failures.
 
-use mtxkit_texts::{Failure, LineFault, Spot};
+use mtxkit_texts::{Failure, LineFault, Location};
 use sparse_parser::error::MatrixMarketErrorKind;
 use std::alloc::Global;
 use std::io;
@@ -10,7 +10,7 @@ const TEXTS: &[(Failure, &str)] = &[
         Failure::Input(
             2,
             MatrixMarketErrorKind::EntryMismatch,
-            Spot {
+            Location {
                 line: 3,
                 fault: LineFault::Count(4, 5),
             },
@@ -18,7 +18,7 @@ const TEXTS: &[(Failure, &str)] = &[
         "4 entries expected, 5 found",
     ),
     (
-        Failure::NotCarried(1),
+        Failure::NotSupported(1),
         "real and complex values are not carried, nor is their pattern",
     ),
     (

@@ -47,7 +47,7 @@ const LEAST: &[u8] = b"%%MatrixMarket matrix coordinate integer general
 1 1 -85070591730234615865843651857942052864
 ";
 
-// An integer of 65 bits at a place that is named twice.
+// An integer of 65 bits at an entry that is named twice.
 const REPEATED: &[u8] = b"%%MatrixMarket matrix coordinate integer general
 1 1 2
 1 1 9223372036854775808

@@ -1,7 +1,7 @@
 //! Values of expressions beside those of the slow evaluator.
 
 use crate::matrices::list;
-use slow_programs::expressions::expression_value;
+use reference_models::expressions::expression_value;
 use sparse_algebra::scalar::W64;
 use sparse_coo_dense::coo::CooMatrix;
 use sparse_csr_csc::csr::CsrMatrix;
@@ -12,7 +12,7 @@ use std::test::Fail;
 // The number of rows, that of columns, and triplets.
 type List = (usize, usize, &'static [(usize, usize, i64)]);
 
-// Some places occur twice, one of them with the sum zero.
+// Some entries occur twice, one of them with the sum zero.
 const SMALL: &[List] = &[
     (2, 2, &[(1, 0, 3), (0, 1, -2), (1, 0, -3), (1, 1, 5)]),
     (2, 3, &[(1, 2, 7), (0, 0, 2), (0, 2, -1)]),

@@ -1,18 +1,18 @@
 use Rattle.std.proofs.Common.{◌≡◌, ℕ, ◌↔◌, List, Result, Ok, Err, IfOk, ap, map-id, subst}
 use Rattle.nalgebra_sparse.specs.Coo.{Coo, coo_of}
 use Rattle.nalgebra_sparse.specs.Meaning.{Means, values_of}
-use Rattle.nalgebra_sparse.specs.Raw.{Raw, IsPlace}
+use Rattle.nalgebra_sparse.specs.Raw.{Raw, IsEntry}
 use Rattle.nalgebra_sparse.specs.ScalarTypes.{pattern_scalar}
 use Rattle.mtx_commands.specs.Fills.{IsRead}
-use Rattle.mtx_commands.specs.Places.{HasTriplet}
+use Rattle.mtx_commands.specs.TripletPatterns.{HasTriplet}
 use Rattle.mtx_commands.proofs.fill.read_pattern.Goals as goal
 
 -- a pattern with the shape and the places of the list that a text means
-read_is : {E : Type 0} (m : Coo (Unit {0})) (text : List ℕ)
+IsRead-from_list : {E : Type 0} (m : Coo (Unit {0})) (text : List ℕ)
     → Means pattern_scalar text (Ok (values_of (λ x. x) m)) → (r : Result Raw E)
     → IfOk r (λ p. p.major_dim ≡ m.ncols) → IfOk r (λ p. p.minor_dim ≡ m.nrows)
-    → IfOk r (λ p. (i j : ℕ) → IsPlace p j i ↔ HasTriplet m i j) → IfOk r IsRead
-read_is m text meant (Ok p) columns rows places = record {
+    → IfOk r (λ p. (i j : ℕ) → IsEntry p j i ↔ HasTriplet m i j) → IfOk r IsRead
+IsRead-from_list m text meant (Ok p) columns rows places = record {
   text = text;
   list = m;
   meant = subst (λ (l : Coo (Unit {0})). Means pattern_scalar text (Ok l))
@@ -21,11 +21,11 @@ read_is m text meant (Ok p) columns rows places = record {
   columns = columns;
   places = places;
 }
-read_is m text meant (Err e) columns rows places = tt
+IsRead-from_list m text meant (Err e) columns rows places = tt
 
 pub returns-clause-read : goal.returns-clause-read
 returns-clause-read g c =
     let read = c.in_ok-places.ensures.read in
     let made = c.square_pattern_of.ensures in
-    read_is c.in_ok-places.places read.0 read.1 c.square_pattern_of.result made.columns made.rows
+    IsRead-from_list c.in_ok-places.places read.0 read.1 c.square_pattern_of.result made.columns made.rows
     made.places

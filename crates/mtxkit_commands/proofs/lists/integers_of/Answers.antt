@@ -4,7 +4,7 @@ use Rattle.sparse_coo_dense.specs.Coo.{Coo}
 use Rattle.sparse_coo_dense.specs.CooPlain.{plain_of_coo}
 use Rattle.sparse_algebra.specs.Integers.{element_of}
 use Rattle.mtxkit_texts.proofs.Revalued.{length-revalued, plain-revalued}
-use Rattle.mtxkit_matrices.specs.Orders.{places_of}
+use Rattle.mtxkit_matrices.specs.Orders.{coordinates_of}
 use Rattle.mtxkit_commands.proofs.Listed.{integers-nonzero, places-zipped}
 use Rattle.mtxkit_commands.proofs.lists.integers_of.Goals as goal
 
@@ -38,7 +38,7 @@ returns-clause-places g c =
     let long = length-revalued c.args.list.now c.in_ok-integers.integers.items R (element_of R) value
     (c.in_ok-integers.ensures.meant ∙ ap (map value) c.values.ensures) in
     IfOk-weaker c.with_values.result _ _
-    (λ m is. ap (λ (l : Coo ℤ). places_of l.triplets) is
+    (λ m is. ap (λ (l : Coo ℤ). coordinates_of l.triplets) is
     ∙ places-zipped c.args.list.now.triplets c.in_ok-integers.integers.items long)
     c.with_values.ensures.list
 

@@ -5,7 +5,7 @@ use Rattle.sparse_coo_dense.specs.CooPlain.{plain_of_coo}
 use Rattle.sparse_coo_dense.specs.Dense.{value_at}
 use Rattle.sparse_coo_dense.specs.DensePlain.{plain_of_dense}
 use Rattle.sparse_convert.specs.FromDense.{IsNonzeroPart, column_triplets, differs_from}
-use Rattle.mtxkit_matrices.specs.Orders.{IsByColumns, places_of}
+use Rattle.mtxkit_matrices.specs.Orders.{IsByColumns, coordinates_of}
 use Rattle.mtxkit_matrices.proofs.ColumnOrders.{kept-by_columns, columns-by_columns, kept-differ}
 use Rattle.mtxkit_matrices.proofs.systems.listed.Goals as goal
 
@@ -27,7 +27,7 @@ returns-clause-order g c =
     let E = g.T.PartialEq.eq in
     let z = g.T.Zero.zero_value in
     IfOk-weaker c.convert_dense_coo.result _ _
-    (λ m is. subst (λ (l : Coo g.row.T.Denot). IsByColumns (places_of l.triplets)) (sym is)
+    (λ m is. subst (λ (l : Coo g.row.T.Denot). IsByColumns (coordinates_of l.triplets)) (sym is)
     (kept-by_columns (differs_from E z) (column_triplets z x)
     (columns-by_columns (λ i j. value_at x i j z) x.nrows x.ncols)))
     c.convert_dense_coo.ensures

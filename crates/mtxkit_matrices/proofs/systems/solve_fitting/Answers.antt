@@ -5,7 +5,7 @@ use Rattle.sparse_coo_dense.specs.DensePlain.{plain_of_dense}
 use Rattle.sparse_compressed.specs.PlainOfLanes.{plain_of_cols}
 use Rattle.sparse_factor.specs.Factorisations.{IsFactorisation, plain_symmetric}
 use Rattle.sparse_factor.specs.Factors.{plain_of_factors}
-use Rattle.sparse_with_dense.specs.Solutions.{HasSameValues}
+use Rattle.sparse_dense_ops.specs.Solutions.{HasSameValues}
 use Rattle.mtxkit_matrices.proofs.SymmetricSystems.{solved_is, no_factors}
 use Rattle.mtxkit_matrices.proofs.systems.solve_fitting.Goals as goal
 

@@ -1,5 +1,5 @@
 use Rattle.std.specs.Prelude.{string_bytes}
-use Rattle.mtxkit_texts.proofs.PlaceLines.{IsBegun}
+use Rattle.mtxkit_texts.proofs.EntryLines.{IsBegun}
 use Rattle.mtxkit_texts.proofs.pattern_texts.write_pattern.Given as goal
 
 abbrev pub invariant-loop-row : goal.invariant-loop-row

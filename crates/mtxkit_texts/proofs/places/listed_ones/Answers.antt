@@ -5,7 +5,7 @@ use Rattle.std.specs.List.{list_any}
 use Rattle.sparse_algebra.specs.Plain.{is_at}
 use Rattle.sparse_algebra.specs.declared.scalar.wrapping.W64.{W64}
 use Rattle.sparse_coo_dense.specs.Coo.{Coo}
-use Rattle.mtxkit_texts.proofs.ListedPlaces.{same_places}
+use Rattle.mtxkit_texts.proofs.ListedEntries.{same_places}
 use Rattle.mtxkit_texts.proofs.places.listed_ones.Goals as goal
 
 pub with_values-requires : goal.with_values-requires

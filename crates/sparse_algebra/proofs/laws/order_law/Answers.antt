@@ -1,5 +1,5 @@
-use Rattle.sparse_algebra.proofs.PlainLemmas.{order_free}
+use Rattle.sparse_algebra.proofs.PlainLemmas.{plain_of_triplets-permuted}
 use Rattle.sparse_algebra.proofs.laws.order_law.Goals as goal
 
 pub returns : goal.returns
-returns g c = order_free g.T.Ring.ring g.T.Ring.value
+returns g c = plain_of_triplets-permuted g.T.Ring.ring g.T.Ring.value

@@ -2,10 +2,10 @@ use Rattle.std.proofs.Common.{◌<◌, inr, ap, subst, ◌∙◌}
 use Rattle.std.proofs.lemmas.Result.{err_from_is_err_and}
 use Rattle.sparse_algebra.specs.Plain.{Plain}
 use Rattle.sparse_coo_dense.specs.DensePlain.{plain_of_dense}
-use Rattle.sparse_with_dense.specs.Solutions.{plain_lower, IsSingular, IsSolution}
+use Rattle.sparse_dense_ops.specs.Solutions.{plain_lower, IsSingular, IsSolution}
 use Rattle.sparse_c.specs.Solved.{transposed_if}
-use Rattle.sparse_c_arrays.specs.Arrays.{plain_by_values}
-use Rattle.sparse_c_arrays.specs.Statuses.{refusal_of_operation}
+use Rattle.c_arrays.specs.Arrays.{plain_by_values}
+use Rattle.c_arrays.specs.Statuses.{refusal_of_operation}
 use Rattle.sparse_c.proofs.systems.lower_solution.Goals as goal
 
 pub returns-clause-solved : goal.returns-clause-solved

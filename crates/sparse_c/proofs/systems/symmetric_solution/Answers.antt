@@ -5,11 +5,11 @@ use Rattle.sparse_coo_dense.specs.DensePlain.{plain_of_dense}
 use Rattle.sparse_compressed.specs.PlainOfLanes.{plain_of_cols}
 use Rattle.sparse_factor.specs.Factorisations.{plain_symmetric, IsFactorisation}
 use Rattle.sparse_factor.specs.Factors.{plain_of_factors}
-use Rattle.sparse_with_dense.specs.Solutions.{HasSameValues}
+use Rattle.sparse_dense_ops.specs.Solutions.{HasSameValues}
 use Rattle.sparse_c.specs.Symmetric.{symmetric_by_cols}
 use Rattle.sparse_c.proofs.Solving.{solved_as}
-use Rattle.sparse_c_arrays.specs.Arrays.{plain_by_values}
-use Rattle.sparse_c_arrays.specs.Statuses.{refusal_of_operation}
+use Rattle.c_arrays.specs.Arrays.{plain_by_values}
+use Rattle.c_arrays.specs.Statuses.{refusal_of_operation}
 use Rattle.sparse_c.proofs.systems.symmetric_solution.Goals as goal
 
 pub returns-clause-solved : goal.returns-clause-solved

@@ -2,8 +2,8 @@ use Rattle.std.proofs.Common.{rules, ◌-◌, ap, ◌∙◌, refl}
 use Rattle.std.proofs.lemmas.List.{places}
 use Rattle.sparse_compressed.specs.Compressed.{compressed_of}
 use Rattle.sparse_compressed.specs.Lanes.{lanes_of}
-use Rattle.sparse_compressed.specs.Left.{lanes_with}
-use Rattle.sparse_compressed.proofs.LanesLeft.{lanes_with_all}
+use Rattle.sparse_compressed.specs.MutIterators.{lanes_with}
+use Rattle.sparse_compressed.proofs.MutIteratorLanes.{lanes_with_all}
 use Rattle.sparse_compressed.proofs.CsMatrix.lane_iter_mut.Goals as goal
 
 pub invariant_of-self-lent : goal.invariant_of-self-lent

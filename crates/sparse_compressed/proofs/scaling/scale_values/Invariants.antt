@@ -7,6 +7,6 @@ invariant-loop-value g l =
     let z = g.T.Zero.zero_value in
     record {
       passed : (k : ℕ) → k < l.value-index → f (get_or l.values k z) ≡ g.T.Ring.ring.mul
-          (f l.factor) (f (get_or l.initial.values k z));
+          (f l.coefficient) (f (get_or l.initial.values k z));
       left : (k : ℕ) → l.value-index ≤ k → get_or l.values k z ≡ get_or l.initial.values k z;
     }

@@ -3,12 +3,12 @@ use Rattle.std.proofs.Common.{vec_len, ap, ◌∙◌, arith}
 use Rattle.sparse_coo_dense.specs.Coo.{zip_triplets}
 use Rattle.sparse_compressed.specs.Compressed.{compressed_of}
 use Rattle.sparse_convert.proofs.InOrder.{all_read, nothing_read}
-use Rattle.sparse_convert.proofs.MergedLanes.{triplets_stand, triplets_valid}
+use Rattle.sparse_convert.proofs.MergedLanes.{triplets_represented, triplets_valid}
 use Rattle.sparse_convert.proofs.Triplets.{next_triplet}
 use Rattle.sparse_convert.proofs.in_order.compress_in_order.Goals as goal
 
-pub loop-position-init : goal.loop-position-init
-loop-position-init g c =
+pub loop-offset-init : goal.loop-offset-init
+loop-offset-init g c =
     let starts_is : c.push_reserved.new.self.items ≡ 0 ∷ [] = c.push_reserved.ensures.items
     ∙ ap (λ l. l ++ 0 ∷ []) c.in_ok-offsets.ensures.items in
     let lane : vec_len c.push_reserved.new.self - 1 ≡ 0 = omega (arith, ap length starts_is) in
@@ -31,21 +31,21 @@ loop-position-init g c =
       value_room = c.in_ok-sums.ensures.exact;
     }
 
-pub loop-position-preserved : goal.loop-position-preserved
-loop-position-preserved g c =
-    let p = c.loop-position.position in
-    let inv = c.loop-position.invariant in
+pub loop-offset-preserved : goal.loop-offset-preserved
+loop-offset-preserved g c =
+    let p = c.loop-offset.offset in
+    let inv = c.loop-offset.invariant in
     let next = c.if-not-push_triplet.ensures in
     let ts = zip_triplets c.args.majors.now c.args.minors.now c.args.values.now in
     let major = slice_index c.args.majors.now p in
-    let lt : p < length c.args.majors.now = c.loop-position-test.true in
+    let lt : p < length c.args.majors.now = c.loop-offset-test.true in
     let below : major < c.args.major_dim = c.requires.lists.below p 0 lt in
     let lane : vec_len c.push_triplet.new.offsets - 1 ≡ major = omega (arith, next.lanes) in
     record {
       held = rw (
         lane,
-        next_triplet c.requires.lists p c.index-values-position.result lt
-            c.index-values-position.is,
+        next_triplet c.requires.lists p c.index-values-offset.result lt
+            c.index-values-offset.is,
       ) (next.held (take p ts) inv.held);
       within = omega (arith, next.lanes, below);
       most = omega (arith, next.grown, inv.most);
@@ -57,19 +57,19 @@ loop-position-preserved g c =
 pub from_offset_and_indices_unchecked-pattern-requires :
     goal.from_offset_and_indices_unchecked-pattern-requires
 from_offset_and_indices_unchecked-pattern-requires g c =
-    let inv = c.loop-position.invariant in
-    let end : c.len.result ≡ length c.loop-position.indices.items = omega arith in
+    let inv = c.loop-offset.invariant in
+    let end : c.len.result ≡ length c.loop-offset.indices.items = omega arith in
     let merged = rw (← end, ← c.end_lanes.ensures.ended) at (all_read c.requires.lists
-    c.loop-position.position (omega arith) (omega (arith, inv.within)) inv.held) in
+    c.loop-offset.offset (omega arith) (omega (arith, inv.within)) inv.held) in
     triplets_valid c.requires.lists c.requires.minors_below merged
 
 pub returns : goal.returns
 returns g c =
-    let inv = c.loop-position.invariant in
-    let end : c.len.result ≡ length c.loop-position.indices.items = omega arith in
+    let inv = c.loop-offset.invariant in
+    let end : c.len.result ≡ length c.loop-offset.indices.items = omega arith in
     let merged = rw (← end, ← c.end_lanes.ensures.ended) at (all_read c.requires.lists
-    c.loop-position.position (omega arith) (omega (arith, inv.within)) inv.held) in
-    let made = c.from_pattern_and_values.ensures in
-    triplets_stand c.requires.lists c.requires.minors_below merged made.sound
-    (made.is ∙ ap (λ d. compressed_of d c.loop-position.sums.items)
+    c.loop-offset.offset (omega arith) (omega (arith, inv.within)) inv.held) in
+    let built = c.from_pattern_and_values.ensures in
+    triplets_represented c.requires.lists c.requires.minors_below merged built.sound
+    (built.is ∙ ap (λ d. compressed_of d c.loop-offset.sums.items)
     c.from_offset_and_indices_unchecked-pattern.ensures)

@@ -13,7 +13,7 @@ loop-index-preserved g c =
     let e = c.loop-index-item.result in
     let inv = c.loop-index.invariant in
     let put = c.push_entry.ensures in
-    let taken = put.taken (λ some. merged_below lane k inv.merged c.requires.sorted
+    let accepted = put.accepted (λ some. merged_below lane k inv.merged c.requires.sorted
     e c.loop-index-test.true c.loop-index-item.is (vec_len c.loop-index.indices - 1)
     (omega arith) (omega arith)) in
     let js = c.push_entry.new.indices.items in
@@ -23,7 +23,7 @@ loop-index-preserved g c =
     record {
       merged = subst (λ l. AreMerged g.T.Ring.ring g.T.Ring.value g.T.Zero.zero_value l js
           c.push_entry.new.values.items c.len-start.result (length js)) more
-          (OnTrue_at taken put.merged (take k lane) inv.merged);
+          (OnTrue_at accepted put.merged (take k lane) inv.merged);
       from = omega (arith, put.longer, inv.from);
       to = omega (arith, put.grown, inv.to);
       sizes = put.sizes;

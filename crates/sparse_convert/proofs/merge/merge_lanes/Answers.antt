@@ -3,7 +3,7 @@ use Rattle.std.proofs.lemmas.List.Edits.{length-between}
 use Rattle.sparse_compressed.specs.Compressed.{compressed_of}
 use Rattle.sparse_convert.proofs.Offsets.{no_lane, offsets_within}
 use Rattle.sparse_convert.proofs.MergedLanes.{no_lanes_merged, lanes_merged_more}
-use Rattle.sparse_convert.proofs.MergedLanes.{merged_valid, merged_stand}
+use Rattle.sparse_convert.proofs.MergedLanes.{merged_valid, merged_represents}
 use Rattle.sparse_convert.proofs.merge.merge_lanes.Goals as goal
 
 pub loop-lane-init : goal.loop-lane-init
@@ -47,7 +47,7 @@ loop-lane-preserved g c =
     let offsets = c.args.offsets.now in
     let n = c.loop-lane.lane in
     let inv = c.loop-lane.invariant in
-    let made = c.merge_lane.ensures in
+    let built = c.merge_lane.ensures in
     let starts = c.loop-lane.starts.items in
     let js = c.merge_lane.new.indices.items in
     let end : c.len.result ≡ length js = omega (arith, c.len.ensures) in
@@ -58,13 +58,13 @@ loop-lane-preserved g c =
     let long = length-between c.args.entries.now (slice_index offsets n)
     (slice_index offsets (n + 1)) within in
     record {
-      merged = rw starts_is (lanes_merged_more inv.merged (omega (arith, made.grown.0))
-          (omega (arith, made.sizes)) (λ p lt. made.kept_indices p (omega arith))
-          (λ p lt. made.kept_values p (omega (arith, inv.merged.sizes))) made.merged);
-      room = omega (arith, made.grown.1, inv.room, long, within, ordered);
+      merged = rw starts_is (lanes_merged_more inv.merged (omega (arith, built.grown.0))
+          (omega (arith, built.sizes)) (λ p lt. built.kept_indices p (omega arith))
+          (λ p lt. built.kept_values p (omega (arith, inv.merged.sizes))) built.merged);
+      room = omega (arith, built.grown.1, inv.room, long, within, ordered);
       start_capacity = c.push_reserved-in-loop-lane.ensures.capacity ∙ inv.start_capacity;
-      index_capacity = made.capacities.0 ∙ inv.index_capacity;
-      value_capacity = made.capacities.1 ∙ inv.value_capacity;
+      index_capacity = built.capacities.0 ∙ inv.index_capacity;
+      value_capacity = built.capacities.1 ∙ inv.value_capacity;
     }
 
 pub from_offset_and_indices_unchecked-pattern-requires :
@@ -78,9 +78,9 @@ from_offset_and_indices_unchecked-pattern-requires g c =
 pub returns : goal.returns
 returns g c =
     let end : c.loop-lane.lane ≡ length c.args.offsets.now - 1 = omega arith in
-    let made = c.from_pattern_and_values.ensures in
-    merged_stand c.requires.below (λ i past. no_lane c.args.offsets.now
+    let built = c.from_pattern_and_values.ensures in
+    merged_represents c.requires.below (λ i past. no_lane c.args.offsets.now
     c.args.entries.now i (omega (arith, c.requires.offsets.count)))
-    (rw end at c.loop-lane.invariant.merged) made.sound
-    (made.is ∙ ap (λ d. compressed_of d c.loop-lane.values.items)
+    (rw end at c.loop-lane.invariant.merged) built.sound
+    (built.is ∙ ap (λ d. compressed_of d c.loop-lane.values.items)
     c.from_offset_and_indices_unchecked-pattern.ensures)

@@ -3,7 +3,7 @@ use Rattle.std.proofs.lemmas.List.Sorted.{All-permutation}
 use Rattle.std.proofs.lemmas.Result.{IfOk-weaker}
 use Rattle.sparse_coo_dense.specs.Coo.{zip_triplets}
 use Rattle.sparse_convert.specs.InnerTripletLanes.{entries_of_lane, triplets_of_lane}
-use Rattle.sparse_convert.proofs.Triplets.{lane_below, lanes_stand}
+use Rattle.sparse_convert.proofs.Triplets.{lane_below, lanes_represent}
 use Rattle.sparse_convert.proofs.serial.compress.Goals as goal
 
 pub merge_lanes-requires : goal.merge_lanes-requires
@@ -29,7 +29,7 @@ returns g c =
     IfOk-weaker c.merge_lanes.result _ _
     (λ m s. record {
       plain = s.plain ∙ rw (c.deref.ensures.value, c.deref-2.ensures.value, rows)
-          (lanes_stand g.T.Ring.ring g.T.Ring.value c.args.major_dim c.args.minor_dim offsets
+          (lanes_represent g.T.Ring.ring g.T.Ring.value c.args.major_dim c.args.minor_dim offsets
           entries (zip_triplets c.args.majors.now c.args.minors.now c.args.values.now)
           lanes.moved);
       sound = s.sound;

@@ -8,7 +8,7 @@ use Rattle.sparse_coo_dense.proofs.dense.column_by_column.Given.{Over}
 use Rattle.sparse_coo_dense.proofs.dense.column_by_column.Goals.{In-loop-i}
 use Rattle.sparse_coo_dense.proofs.dense.column_by_column.Goals as goal
 
--- the position of the place, row by row, is inside
+-- the offset of row i and column j in row-major order is in bounds
 within : (g : Over) (c : In-loop-i g)
     → c.loop-i.i * c.args.ncols + c.loop-j.j < length c.args.rows.now
 within g c = omega (

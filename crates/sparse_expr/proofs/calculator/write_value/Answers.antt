@@ -13,7 +13,7 @@ pub returns-in_err-value-in-Rows-clause-refused : goal.returns-in_err-value-in-R
 returns-in_err-value-in-Rows-clause-refused g c =
     let p = err_from_is_err_and c.from_residual.result c.from_residual.ensures.1 in
     let e = c.in_err-value-in-Rows.field-0.0 in
-    rw (p.1, p.2) (λ ts meant. refuses-value c.args.form ts c.args.expr.now _ e (refl, refl)
+    rw (p.1, p.2) (λ ts meant. refuses-value c.args.order ts c.args.expr.now _ e (refl, refl)
     (elim c.in_err-value-in-Rows.ensures [
       | inl memory ↦ inl memory
       | inr refused ↦ inr (has_outcome ts _ _ c.args.inputs.now meant refused)
@@ -23,9 +23,9 @@ pub returns-in_ok-value-in-Rows-clause-written : goal.returns-in_ok-value-in-Row
 returns-in_ok-value-in-Rows-clause-written g c =
     let value = plain_of_rows ring64 (λ x. class_of w64 (w64_number x))
     c.in_ok-value-in-Rows.value in
-    let said = ap (λ form. text_in form value) c.in-Rows.is
+    let said = ap (λ order. text_in order value) c.in-Rows.is
     ∙ text_in-rows c.in_ok-value-in-Rows.value c.values.ensures.sound in
-    on_ok_weaker c.save.result (λ appended ts meant. writes c.args.form ts c.args.expr.now value
+    on_ok_weaker c.save.result (λ appended ts meant. writes c.args.order ts c.args.expr.now value
     (has_outcome ts _ _ c.args.inputs.now meant c.in_ok-value-in-Rows.ensures) _ said _ _ appended)
     c.save.ensures.all
 
@@ -33,10 +33,10 @@ pub returns-in_ok-value-in-Rows-clause-refused : goal.returns-in_ok-value-in-Row
 returns-in_ok-value-in-Rows-clause-refused g c =
     let value = plain_of_rows ring64 (λ x. class_of w64 (w64_number x))
     c.in_ok-value-in-Rows.value in
-    let said = ap (λ form. text_in form value) c.in-Rows.is
+    let said = ap (λ order. text_in order value) c.in-Rows.is
     ∙ text_in-rows c.in_ok-value-in-Rows.value c.values.ensures.sound in
     both_of_err c.save.result _ _ _
-    (λ e some refused ts meant. refuses-write c.args.form ts c.args.expr.now value
+    (λ e some refused ts meant. refuses-write c.args.order ts c.args.expr.now value
     (has_outcome ts _ _ c.args.inputs.now meant c.in_ok-value-in-Rows.ensures) _ said _ e some
     refused)
     c.save.ensures.prefix c.save.ensures.refused
@@ -46,7 +46,7 @@ returns-in_err-value-in-Cols-clause-refused g c =
     let p = err_from_is_err_and c.from_residual-in_err-value-in-Cols.result
     c.from_residual-in_err-value-in-Cols.ensures.1 in
     let e = c.in_err-value-in-Cols.field-0.0 in
-    rw (p.1, p.2) (λ ts meant. refuses-value c.args.form ts c.args.expr.now _ e (refl, refl)
+    rw (p.1, p.2) (λ ts meant. refuses-value c.args.order ts c.args.expr.now _ e (refl, refl)
     (elim c.in_err-value-in-Cols.ensures [
       | inl memory ↦ inl memory
       | inr refused ↦ inr (has_outcome ts _ _ c.args.inputs.now meant refused)
@@ -56,9 +56,9 @@ pub returns-in_ok-value-in-Cols-clause-written : goal.returns-in_ok-value-in-Col
 returns-in_ok-value-in-Cols-clause-written g c =
     let value = plain_of_cols ring64 (λ x. class_of w64 (w64_number x))
     c.in_ok-value-in-Cols.value in
-    let said = ap (λ form. text_in form value) c.in-Cols.is
+    let said = ap (λ order. text_in order value) c.in-Cols.is
     ∙ text_in-cols c.in_ok-value-in-Cols.value c.values-in-Cols.ensures.sound in
-    on_ok_weaker c.save-in-Cols.result (λ appended ts meant. writes c.args.form ts c.args.expr.now
+    on_ok_weaker c.save-in-Cols.result (λ appended ts meant. writes c.args.order ts c.args.expr.now
     value (has_outcome ts _ _ c.args.inputs.now meant c.in_ok-value-in-Cols.ensures) _ said _ _
     appended)
     c.save-in-Cols.ensures.all
@@ -67,10 +67,10 @@ pub returns-in_ok-value-in-Cols-clause-refused : goal.returns-in_ok-value-in-Col
 returns-in_ok-value-in-Cols-clause-refused g c =
     let value = plain_of_cols ring64 (λ x. class_of w64 (w64_number x))
     c.in_ok-value-in-Cols.value in
-    let said = ap (λ form. text_in form value) c.in-Cols.is
+    let said = ap (λ order. text_in order value) c.in-Cols.is
     ∙ text_in-cols c.in_ok-value-in-Cols.value c.values-in-Cols.ensures.sound in
     both_of_err c.save-in-Cols.result _ _ _
-    (λ e some refused ts meant. refuses-write c.args.form ts c.args.expr.now value
+    (λ e some refused ts meant. refuses-write c.args.order ts c.args.expr.now value
     (has_outcome ts _ _ c.args.inputs.now meant c.in_ok-value-in-Cols.ensures) _ said _ e some
     refused)
     c.save-in-Cols.ensures.prefix c.save-in-Cols.ensures.refused

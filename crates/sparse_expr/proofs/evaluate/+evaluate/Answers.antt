@@ -3,7 +3,7 @@ use Rattle.sparse_algebra.specs.Plain.{plain_negation}
 use Rattle.sparse_coo_dense.specs.CooPlain.{plain_of_coo}
 use Rattle.sparse_expr.specs.InnerTransposed.{rows_or_transposed}
 use Rattle.sparse_expr.specs.Value.{value_of, Meets, one, sum_of, difference_of}
-use Rattle.sparse_expr.proofs.Values.{both_made}
+use Rattle.sparse_expr.proofs.Values.{both_ok}
 use Rattle.sparse_expr.proofs.evaluate.+evaluate.Goals as goal
 
 pub returns-in_ok-second-in-Add-clause-met : goal.returns-in_ok-second-in-Add-clause-met
@@ -14,7 +14,7 @@ returns-in_ok-second-in-Add-clause-met g t c =
     let b = ap (value_of R inputs) (sym c.deref-in-Add.ensures)
     ∙ c.in_ok-second-in-Add.ensures.met in
     subst (λ v. Meets R (λ m. rows_or_transposed R g.T.Ring.value c.args.transposed m.value) v c.sum.result)
-    (sym (ap (value_of R inputs) c.in-Add.is ∙ both_made R (sum_of R) _ _ _ _ a b))
+    (sym (ap (value_of R inputs) c.in-Add.is ∙ both_ok R (sum_of R) _ _ _ _ a b))
     (c.sum.ensures c.args.transposed)
 
 pub returns-in_ok-subtrahend-in-Sub-clause-met : goal.returns-in_ok-subtrahend-in-Sub-clause-met
@@ -27,7 +27,7 @@ returns-in_ok-subtrahend-in-Sub-clause-met g t c =
     ∙ c.in_ok-subtrahend-in-Sub.ensures.met in
     subst (λ v. Meets R (λ m. rows_or_transposed R g.T.Ring.value c.args.transposed m.value) v
     c.difference.result)
-    (sym (ap (value_of R inputs) c.in-Sub.is ∙ both_made R (difference_of R) _ _ _ _ a b))
+    (sym (ap (value_of R inputs) c.in-Sub.is ∙ both_ok R (difference_of R) _ _ _ _ a b))
     (c.difference.ensures c.args.transposed)
 
 pub returns-in_ok-operand-in-Neg-clause-met : goal.returns-in_ok-operand-in-Neg-clause-met

@@ -1,11 +1,11 @@
 use Rattle.std.proofs.Common.{arith}
-use Rattle.sparse_factor.proofs.FactorLaws.{upper_is, places_at_ok, lists_same}
+use Rattle.sparse_factor.proofs.FactorLaws.{upper_is, entries_at_ok, lists_same}
 use Rattle.sparse_factor.proofs.TransposedCounts.{transposed_count}
 use Rattle.sparse_factor.proofs.factorization.fill_of_upper.Goals as goal
 
 pub returns-clause-places : goal.returns-clause-places
 returns-clause-places c =
-    places_at_ok (upper_is c.in_ok-mirrored.ensures.transposed) c.fill_below.result
+    entries_at_ok (upper_is c.in_ok-mirrored.ensures.transposed) c.fill_below.result
     c.fill_below.ensures.places
 
 pub returns-clause-all_read : goal.returns-clause-all_read

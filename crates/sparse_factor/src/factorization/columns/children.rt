@@ -1,23 +1,23 @@
-//! The children of a column: finished columns in a linked list. A head is one more than a column, or 0 where the list
-//! ends.
+//! The children of a column in the elimination tree: finished columns in a linked list. A head is a column's number
+//! plus one, or 0 at the end of the list. The tail of a column is its rows below the diagonal.
 
 ghost use Rattle.std.specs.Prelude.{◌≡◌, ◌≢◌, ℕ, suc, ◌+◌, ◌<◌, ◌≤◌, ◌↔◌, ◌⊎◌, length, map};
 ghost use Rattle.std.specs.Prelude.{slice_index, slice_set, Contains, OnOk, IsTrue};
 ghost use Rattle.std.specs.List.Sorted.{IsStrictlyIncreasing};
 ghost use Rattle.sparse_factor.specs.InnerColumns.{IsInColumn};
 ghost use Rattle.sparse_factor.specs.InnerColumns.{AreColumns, AreRowsBelow};
-ghost use Rattle.sparse_factor.specs.InnerChildren.{Reaches, AreFalling, IsInTailOf, IsTailRun, HasOthers};
+ghost use Rattle.sparse_factor.specs.InnerChildren.{IsOnList, AreFalling, IsInTailOf, IsTailRun, HasOthers};
 ghost use Rattle.sparse_factor.specs.InnerMarks.{AreMarked, AreAtMost};
-ghost use Rattle.sparse_factor.specs.InnerTaken.{HasTaken};
+ghost use Rattle.sparse_factor.specs.InnerCountedPairs.{CountsPairs};
 
 use super::Columns;
+use super::added::{AddedRows, merge_tail, sort_rows};
 use super::runs::skip_row;
-use super::taken::{Taken, sort_rows, take_tail};
 use sparse_coo_dense::steps::Steps;
 use sparse_pattern::counting::Count;
 use std::alloc::AllocError;
 
-// Returns the positions of the rows below the diagonal of the column of `head`, none if that is 0.
+// Returns the offsets where the tail of the column of `head` starts and ends; the tail is empty if `head` is 0.
 pub(super) fn tail_of(columns: &Columns, head: usize) -> (usize, usize)
     requires columns { AreColumns columns.now.offsets.items columns.now.rows.items }
     requires head { head < length columns.now.offsets.items }
@@ -37,7 +37,7 @@ pub(super) fn longest_child<C: Count>(columns: &Columns, nexts: &[C], first: usi
     requires linked { length columns.now.offsets.items ≤ length nexts.now + 1 }
     requires first { first < length columns.now.offsets.items }
     ensures some { first ≢ 0 → result ≢ 0 }
-    ensures reached { (k : ℕ) → result ≡ suc k → Reaches (map C.number nexts.now) first k }
+    ensures on_list { (k : ℕ) → result ≡ suc k → IsOnList (map C.number nexts.now) first k }
 {
     let mut longest = first;
     let mut most = 0;
@@ -56,20 +56,20 @@ pub(super) fn longest_child<C: Count>(columns: &Columns, nexts: &[C], first: usi
 // Returns whether a list has at most one column.
 pub(super) fn is_single<C: Count>(nexts: &[C], first: usize) -> bool
     requires { first ≤ length nexts.now }
-    ensures { IsTrue result → (k : ℕ) → Reaches (map C.number nexts.now) first k → first ≡ suc k }
+    ensures { IsTrue result → (k : ℕ) → IsOnList (map C.number nexts.now) first k → first ≡ suc k }
 {
     first == 0 || nexts[first - 1].get() == 0
 }
 
-// Takes up the tails of all children but the longest, and sorts the rows that are taken up. The children are on the
-// list that begins at `children.0`, and the longest has the head `children.1`. Counts a step for each row of a tail.
+// Adds the tails of all children but the longest to the merged rows, and sorts these. `children` has the head of the
+// list of children, and the head of the longest child. Counts a step for each row of a tail that is added.
 #[inline(always)]
-pub(super) fn take_others<C: Count>(
+pub(super) fn merge_other_children<C: Count>(
     columns: &Columns,
     nexts: &[C],
     children: (usize, usize),
     mark: usize,
-    taken: &mut Taken<C>,
+    added: &mut AddedRows<C>,
     steps: &mut Steps,
 ) -> Result<(), AllocError>
     requires columns { AreColumns columns.now.offsets.items columns.now.rows.items }
@@ -77,38 +77,39 @@ pub(super) fn take_others<C: Count>(
     requires linked { length columns.now.offsets.items ≤ length nexts.now + 1 }
     requires first { children.0 < length columns.now.offsets.items }
     requires some { children.0 ≢ 0 → children.1 ≢ 0 }
-    requires reached { (k : ℕ) → children.1 ≡ suc k
-        → Reaches (map C.number nexts.now) children.0 k }
+    requires on_list { (k : ℕ) → children.1 ≡ suc k
+        → IsOnList (map C.number nexts.now) children.0 k }
     requires width { mark < C.limit }
-    requires inside { AreRowsBelow (length taken.old.marks.items) columns.now.rows.items }
-    requires marked { AreMarked mark (map C.number taken.old.marks.items) taken.old.rows.items }
-    requires rising { IsStrictlyIncreasing taken.old.rows.items }
-    ensures count { length taken.new.marks.items ≡ length taken.old.marks.items }
-    ensures marks { AreAtMost mark (map C.number taken.new.marks.items) }
-    ensures rising { OnOk result (IsStrictlyIncreasing taken.new.rows.items) }
+    requires inside { AreRowsBelow (length added.old.marks.items) columns.now.rows.items }
+    requires marked { AreMarked mark (map C.number added.old.marks.items) added.old.rows.items }
+    requires rising { IsStrictlyIncreasing added.old.rows.items }
+    ensures count { length added.new.marks.items ≡ length added.old.marks.items }
+    ensures marks { AreAtMost mark (map C.number added.new.marks.items) }
+    ensures rising { OnOk result (IsStrictlyIncreasing added.new.rows.items) }
     ensures rows { OnOk result (HasOthers columns.now.offsets.items columns.now.rows.items
-        (map C.number nexts.now) children.0 children.1 taken.old.rows.items taken.new.rows.items) }
-    ensures taken { HasTaken (λ i k. Reaches (map C.number nexts.now) children.0 k
+        (map C.number nexts.now) children.0 children.1 added.old.rows.items added.new.rows.items) }
+    ensures added { CountsPairs (λ i k. IsOnList (map C.number nexts.now) children.0 k
         × (children.1 ≢ suc k) × IsInColumn columns.now.offsets.items columns.now.rows.items k i)
         steps.old steps.new }
 {
-    // With at most one child there is nothing to take up or sort.
+    // With at most one child no tail is added, and the base rows are sorted already.
     if is_single(nexts, children.0) {
         return Ok(());
     }
-    take_tails(columns, nexts, children, mark, taken, steps)?;
-    sort_rows(&mut taken.rows);
+    merge_tails(columns, nexts, children, mark, added, steps)?;
+    sort_rows(&mut added.rows);
     Ok(())
 }
 
-// Takes up the tails of all children but the longest, in any order. Counts a step for each row.
+// Adds the tails of all children but the longest to the merged rows, unsorted. Counts a step for each row of these
+// tails.
 #[inline(always)]
-fn take_tails<C: Count>(
+fn merge_tails<C: Count>(
     columns: &Columns,
     nexts: &[C],
     children: (usize, usize),
     mark: usize,
-    taken: &mut Taken<C>,
+    added: &mut AddedRows<C>,
     steps: &mut Steps,
 ) -> Result<(), AllocError>
     requires columns { AreColumns columns.now.offsets.items columns.now.rows.items }
@@ -116,13 +117,13 @@ fn take_tails<C: Count>(
     requires linked { length columns.now.offsets.items ≤ length nexts.now + 1 }
     requires first { children.0 < length columns.now.offsets.items }
     requires width { mark < C.limit }
-    requires inside { AreRowsBelow (length taken.old.marks.items) columns.now.rows.items }
-    requires marked { AreMarked mark (map C.number taken.old.marks.items) taken.old.rows.items }
-    ensures count { length taken.new.marks.items ≡ length taken.old.marks.items }
-    ensures marked { AreMarked mark (map C.number taken.new.marks.items) taken.new.rows.items }
+    requires inside { AreRowsBelow (length added.old.marks.items) columns.now.rows.items }
+    requires marked { AreMarked mark (map C.number added.old.marks.items) added.old.rows.items }
+    ensures count { length added.new.marks.items ≡ length added.old.marks.items }
+    ensures marked { AreMarked mark (map C.number added.new.marks.items) added.new.rows.items }
     ensures rows { OnOk result (HasOthers columns.now.offsets.items columns.now.rows.items
-        (map C.number nexts.now) children.0 children.1 taken.old.rows.items taken.new.rows.items) }
-    ensures taken { HasTaken (λ i k. Reaches (map C.number nexts.now) children.0 k
+        (map C.number nexts.now) children.0 children.1 added.old.rows.items added.new.rows.items) }
+    ensures added { CountsPairs (λ i k. IsOnList (map C.number nexts.now) children.0 k
         × (children.1 ≢ suc k) × IsInColumn columns.now.offsets.items columns.now.rows.items k i)
         steps.old steps.new }
 {
@@ -130,49 +131,54 @@ fn take_tails<C: Count>(
     let mut head = first;
     while head != 0 {
         if head != longest {
-            take_tail_of(columns, head, mark, taken, steps)?;
+            merge_tail_of(columns, head, mark, added, steps)?;
         }
         head = nexts[head - 1].get();
     }
     Ok(())
 }
 
-// Takes up the tail of the column of `head`. Counts a step for each row.
+// Adds the tail of the column of `head` to the merged rows. Counts a step for each row of the tail.
 #[inline(always)]
-fn take_tail_of<C: Count>(
+fn merge_tail_of<C: Count>(
     columns: &Columns,
     head: usize,
     mark: usize,
-    taken: &mut Taken<C>,
+    added: &mut AddedRows<C>,
     steps: &mut Steps,
 ) -> Result<(), AllocError>
     requires columns { AreColumns columns.now.offsets.items columns.now.rows.items }
     requires head { head < length columns.now.offsets.items }
     requires width { mark < C.limit }
-    requires inside { AreRowsBelow (length taken.old.marks.items) columns.now.rows.items }
-    requires marked { AreMarked mark (map C.number taken.old.marks.items) taken.old.rows.items }
-    ensures count { length taken.new.marks.items ≡ length taken.old.marks.items }
-    ensures marked { AreMarked mark (map C.number taken.new.marks.items) taken.new.rows.items }
-    ensures rows { OnOk result ((i : ℕ) → Contains taken.new.rows.items i
-        ↔ (Contains taken.old.rows.items i ⊎ IsInTailOf columns.now.offsets.items
+    requires inside { AreRowsBelow (length added.old.marks.items) columns.now.rows.items }
+    requires marked { AreMarked mark (map C.number added.old.marks.items) added.old.rows.items }
+    ensures count { length added.new.marks.items ≡ length added.old.marks.items }
+    ensures marked { AreMarked mark (map C.number added.new.marks.items) added.new.rows.items }
+    ensures rows { OnOk result ((i : ℕ) → Contains added.new.rows.items i
+        ↔ (Contains added.old.rows.items i ⊎ IsInTailOf columns.now.offsets.items
         columns.now.rows.items head i)) }
-    ensures counted { HasTaken (λ i k. (head ≡ suc k)
+    ensures counted { CountsPairs (λ i k. (head ≡ suc k)
         × IsInColumn columns.now.offsets.items columns.now.rows.items k i) steps.old steps.new }
 {
     let (from, to) = tail_of(columns, head);
-    taken.rows.reserve(to - from)?;
-    take_tail(
+    added.rows.reserve(to - from)?;
+    merge_tail(
         &columns.rows[from..to],
         mark,
-        &mut taken.marks,
-        &mut taken.rows,
+        &mut added.marks,
+        &mut added.rows,
         steps,
     );
     Ok(())
 }
 
-// Puts a finished column on the list of its parent, if `parent` is not 0.
-pub(super) fn hand_on<C: Count>(column: usize, parent: usize, firsts: &mut [C], nexts: &mut [C])
+// Puts a finished column on the list of its parent's children, unless `parent` is 0: then it has no parent.
+pub(super) fn link_to_parent<C: Count>(
+    column: usize,
+    parent: usize,
+    firsts: &mut [C],
+    nexts: &mut [C],
+)
     requires width { column + 1 < C.limit }
     requires column { column < length nexts.old }
     requires parent { parent < length firsts.old }

@@ -21,7 +21,7 @@ returns-in_err-after c =
     c.from_residual.ensures ∙ count_refused c.loop-rest.rest.now c.loop-rest.count _ r
     c.loop-rest.invariant.counted
 
--- what this turn of the loop read
+-- the data line that this iteration read
 was_read : (c : goal.After-next_line-rest-in-loop-rest)
     → IsRead c.loop-rest.rest.now c.next_line-rest-in-loop-rest.result.now
     (line_words c.loop-rest.rest.now)

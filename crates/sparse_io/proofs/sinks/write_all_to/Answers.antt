@@ -6,9 +6,9 @@ use Rattle.std.proofs.lemmas.List.{take_rest}
 use Rattle.std.proofs.KnownBytes.{Appends-trans}
 use Rattle.sparse_io.proofs.sinks.write_all_to.Goals as goal
 
-moves_front : (all done rest : List ℕ) (n : ℕ) → all ≡ done ++ rest
+moves_prefix : (all done rest : List ℕ) (n : ℕ) → all ≡ done ++ rest
     → all ≡ (done ++ take n rest) ++ take (length rest - n) (drop n rest)
-moves_front all done rest n e =
+moves_prefix all done rest n e =
     e ∙ ap (λ l. done ++ l) (sym (take-append-drop n rest))
     ∙ sym (append_assoc done (take n rest) (drop n rest))
     ∙ ap (λ l. (done ++ take n rest) ++ l) (sym (take_rest rest n))
@@ -21,7 +21,7 @@ loop-rest-preserved g c =
       search rules,
       (
         done ++ take n rest,
-        moves_front _ done rest n split,
+        moves_prefix _ done rest n split,
         Appends-trans _ _ _ _ _ appended c.in-Ok.ensures.bytes,
       ),
     )

@@ -8,6 +8,6 @@ invariant-loop-row g l = record {
   unfailed : g.W.Sink.failures l.sink ≡ g.W.Sink.failures l.initial.sink;
   writing : IsWriting g.T.MatrixMarketScalar.scalar.name
       (λ x. g.T.MatrixMarketScalar.scalar.text (g.T.MatrixMarketScalar.value x))
-      (g.S.MatrixMarketExport.exported l.matrix) (g.W.Sink.taken l.initial.sink)
-      (g.W.Sink.taken l.sink) (string_bytes l.text) (triplets_left l.row-iterator);
+      (g.S.MatrixMarketExport.exported l.matrix) (g.W.Sink.accepted l.initial.sink)
+      (g.W.Sink.accepted l.sink) (string_bytes l.text) (triplets_left l.row-iterator);
 }

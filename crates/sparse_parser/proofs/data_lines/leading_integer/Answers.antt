@@ -1,5 +1,5 @@
 use Rattle.std.proofs.Common.{ℕ, ◌-◌, List, ap, take, sym, ◌∙◌, inl, inr, length, subst}
-use Rattle.sparse_parser.specs.Bytes.{front}
+use Rattle.sparse_parser.specs.Bytes.{leading}
 use Rattle.sparse_parser.specs.InnerBytes.{is_solid}
 use Rattle.sparse_parser.specs.Grammar.{is_integer}
 use Rattle.sparse_parser.specs.InnerLines.{IsNumberOf}
@@ -15,7 +15,7 @@ use Rattle.sparse_parser.proofs.data_lines.leading_integer.Goals.{else-unsigned-
 
 pub returns-then-rest-unsigned : goal.returns-then-rest-unsigned
 returns-then-rest-unsigned c =
-    ap (λ (t : List ℕ). is_integer (front is_solid t)) (sym c.after_blanks-text.ensures)
+    ap (λ (t : List ℕ). is_integer (leading is_solid t)) (sym c.after_blanks-text.ensures)
     ∙ no_integer c.after_blanks-text.result.now _ _ c.after_sign-unsigned.ensures
     c.leading_number-digits.ensures.rest (elim c.then-rest-unsigned.branch [
       | then-rest-unsigned-via-then-rest-unsigned w ↦ inl w.if-rest-unsigned.true

@@ -1,5 +1,5 @@
 use Rattle.std.proofs.Common.{ℕ, List, sym, ap, ◌∙◌}
-use Rattle.sparse_parser.specs.Bytes.{front}
+use Rattle.sparse_parser.specs.Bytes.{leading}
 use Rattle.sparse_parser.specs.InnerBytes.{is_solid}
 use Rattle.sparse_parser.specs.Grammar.{is_integer}
 use Rattle.sparse_parser.proofs.FirstWord.{line_ends, starts_word, found_after_blanks}
@@ -14,7 +14,7 @@ other_number-requires-clause-start c = starts_word c.args.text.now _ c.after_bla
     (sym c.ends_line.ensures ∙ c.if-ends_line.false)
 
 pub other_number-requires-clause-no_integer : goal.other_number-requires-clause-no_integer
-other_number-requires-clause-no_integer c = ap (λ (t : List ℕ). is_integer (front is_solid t))
+other_number-requires-clause-no_integer c = ap (λ (t : List ℕ). is_integer (leading is_solid t))
     c.after_blanks-text.ensures ∙ c.in_default.ensures
 
 pub returns : goal.returns

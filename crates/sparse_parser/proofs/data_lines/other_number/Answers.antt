@@ -1,5 +1,5 @@
 use Rattle.std.proofs.Common.{◌≡◌, false, sym, ap, ◌∙◌}
-use Rattle.sparse_parser.specs.Bytes.{front}
+use Rattle.sparse_parser.specs.Bytes.{leading}
 use Rattle.sparse_parser.specs.InnerBytes.{is_solid}
 use Rattle.sparse_parser.specs.Grammar.{is_integer}
 use Rattle.sparse_parser.specs.InnerReading.{line_words}
@@ -20,7 +20,7 @@ returns-then-not-is_number c =
 pub returns : goal.returns
 returns c =
     let n = sym c.is_number.ensures ∙ c.if-not-is_number.false in
-    let f : c.split_solid.result.0.now ≡ front is_solid c.args.text.now =
+    let f : c.split_solid.result.0.now ≡ leading is_solid c.args.text.now =
     c.split_solid.ensures.word in
     let i : is_integer c.split_solid.result.0.now ≡ false = ap is_integer f
     ∙ c.requires.no_integer in (

@@ -2,8 +2,8 @@ use Rattle.std.proofs.Common.{◌≡◌, ◌<◌, ◌≤◌, ◌+◌, ◌-◌, �
 use Rattle.std.proofs.Common.{arith, rules, ℕ, true, inl}
 use Rattle.std.specs.Char.{is_ascii_digit}
 use Rattle.sparse_parser.proofs.Digits.{digit_small, short_fits, stopped_end}
-use Rattle.sparse_parser.proofs.Fronts.{front-drop_stop}
-use Rattle.sparse_parser.proofs.Positions.{after_passed, digit_read, digits_below}
+use Rattle.sparse_parser.proofs.LeadingBytes.{leading-drop_stop}
+use Rattle.sparse_parser.proofs.TextOffsets.{after_passed, digit_read, digits_below}
 use Rattle.sparse_parser.proofs.digit_runs.first_digits_at.Goals as goal
 
 pub overflow_mul-number : goal.overflow_mul-number
@@ -46,5 +46,5 @@ returns-after-loop-at-clause-stopped c =
 
 pub returns-else-is_ascii_digit-clause-stopped : goal.returns-else-is_ascii_digit-clause-stopped
 returns-else-is_ascii_digit-clause-stopped c =
-    inl (front-drop_stop is_ascii_digit c.args.text.now c.loop-at.at (omega arith)
+    inl (leading-drop_stop is_ascii_digit c.args.text.now c.loop-at.at (omega arith)
     (sym c.is_ascii_digit.ensures.value ∙ c.if-is_ascii_digit.false))

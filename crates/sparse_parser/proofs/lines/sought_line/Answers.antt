@@ -1,5 +1,5 @@
 use Rattle.std.proofs.Common.{◌≡◌, get_or, arith}
-use Rattle.sparse_parser.proofs.FrontLines.{sought_first, sought_more}
+use Rattle.sparse_parser.proofs.FirstLines.{sought_first, sought_more}
 use Rattle.sparse_parser.proofs.LineLaws.{head_byte}
 use Rattle.sparse_parser.proofs.lines.sought_line.Goals as goal
 

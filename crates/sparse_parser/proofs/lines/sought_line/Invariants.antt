@@ -1,5 +1,5 @@
 use Rattle.std.proofs.Common.{length}
-use Rattle.sparse_parser.proofs.FrontLines.{IsSought}
+use Rattle.sparse_parser.proofs.FirstLines.{IsSought}
 use Rattle.sparse_parser.proofs.lines.sought_line.Given as goal
 
 abbrev pub invariant-loop-rest : goal.invariant-loop-rest

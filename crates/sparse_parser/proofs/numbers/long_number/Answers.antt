@@ -1,7 +1,7 @@
 use Rattle.std.proofs.Common.{◌≡◌, [], drop, sym, ◌∙◌}
 use Rattle.std.specs.Char.{is_ascii_digit}
-use Rattle.sparse_parser.specs.Bytes.{front}
-use Rattle.sparse_parser.proofs.Fronts.{front-drop_all, front-drop_stop}
+use Rattle.sparse_parser.specs.Bytes.{leading}
+use Rattle.sparse_parser.proofs.LeadingBytes.{leading-drop_all, leading-drop_stop}
 use Rattle.sparse_parser.proofs.Digits.{too_long, fits_all}
 use Rattle.sparse_parser.proofs.numbers.long_number.Goals as goal
 use Rattle.sparse_parser.proofs.numbers.long_number.Goals.{then-loop-at-test+else-is_ascii_digit}
@@ -17,12 +17,12 @@ pub returns-clause-number : goal.returns-clause-number
 returns-clause-number c = fits_all c.loop-at.number c.args.text.now c.loop-at.at _ none_left
     c.loop-at.invariant.fits c.loop-at.invariant.number
   where
-    none_left : front is_ascii_digit (drop c.loop-at.at c.args.text.now) ≡ []
+    none_left : leading is_ascii_digit (drop c.loop-at.at c.args.text.now) ≡ []
     none_left =
         elim c.loop-at-test.branch [
-          | then-loop-at-test+else-is_ascii_digit w ↦ front-drop_stop is_ascii_digit c.args.text.now
+          | then-loop-at-test+else-is_ascii_digit w ↦ leading-drop_stop is_ascii_digit c.args.text.now
               c.loop-at.at w.loop-at-test.true (sym w.is_ascii_digit.ensures.value
               ∙ w.if-is_ascii_digit.false)
-          | else-loop-at-test w ↦ front-drop_all is_ascii_digit c.args.text.now c.loop-at.at
+          | else-loop-at-test w ↦ leading-drop_all is_ascii_digit c.args.text.now c.loop-at.at
               w.loop-at-test.false
         ]

@@ -1,4 +1,5 @@
-//! Transposition by mirroring: a pattern with the places of its transpose stays, and each value moves to its mirrored place.
+//! Transposition by mirroring: a pattern that equals its transpose is copied, and the value of each entry (i, j) moves
+//! to its mirrored entry (j, i).
 
 ghost use Rattle.std.specs.Prelude.{◌≡◌, ◌+◌, ◌<◌, ◌≤◌, IfOk, IfSome, IsTrue, length, vec_capacity};
 ghost use Rattle.sparse_pattern.specs.Raw.{start_of, end_of};
@@ -9,10 +10,10 @@ use super::SparsityPattern;
 use std::alloc::{AllocError, Global};
 
 impl SparsityPattern {
-    // Returns the values of the transpose of a square pattern if it has the same places, and gives up at the first place
+    // Returns the values of the transpose if the square pattern equals its transpose, and `None` at the first entry
     // without a mirrored one.
     //
-    // Taken on near places: 0.7 of the time of placing, since no vector is filled first.
+    // Used where the pattern is not scattered: 0.7 of the time of placing, since no vector is filled first.
     pub(super) fn mirrored_values<T: Copy>(
         &self,
         alloc: Global,
@@ -38,9 +39,10 @@ impl SparsityPattern {
     }
 }
 
-// Pushes the value of the mirrored place of each place of a lane, and returns whether each has one.
+// Pushes the value of the mirrored entry of each entry of a lane, and returns whether all of them have one.
 //
-// The lanes come in order, so a mirrored place is the first of its lane that was not read yet.
+// Lanes are visited in order, so the mirrored entry of (lane, index) is the first entry of the lane `index` that is not
+// read yet.
 fn push_mirrored<T: Copy>(
     pattern: &SparsityPattern,
     lane: usize,
@@ -65,8 +67,8 @@ fn push_mirrored<T: Copy>(
     let offsets = pattern.major_offsets();
     let indices = pattern.minor_indices();
     let (start, end) = pattern.lane_bounds(lane);
-    for position in start..end {
-        let index = indices[position];
+    for offset in start..end {
+        let index = indices[offset];
         let mirrored = cursors[index];
         if mirrored >= offsets[index + 1] || indices[mirrored] != lane {
             return false;

@@ -6,4 +6,4 @@ use Rattle.sparse_sums.proofs.add.sub_csc.Goals as goal
 pub returns : goal.returns
 returns g c = ap (plain_of_cols g.T.Ring.ring g.T.Ring.value) c.from_cs.ensures
     ∙ ap (plain_transpose g.T.Ring.ring) (rw (c.cs.ensures.core, c.cs-2.ensures.core) at
-    c.in_ok-merge.ensures)
+    c.in_ok-sum_or_difference.ensures)

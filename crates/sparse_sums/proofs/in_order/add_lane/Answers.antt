@@ -1,7 +1,7 @@
 use Rattle.std.proofs.Common.{◌≡◌, ◌+◌, length, get_or, take, ap, ◌∙◌, arith}
 use Rattle.std.proofs.lemmas.List.{get_or_default, take_all}
-use Rattle.sparse_compressed.specs.InnerRows.{lane_value}
-use Rattle.sparse_sums.proofs.InOrder.{none_added, adding_hit, adding_miss, all_passed}
+use Rattle.sparse_compressed.specs.InnerLaneValue.{lane_value}
+use Rattle.sparse_sums.proofs.InOrder.{none_added, adding_hit, adding_miss, all_found}
 use Rattle.sparse_sums.proofs.in_order.add_lane.Goals as goal
 use Rattle.sparse_sums.proofs.in_order.add_lane.Goals.{then-k-lane+then-target-p, else-k-lane}
 use Rattle.sparse_sums.proofs.in_order.add_lane.Goals.{else-k-lane-via-then-k-lane+else-target-p}
@@ -43,7 +43,7 @@ returns-clause-added g c = λ m lt.
     let us = c.args.lane_values.now in
     let k = c.loop-p.k in
     let all : k ≡ length lane =
-    (all_passed c.loop-p.invariant.passed (omega arith)).1 c.requires.covered in
+    (all_found c.loop-p.invariant.passed (omega arith)).1 c.requires.covered in
     let at = get_or c.args.target.now m 0 in
     let start = f (get_or c.args.values.now (c.args.start + m) g.T.Zero.zero_value) in
     c.loop-p.invariant.sums m lt

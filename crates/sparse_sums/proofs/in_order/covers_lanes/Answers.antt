@@ -1,6 +1,6 @@
 use Rattle.std.proofs.Common.{inl, inr, sym, subst, arith}
 use Rattle.sparse_algebra.proofs.Cases.{lt_add_one_cases}
-use Rattle.sparse_pattern.specs.Raw.{IsPlace}
+use Rattle.sparse_pattern.specs.Raw.{IsEntry}
 use Rattle.sparse_compressed.proofs.LaneSearch.{rising_lane}
 use Rattle.sparse_sums.proofs.InOrder.{lane_covered}
 use Rattle.sparse_sums.proofs.in_order.covers_lanes.Goals as goal
@@ -25,8 +25,8 @@ loop-i-preserved c = λ n lt.
     let covered = rw (c.lane.ensures, c.lane-in-loop-i.ensures) at c.covers_lane.ensures in
     elim (lt_add_one_cases n i lt) [
       | inl before ↦ c.loop-i.invariant n before
-      | inr last ↦ λ j place. subst (λ k. IsPlace d k j) (sym last)
-          (here (covered.0 c.if-not-covers_lane.false) j (subst (λ k. IsPlace a k j) last place))
+      | inr last ↦ λ j place. subst (λ k. IsEntry d k j) (sym last)
+          (here (covered.0 c.if-not-covers_lane.false) j (subst (λ k. IsEntry a k j) last place))
     ]
 
 pub returns-then-not-covers_lane : goal.returns-then-not-covers_lane

@@ -1,5 +1,5 @@
 use Rattle.std.proofs.Common.{◌<◌, length, ap, ◌∙◌, refl, arith}
-use Rattle.sparse_compressed.proofs.Arrays.{position_within}
+use Rattle.sparse_compressed.proofs.Arrays.{offset_within}
 use Rattle.sparse_compressed.specs.PlainOfLanes.{plain_of_rows}
 use Rattle.sparse_algebra.specs.Prealloc.{plain_transpose_if}
 use Rattle.sparse_sums.proofs.prealloc.add_into.Goals as goal
@@ -29,7 +29,7 @@ returns g c =
       unchanged = tt;
       sound = c.pattern.ensures.sound;
       added = λ i j p at.
-          let inside = position_within c.args.pattern.now c.major_offsets.ensures.valid i j p at in
+          let inside = offset_within c.args.pattern.now c.major_offsets.ensures.valid i j p at in
           let within : p < length c.args.values.now = omega (arith, inside, c.requires.count) in
           c.add_entries.ensures.added i j p at
           ∙ ap (λ y. R.add y (R.mul (f c.args.alpha) (a.value i j)))

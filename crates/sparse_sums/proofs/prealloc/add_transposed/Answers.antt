@@ -3,8 +3,8 @@ use Rattle.std.proofs.Common.{◌≡◌, ◌<◌, length, get_or, ap, refl, sym,
 use Rattle.std.proofs.Common.{arith}
 use Rattle.std.proofs.lemmas.List.{get_or_default}
 use Rattle.sparse_compressed.specs.Compressed.{lane_triplets}
-use Rattle.sparse_compressed.proofs.Inside.{lane_triplets-places}
-use Rattle.sparse_sums.proofs.Placing.{missed, next_place, adding_more, all_added}
+use Rattle.sparse_compressed.proofs.TripletBounds.{lane_triplets-places}
+use Rattle.sparse_sums.proofs.TargetLookups.{missed, next_entry, adding_more, all_added}
 use Rattle.sparse_sums.proofs.prealloc.add_transposed.Goals as goal
 
 pub loop-i-init : goal.loop-i-init
@@ -19,27 +19,27 @@ loop-i-init g c =
       sums = λ i j p at. refl;
     })
 
-pub position_of-requires : goal.position_of-requires
-position_of-requires g c = (next_place c.major_offsets.ensures.valid c.loop-i.invariant
+pub offset_of-requires : goal.offset_of-requires
+offset_of-requires g c = (next_entry c.major_offsets.ensures.valid c.loop-i.invariant
     c.in-Some.ensures.steps).in_lane.lane
 
-pub loop-i-preserved-in-Some-position_of : goal.loop-i-preserved-in-Some-position_of
-loop-i-preserved-in-Some-position_of g c =
+pub loop-i-preserved-in-Some-offset_of : goal.loop-i-preserved-in-Some-offset_of
+loop-i-preserved-in-Some-offset_of g c =
     let R = g.T.Ring.ring in
     let f = g.T.Ring.value in
     let z = g.T.Zero.zero_value in
-    let q = c.in-Some-position_of.at in
+    let q = c.in-Some-offset_of.at in
     let within : q < length c.loop-i.values =
     omega (
       arith,
-      c.in-Some-position_of.ensures.within,
+      c.in-Some-offset_of.ensures.within,
       c.requires.count,
       c.loop-i.invariant.count,
     ) in
     let read = c.index-values-at.is ∙ get_or_default c.loop-i.values q c.index-values-at.result z
     within in
     adding_more c.major_offsets.ensures.valid c.loop-i.invariant c.in-Some.ensures.steps
-    c.requires.count q (sym c.position_of.ensures.position ∙ c.in-Some-position_of.is)
+    c.requires.count q (sym c.offset_of.ensures.offset ∙ c.in-Some-offset_of.is)
     c.add.result
     (c.add.ensures ∙ ap (λ x. R.add x (f c.mul.result)) (ap f read)
     ∙ ap (R.add (f (get_or c.loop-i.values q z))) c.mul.ensures)
@@ -48,8 +48,8 @@ pub loop-i-preserved : goal.loop-i-preserved
 loop-i-preserved g c =
     let valid = c.major_offsets.ensures.valid in
     absurd (missed c.args.target.now valid _ _
-    (sym c.position_of.ensures.position ∙ c.in-None-position_of.is)
-    (next_place valid c.loop-i.invariant c.in-Some.ensures.steps))
+    (sym c.offset_of.ensures.offset ∙ c.in-None-offset_of.is)
+    (next_entry valid c.loop-i.invariant c.in-Some.ensures.steps))
 
 pub returns-clause-added : goal.returns-clause-added
 returns-clause-added g c =
@@ -58,5 +58,5 @@ returns-clause-added g c =
 pub offset_bounds-values-at : goal.offset_bounds-values-at
 offset_bounds-values-at g c = grind (arith, common_steps)
 
-pub offset_bounds-values-at-in-Some-position_of : goal.offset_bounds-values-at-in-Some-position_of
-offset_bounds-values-at-in-Some-position_of g c = grind (arith, common_steps)
+pub offset_bounds-values-at-in-Some-offset_of : goal.offset_bounds-values-at-in-Some-offset_of
+offset_bounds-values-at-in-Some-offset_of g c = grind (arith, common_steps)

@@ -1,5 +1,5 @@
 use Rattle.sparse_compressed.specs.Compressed.{lane_triplets}
-use Rattle.sparse_sums.proofs.Placing.{AreAdding}
+use Rattle.sparse_sums.proofs.TargetLookups.{AreAdding}
 use Rattle.sparse_sums.proofs.prealloc.add_transposed.Given as goal
 
 abbrev pub invariant-loop-i : goal.invariant-loop-i

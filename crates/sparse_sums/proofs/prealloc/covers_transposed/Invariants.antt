@@ -1,4 +1,4 @@
-use Rattle.sparse_sums.proofs.Placing.{AreCovered}
+use Rattle.sparse_sums.proofs.TargetLookups.{AreCovered}
 use Rattle.sparse_sums.proofs.prealloc.covers_transposed.Given as goal
 
 abbrev pub invariant-loop-i : goal.invariant-loop-i

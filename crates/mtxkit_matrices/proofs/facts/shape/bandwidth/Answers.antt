@@ -1,5 +1,5 @@
 use Rattle.std.proofs.Common.{◌≡◌, ◌∷◌, inl, inr, refl, sym, rules, arith}
-use Rattle.mtxkit_matrices.proofs.PlacesLeft.{none_done, next_place, next_done, all_done}
+use Rattle.mtxkit_matrices.proofs.EntriesLeft.{none_done, next_place, next_done, all_done}
 use Rattle.mtxkit_matrices.proofs.facts.shape.bandwidth.Goals as goal
 
 pub loop-row-init : goal.loop-row-init

@@ -4,8 +4,8 @@ use Rattle.std.specs.Vec.{with_items}
 use Rattle.std.proofs.lemmas.Bool.{false≢true}
 use Rattle.std.proofs.lemmas.List.{get_or-replicate, with_items_is}
 use Rattle.std.proofs.lemmas.Nat.{mul-add-lt}
-use Rattle.mtxkit_matrices.specs.Pictures.{HasPlaceIn}
-use Rattle.mtxkit_matrices.proofs.Marks.{place_at}
+use Rattle.mtxkit_matrices.specs.Pictures.{HasEntryIn}
+use Rattle.mtxkit_matrices.proofs.Marks.{HasEntryIn-from_marked}
 use Rattle.mtxkit_matrices.proofs.pictures.picture.draw.Goals as goal
 
 pub returns-clause-black : goal.returns-clause-black
@@ -23,10 +23,10 @@ returns-clause-black c = λ r col down across.
     rw white (get_or-replicate c.in_ok-count.count q false false
     (omega (arith, mul-add-lt r w col c.args.height down across, count))) in
     let iff : IsTrue (slice_index_or c.mark.new.cells q false)
-    ↔ HasPlaceIn p c.args.height w r col = (
+    ↔ HasEntryIn p c.args.height w r col = (
       λ e. elim (marked.0 e) [
         | inl old ↦ absurd (false≢true (sym blank ∙ old))
-        | inr m ↦ place_at p c.args.height w r col across m
+        | inr m ↦ HasEntryIn-from_marked p c.args.height w r col across m
       ],
       λ has. marked.1 (inr (record {
         r = r;
@@ -39,5 +39,5 @@ returns-clause-black c = λ r col down across.
     ) in
     let same : (with_items c.in_ok-cells.cells c.mark.new.cells).items ≡ c.mark.new.cells =
     with_items_is c.in_ok-cells.cells c.mark.new.cells (search rules) in
-    subst (λ xs. IsTrue (slice_index_or xs q false) ↔ HasPlaceIn p c.args.height w r col)
+    subst (λ xs. IsTrue (slice_index_or xs q false) ↔ HasEntryIn p c.args.height w r col)
     (sym same) iff

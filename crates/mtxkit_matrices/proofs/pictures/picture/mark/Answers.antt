@@ -4,7 +4,7 @@ use Rattle.std.proofs.lemmas.List.{length-set}
 use Rattle.std.proofs.lemmas.Nat.{mul-add-lt}
 use Rattle.mtxkit_matrices.specs.Pictures.{cell_of}
 use Rattle.mtxkit_matrices.proofs.Marks.{set_here, marked_stays, marked_cases}
-use Rattle.mtxkit_matrices.proofs.PlacesLeft.{none_done, next_place, next_done, all_done}
+use Rattle.mtxkit_matrices.proofs.EntriesLeft.{none_done, next_place, next_done, all_done}
 use Rattle.mtxkit_matrices.proofs.pictures.picture.mark.Goals.{else-row-height-via-then-row-height+else-col-width}
 use Rattle.mtxkit_matrices.proofs.pictures.picture.mark.Goals.{else-row-height-via-else-row-height}
 use Rattle.mtxkit_matrices.proofs.pictures.picture.mark.Goals as goal

@@ -1,7 +1,7 @@
 use Rattle.std.proofs.Common.{◌≡◌, rules, refl, to_z, of_z}
 use Rattle.std.specs.Int.{w32}
 use Rattle.sparse_c.specs.Systems.{IsSolved}
-use Rattle.sparse_c.proofs.Accepting.{equation_sound}
+use Rattle.sparse_c.proofs.ValidOperands.{equation_sound}
 use Rattle.sparse_c.proofs.Solving.{numbers_answered}
 use Rattle.sparse_c.proofs.systems.SystemCallNumbers.run.Goals as goal
 
@@ -12,9 +12,9 @@ returns g c =
     let R = g.T.Ring.ring in
     let f = g.T.Ring.value in
     let s = c.args.self in
-    let made = c.solution.ensures in
+    let ensured = c.solution.ensures in
     let ended = c.finish_dense.ensures in
-    numbers_answered c.solution.result s.size s.cols made.rows made.cols R f (IsSolved R s)
-    made.solved _ _ status _ same refl made.sound made.fault
+    numbers_answered c.solution.result s.size s.cols ensured.rows ensured.cols R f (IsSolved R s)
+    ensured.solved _ _ status _ same refl ensured.sound ensured.fault
     (equation_sound R f s.equation s.matrix s.size s.cols s.b.now) ended.written ended.shown
     ended.rest ended.untouched ended.refused

@@ -1,7 +1,7 @@
 use Rattle.std.proofs.Common.{◌≡◌, ℕ, ◌+◌, ◌*◌, ◌++◌, [], ◌∷◌, length, get_or, ap, ◌∙◌, arith}
 use Rattle.sparse_compressed.specs.Compressed.{compressed_of, lane_triplets}
-use Rattle.sparse_convert.proofs.FullLanes.{kept_indices}
-use Rattle.sparse_convert.proofs.LaneGrowth.{kept_more}
+use Rattle.sparse_convert.proofs.DenseLanes.{kept_indices}
+use Rattle.sparse_convert.proofs.AppendedLanes.{kept_more}
 use Rattle.sparse_convert.proofs.serial.from_dense.compress_lanes.Goals as goal
 
 pub loop-lane-preserved : goal.loop-lane-preserved

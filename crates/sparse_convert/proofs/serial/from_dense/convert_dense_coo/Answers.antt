@@ -3,7 +3,7 @@ use Rattle.std.specs.List.{filter}
 use Rattle.sparse_coo_dense.specs.Coo.{coo_of, appended}
 use Rattle.sparse_algebra.specs.Plain.{below}
 use Rattle.sparse_convert.specs.FromDense.{differs_from}
-use Rattle.sparse_convert.proofs.FullLanes.{column_more, no_values}
+use Rattle.sparse_convert.proofs.DenseLanes.{column_more, no_values}
 use Rattle.sparse_convert.proofs.serial.from_dense.convert_dense_coo.Goals as goal
 
 pub loop-j-preserved : goal.loop-j-preserved

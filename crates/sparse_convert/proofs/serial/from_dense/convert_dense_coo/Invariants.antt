@@ -2,7 +2,7 @@ use Rattle.std.proofs.Common.{◌≡◌}
 use Rattle.std.specs.List.{filter}
 use Rattle.sparse_coo_dense.specs.Coo.{coo_of}
 use Rattle.sparse_convert.specs.FromDense.{differs_from}
-use Rattle.sparse_convert.proofs.FullLanes.{first_columns}
+use Rattle.sparse_convert.proofs.DenseLanes.{first_columns}
 use Rattle.sparse_convert.proofs.serial.from_dense.convert_dense_coo.Given as goal
 
 abbrev pub invariant-loop-j : goal.invariant-loop-j

@@ -3,7 +3,7 @@ use Rattle.std.proofs.Common.{map, ap, sym, ◌∙◌, arith}
 use Rattle.std.specs.List.{filter}
 use Rattle.sparse_compressed.specs.Compressed.{transposed}
 use Rattle.sparse_convert.specs.FromDense.{differs_from}
-use Rattle.sparse_convert.proofs.FullLanes.{kept_columns, lanes_by_columns}
+use Rattle.sparse_convert.proofs.DenseLanes.{kept_columns, lanes_by_columns}
 use Rattle.sparse_convert.proofs.serial.from_dense.convert_dense_csc.Goals as goal
 
 pub returns-clause-kept : goal.returns-clause-kept

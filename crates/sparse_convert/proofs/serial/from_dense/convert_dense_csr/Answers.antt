@@ -1,7 +1,7 @@
 use Rattle.std.proofs.Common.{ap, ◌∙◌}
 use Rattle.std.specs.List.{filter}
 use Rattle.sparse_convert.specs.FromDense.{differs_from}
-use Rattle.sparse_convert.proofs.FullLanes.{lanes_by_rows}
+use Rattle.sparse_convert.proofs.DenseLanes.{lanes_by_rows}
 use Rattle.sparse_convert.proofs.serial.from_dense.convert_dense_csr.Goals as goal
 
 pub returns-clause-kept : goal.returns-clause-kept

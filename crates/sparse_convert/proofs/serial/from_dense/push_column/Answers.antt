@@ -5,7 +5,7 @@ use Rattle.std.proofs.lemmas.List.{append-nil, get_or_default}
 use Rattle.sparse_coo_dense.specs.Coo.{appended}
 use Rattle.sparse_algebra.specs.Plain.{below}
 use Rattle.sparse_convert.specs.FromDense.{differs_from}
-use Rattle.sparse_convert.proofs.FullLanes.{filter_map_next}
+use Rattle.sparse_convert.proofs.DenseLanes.{filter_map_next}
 use Rattle.sparse_convert.proofs.serial.from_dense.push_column.Goals.{then-ne+in_ok-push, else-ne}
 use Rattle.sparse_convert.proofs.serial.from_dense.push_column.Goals as goal
 

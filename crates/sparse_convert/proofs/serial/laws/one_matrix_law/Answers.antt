@@ -1,7 +1,7 @@
 use Rattle.std.proofs.Common.{sym, ◌∙◌}
 use Rattle.sparse_compressed.specs.Compressed.{lane_triplets}
 use Rattle.sparse_convert.specs.OneMatrix.{Triplets, Rows, Cols}
-use Rattle.sparse_convert.proofs.Reaching.{reached_same, reached_sound}
+use Rattle.sparse_convert.proofs.ConversionsKeepPlain.{ConvertsTo-same, ConvertsTo-sound}
 use Rattle.sparse_convert.proofs.StoredTriplets.{plain_of_transposed_list}
 use Rattle.sparse_convert.proofs.serial.laws.one_matrix_law.Goals as goal
 
@@ -10,8 +10,8 @@ returns g c =
     let R = g.T.Ring.ring in
     let f = g.T.Ring.value in
     let z = g.T.Zero.zero_value in
-    let same = reached_same R f z in
-    let sound = reached_sound R f z in
+    let same = ConvertsTo-same R f z in
+    let sound = ConvertsTo-sound R f z in
     let equal = c.equal_law.ensures in
     record {
       three_representations = λ x a m n s list rows cols.

@@ -1,6 +1,6 @@
 use Rattle.std.proofs.Common.{◌≡◌, rules}
 use Rattle.sparse_convert.proofs.DenseWriting.{none_written, next_inside, one_written, read_there}
-use Rattle.sparse_convert.proofs.DenseValues.{added_there, coo_stands}
+use Rattle.sparse_convert.proofs.DenseValues.{added_there, coo_represented}
 use Rattle.sparse_convert.proofs.serial.to_dense.convert_coo_dense.Goals as goal
 
 pub loop-i-init : goal.loop-i-init
@@ -25,6 +25,6 @@ loop-i-preserved g c =
     c.in-Some.value.now c.add-sum.ensures (read z))
 
 pub returns : goal.returns
-returns g c = coo_stands g.T.Ring.ring g.T.Ring.value g.T.Zero.zero_value g.met.T.Ring.zero_law
+returns g c = coo_represented g.T.Ring.ring g.T.Ring.value g.T.Zero.zero_value g.met.T.Ring.zero_law
     c.args.coo.now c.triplet_iter-i-items.ensures.inside c.in-None.ensures.steps.0
     c.loop-i.invariant

@@ -1,6 +1,6 @@
 use Rattle.std.proofs.Common.{◌≡◌, refl, rules}
 use Rattle.sparse_compressed.specs.Compressed.{lane_triplets}
-use Rattle.sparse_compressed.proofs.Inside.{lane_triplets-inside}
+use Rattle.sparse_compressed.proofs.TripletBounds.{lane_triplets-inside}
 use Rattle.sparse_convert.proofs.DenseWriting.{none_written, next_inside, one_written}
 use Rattle.sparse_convert.proofs.DenseValues.{rows_written}
 use Rattle.sparse_convert.proofs.serial.to_dense.convert_csr_dense.Goals as goal

@@ -24,7 +24,7 @@ full : (g : Over) (c : Else-count-eq0 g)
     → length c.args.matrix.now.values ≡ c.args.matrix.now.nrows * c.args.matrix.now.ncols
 full g c = sym (ap length c.as_slice-count.ensures.values) ∙ c.as_slice-count.ensures.count
 
--- a block with places lies within the matrix
+-- a block with values lies within the matrix
 inside : (g : Over) (c : Else-count-eq0 g)
     → IsBlockInside c.args.self.now c.args.r c.args.c c.args.matrix.now
 inside g c =

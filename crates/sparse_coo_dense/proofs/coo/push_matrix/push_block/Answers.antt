@@ -6,7 +6,7 @@ use Rattle.sparse_coo_dense.proofs.coo.push_matrix.push_block.Given.{Over}
 use Rattle.sparse_coo_dense.proofs.coo.push_matrix.push_block.Goals.{In-loop-i}
 use Rattle.sparse_coo_dense.proofs.coo.push_matrix.push_block.Goals as goal
 
--- the number of values before the place is below that of all
+-- the offset of row i of column j is in bounds
 place : (g : Over) (c : In-loop-i g)
     → c.loop-j.j * c.args.matrix.now.nrows + c.loop-i.i < c.args.matrix.now.nrows
     * c.args.matrix.now.ncols

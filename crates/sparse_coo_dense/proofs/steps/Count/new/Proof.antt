@@ -1,4 +1,4 @@
--- A value of no bytes is made, at the number zero.
+-- Constructs a value without bytes whose number is zero.
 use Rattle.std.proofs.Common.{[], ◌∷◌, refl}
 use Rattle.std.proofs.raw_atomic.Walks.{proved}
 use mir.Val.{vstruct, vnil}

@@ -1,4 +1,4 @@
--- A value of no bytes is made, at the number after the old one.
+-- Constructs a value without bytes whose number is the old one plus one.
 use Rattle.std.proofs.Common.{◌+◌, List, [], ◌∷◌, refl}
 use Rattle.std.proofs.raw_atomic.Walks.{proved}
 use mir.Syntax.{named}

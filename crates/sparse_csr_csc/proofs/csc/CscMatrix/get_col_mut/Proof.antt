@@ -1,20 +1,21 @@
--- `get_col_mut` lends a column of the core that `cs_with_col` lends, where it lends it.
-use Rattle.sparse_rows_cols.proofs.Walking.{refl, List, [], ◌∷◌, w64, named, a_type, Val, inst_fn}
-use Rattle.sparse_rows_cols.proofs.Walking.{◌$◌, !, done, move, join, fjoin, suffices, frame, usize}
-use Rattle.sparse_rows_cols.proofs.Walking.{yes, no, param, layouts, param_laws, uint_vals}
-use Rattle.sparse_rows_cols.proofs.Walking.{uint_Tells, mut_vals, mut_Tells, plain, named_lft}
-use Rattle.sparse_rows_cols.proofs.Walking.{nothing, alive, on_entry, triple_of, Lasts, Stays}
-use Rattle.sparse_rows_cols.proofs.Walking.{walk_of, stay_dropped, Goes-dropped, Goes-spent_ref}
-use Rattle.sparse_rows_cols.proofs.Walking.{ends_at, proved, says_three, option_laws, RattleType}
-use Rattle.sparse_rows_cols.proofs.Walking.{◌≡◌, ◌<◌, ◌⊑◌, lasts}
+-- Proof by hand: `get_col_mut` returns a column of the storage that `cs_with_col` borrows mutably,
+-- or `None` if it returns `None`.
+use Rattle.sparse_rows_cols.proofs.MutBorrowImports.{refl, List, [], ◌∷◌, w64, named, a_type, Val, inst_fn}
+use Rattle.sparse_rows_cols.proofs.MutBorrowImports.{◌$◌, !, done, move, join, fjoin, suffices, frame, usize}
+use Rattle.sparse_rows_cols.proofs.MutBorrowImports.{yes, no, param, layouts, param_laws, uint_vals}
+use Rattle.sparse_rows_cols.proofs.MutBorrowImports.{uint_Tells, mut_vals, mut_Tells, plain, named_lft}
+use Rattle.sparse_rows_cols.proofs.MutBorrowImports.{nothing, alive, on_entry, triple_of, Lasts, Stays}
+use Rattle.sparse_rows_cols.proofs.MutBorrowImports.{walk_of, stay_dropped, Goes-dropped, Goes-spent_ref}
+use Rattle.sparse_rows_cols.proofs.MutBorrowImports.{ends_at, proved, says_three, option_laws, RattleType}
+use Rattle.sparse_rows_cols.proofs.MutBorrowImports.{◌≡◌, ◌<◌, ◌⊑◌, lasts}
 use base.Logic.{via}
 use Rattle.sparse_compressed.specs.Compressed.{IsSound}
 use Rattle.sparse_compressed.specs.Lanes.{lane_at}
 use Rattle.sparse_compressed.specs.Writing.{with_lane}
 use Rattle.sparse_compressed.proofs.FoundEntries.{with_facts}
-use Rattle.sparse_csr_csc.proofs.LentLanes.{Code, Calls, lends}
+use Rattle.sparse_csr_csc.proofs.OptionalLanes.{Code, Calls, returns_optional_lane}
 use Rattle.sparse_rows_cols.proofs.col_mut.CscColMut.TheLaws.{the_row_laws as col_laws}
-use Rattle.sparse_rows_cols.specs.ColWriting.{lent_col}
+use Rattle.sparse_rows_cols.specs.ColWriting.{col_as_lane}
 use Rattle.sparse_compressed.specs.contracts.CsMatrix.{the_row as core_row}
 use Rattle.sparse_csr_csc.specs.contracts.csc.CscMatrix.{the_row as matrix_row}
 use Rattle.sparse_rows_cols.specs.contracts.col_mut.CscColMut.{the_row as col_row}
@@ -60,7 +61,7 @@ get_col_mut_spec 𝓤 𝓛 𝓜 𝓡 wired T L =
       written_core = _;
       option = _;
       lane = _;
-      lent_lane = _;
+      written_lane = _;
       first = first.name args;
       second = second.name args;
     } in
@@ -79,7 +80,7 @@ get_col_mut_spec 𝓤 𝓛 𝓜 𝓡 wired T L =
       now = s.now;
       refilled = λ d. with_lane d i;
       Has = λ d. i < d.pattern.major_dim;
-      IsLane = λ d w. lent_col w ≡ lane_at d i;
+      IsLane = λ d w. col_as_lane w ≡ lane_at d i;
       IsGood = IsSound;
       name = λ w. w.values.ghost_name;
       LastOfFirst = Unit {0} × (Unit {0} × Unit {0});
@@ -90,14 +91,15 @@ get_col_mut_spec 𝓤 𝓛 𝓜 𝓡 wired T L =
       option_typed = λ r v is. let typed = (((option_laws Col col_lawful).lawful 𝓛).typed r (v ∷ [])
           is).0 in (typed, typed);
     } in
-    lends 𝓛 𝓜 𝓡 types calls (on_entry 𝓛 (f.signature T) κs qs a vss) (W.post y)
+    returns_optional_lane 𝓛 𝓜 𝓡 types calls (on_entry 𝓛 (f.signature T) κs qs a vss) (W.post y)
     (core_met 𝓤 𝓛 𝓜 𝓡 (code.calls-sparse_csr_csc::csc::CscMatrix::cs_with_col 𝓡.env wired) T L z)
     (λ le m has.
     let x : E.Ghost = ((κs, qs, bounds, (m, (i, tt)), (mut_vals m, (uint_vals w64 i, tt))), tt) in
     via 𝓤 (E.pre x) (with_facts 𝓤 within (i < m.now.pattern.major_dim)
     (on_entry 𝓛 (h.signature T) κs qs (m, (i, tt)) (mut_vals m, (uint_vals w64 i, tt))) le has)
     (of_met 𝓤 𝓛 𝓜 𝓡 (code.calls-sparse_rows_cols::col_mut::CscColMut::of 𝓡.env wired) T L x))
-    -- from [the column, if there is one; the tokens; what the matrix follows]
+    -- hypotheses: the column, if there is one; the lifetime tokens; the matrix follows the values
+    -- of the column
     (λ r v inside is-lane sound.
     suffices ! _ (ends_at 𝓛 (f.ended T) (stayed T) c y v r (tt, (tt, tt)) (tt, (tt, tt))) $
     nothing ! $ nothing ! $ fjoin ! $ nothing ! $ fjoin ! $ join ! $ move ! (1 ∷ 0 ∷ []) $ join ! $

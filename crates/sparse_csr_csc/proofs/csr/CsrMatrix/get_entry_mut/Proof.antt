@@ -1,17 +1,17 @@
--- `get_entry_mut` passes on what `find_mut` lends, as an entry.
-use Rattle.sparse_rows_cols.proofs.Walking.{◌≡◌, refl, sym, ap, ◌∙◌, subst, List, [], ◌∷◌, Val, w64}
-use Rattle.sparse_rows_cols.proofs.Walking.{named, a_type, inst_fn, emp, id⊢, GName, ‵, raw, ◌⊛◌}
-use Rattle.sparse_rows_cols.proofs.Walking.{some, later, ◌$◌, ◌∵◌, !, qed, done, move, drop, use1}
-use Rattle.sparse_rows_cols.proofs.Walking.{split, join, fjoin, pick, await, rewrite, suffices}
-use Rattle.sparse_rows_cols.proofs.Walking.{frame, enter, addr, stop, no_more, and_then, returns}
-use Rattle.sparse_rows_cols.proofs.Walking.{alloc_all, pass_all, free_all, look_at, get, through}
-use Rattle.sparse_rows_cols.proofs.Walking.{sets, lands_as, fact, ◌⊑◌, tables, RattleType, usize}
-use Rattle.sparse_rows_cols.proofs.Walking.{yes, no, Is, shows, param, layouts, param_laws}
-use Rattle.sparse_rows_cols.proofs.Walking.{uint_vals, uint_Tells, mut_vals, mut_Tells, follows_if}
-use Rattle.sparse_rows_cols.proofs.Walking.{plain, named_lft, nothing, heard, peeks, calls_at}
-use Rattle.sparse_rows_cols.proofs.Walking.{Lasts, lasts, alive, on_entry, triple_of, framed, Stays}
-use Rattle.sparse_rows_cols.proofs.Walking.{walk_of, stay_dropped, Goes-dropped, Goes-spent_ref}
-use Rattle.sparse_rows_cols.proofs.Walking.{ends_at, proved, says_two, option_laws, option_row}
+-- Proof by hand: `get_entry_mut` returns the value that `find_mut` borrows mutably, as an entry.
+use Rattle.sparse_rows_cols.proofs.MutBorrowImports.{◌≡◌, refl, sym, ap, ◌∙◌, subst, List, [], ◌∷◌, Val, w64}
+use Rattle.sparse_rows_cols.proofs.MutBorrowImports.{named, a_type, inst_fn, emp, id⊢, GName, ‵, raw, ◌⊛◌}
+use Rattle.sparse_rows_cols.proofs.MutBorrowImports.{some, later, ◌$◌, ◌∵◌, !, qed, done, move, drop, use1}
+use Rattle.sparse_rows_cols.proofs.MutBorrowImports.{split, join, fjoin, pick, await, rewrite, suffices}
+use Rattle.sparse_rows_cols.proofs.MutBorrowImports.{frame, enter, addr, stop, no_more, and_then, returns}
+use Rattle.sparse_rows_cols.proofs.MutBorrowImports.{alloc_all, pass_all, free_all, look_at, get, through}
+use Rattle.sparse_rows_cols.proofs.MutBorrowImports.{sets, lands_as, fact, ◌⊑◌, tables, RattleType, usize}
+use Rattle.sparse_rows_cols.proofs.MutBorrowImports.{yes, no, Is, shows, param, layouts, param_laws}
+use Rattle.sparse_rows_cols.proofs.MutBorrowImports.{uint_vals, uint_Tells, mut_vals, mut_Tells, follows_if}
+use Rattle.sparse_rows_cols.proofs.MutBorrowImports.{plain, named_lft, nothing, heard, peeks, calls_at}
+use Rattle.sparse_rows_cols.proofs.MutBorrowImports.{Lasts, lasts, alive, on_entry, triple_of, framed, Stays}
+use Rattle.sparse_rows_cols.proofs.MutBorrowImports.{walk_of, stay_dropped, Goes-dropped, Goes-spent_ref}
+use Rattle.sparse_rows_cols.proofs.MutBorrowImports.{ends_at, proved, says_two, option_laws, option_row}
 use mathlib.Core.Option as maybe
 use Rattle.sparse_pattern.proofs.entry.Found.TheLaws.{the_row_laws as found_laws}
 use Rattle.sparse_pattern.proofs.entry.SparseEntryMut.TheLaws.{the_row_laws as entry_laws}
@@ -21,7 +21,7 @@ use Rattle.sparse_csr_csc.specs.contracts.csr.CsrMatrix.{the_row as matrix_row}
 use Rattle.sparse_pattern.specs.SparseEntries.{entry_of_found, entry_name, found_name}
 use Rattle.sparse_compressed.specs.Compressed.{IsSound}
 use Rattle.sparse_compressed.specs.Writing.{IsFoundAt, IsEntryMutOf, with_value}
-use Rattle.sparse_compressed.proofs.FoundEntries.{name_is, entry_is, with_fact}
+use Rattle.sparse_compressed.proofs.FoundEntries.{entry_name-found, IsEntryMutOf-found, with_fact}
 use Rattle.sparse_csr_csc.specs.contracts.csr.CsrMatrix.get_entry_mut as f
 use Rattle.sparse_csr_csc.proofs.csr.CsrMatrix.get_entry_mut.Statement.{statement}
 use Rattle.sparse_csr_csc.proofs.csr.CsrMatrix.get_entry_mut.Code as code
@@ -60,7 +60,7 @@ get_entry_mut_spec 𝓤 𝓛 𝓜 𝓡 wired T L =
     let Out = option_row Entry in
     let G = triple_of 𝓛 (g.signature T) (g.spec T 𝓛 𝓜.mem 𝓡.returns) in
     let z : G.Ghost = ((κs, qs, bounds, a, vss), tt) in
-    let Lent = λ (m : maybe.Option GName). follows_if R (param 0 T) a.0.ghost_name m
+    let FollowsIf = λ (m : maybe.Option GName). follows_if R (param 0 T) a.0.ghost_name m
     (with_value a.0.now i j) a.0.now in
     qed 𝓛 (raw (on_entry 𝓛 (f.signature T) κs qs a vss) ∷ (raw (fact 𝓤 within) ⊛ raw (emp 𝓤)) ∷ [])
     ∵ move ! (1 ∷ []) $ split ! $ heard ! _ (λ le. drop ! $
@@ -74,13 +74,13 @@ get_entry_mut_spec 𝓤 𝓛 𝓜 𝓡 wired T L =
     use1 𝓛 (later
     (some (λ (r : Got.Denot). (toks ⊛ ‵ (Got.own_val r (v ∷ []))) ⊛ some
     (λ (ws : Unit {0} × (Unit {0} × (Unit {0} × Unit {0}))). ‵ (lasts (g.ended T) κs a ws) ⊛
-    (‵ (Lent (found_name r)) ⊛ (raw (fact 𝓤 (IsFoundAt a.0.now i j r)) ⊛ raw
+    (‵ (FollowsIf (found_name r)) ⊛ (raw (fact 𝓤 (IsFoundAt a.0.now i j r)) ⊛ raw
     (fact 𝓤 (IsSound a.0.now)))))))) (id⊢ 𝓤 _) $
     await ! tt $ pick ! (λ r. split ! $ split ! $ move ! (1 ∷ []) $ peeks ! Got (Is Got)
     (shows 𝓛 Got) r (v ∷ []) (λ is-got.
     move ! (2 ∷ []) $ pick ! (λ ws. split ! $ drop ! $ split ! $ move ! (1 ∷ []) $ split ! $ heard
     ! _ (λ found. heard ! _ (λ sound.
-    -- [what the matrix follows; what was found; the tokens]
+    -- hypotheses: the matrix follows what was found; what was found; the lifetime tokens
     lands_as ! refl refl
     (((found_laws (named_lft 2 0 tt κs) (param 0 T) (param_laws 0 T L)).lawful 𝓛).typed r (v ∷ [])
     is-got).0 $
@@ -99,7 +99,7 @@ get_entry_mut_spec 𝓤 𝓛 𝓜 𝓡 wired T L =
     await ! tt $ pick ! (λ e. split ! $ split ! $ move ! (1 ∷ []) $ peeks ! Out (Is Out)
     (shows 𝓛 Out) e (u ∷ []) (λ is-out.
     move ! (2 ∷ []) $ pick ! (λ ws'. split ! $ drop ! $ heard ! _ (λ same.
-    -- [the entry; the tokens; what the matrix follows]
+    -- hypotheses: the entry; the lifetime tokens; the matrix follows what was found
     lands_as ! refl refl
     (((option_laws Entry (entry_laws (named_lft 2 0 tt κs) (param 0 T) (param_laws 0 T L))).lawful
     𝓛).typed e (u ∷ []) is-out).0 $
@@ -109,6 +109,6 @@ get_entry_mut_spec 𝓤 𝓛 𝓜 𝓡 wired T L =
     nothing ! $ nothing ! $ fjoin ! $ nothing ! $ fjoin ! $ nothing ! $ fjoin ! $ join ! $ move !
     (1 ∷ 0 ∷ []) $ join ! $ frame ! $
     says_two !
-    (subst (λ o. IsEntryMutOf a.0.now i j o) (sym same) (entry_is a.0.now i j r found), sound) $
-    rewrite ! 0 (λ (m : maybe.Option GName). ‵ (Lent m)) (name_is r ∙ ap entry_name (sym same)) refl
+    (subst (λ o. IsEntryMutOf a.0.now i j o) (sym same) (IsEntryMutOf-found a.0.now i j r found), sound) $
+    rewrite ! 0 (λ (m : maybe.Option GName). ‵ (FollowsIf m)) (entry_name-found r ∙ ap entry_name (sym same)) refl
     $ done !))))))))))))))

@@ -8,8 +8,8 @@ returns-clause-input c = search rules
 pub returns-clause-fill : goal.returns-clause-fill
 returns-clause-fill c = search rules
 
-pub returns-clause-walks : goal.returns-clause-walks
-returns-clause-walks c = search rules
+pub returns-clause-fill_paths : goal.returns-clause-fill_paths
+returns-clause-fill_paths c = search rules
 
 pub returns-clause-diagonal : goal.returns-clause-diagonal
 returns-clause-diagonal c = search rules

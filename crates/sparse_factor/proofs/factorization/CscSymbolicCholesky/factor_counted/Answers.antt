@@ -1,5 +1,5 @@
 use Rattle.sparse_factor.specs.declared.factorization.Triangle.TheVariants.{Upper}
-use Rattle.sparse_factor.proofs.FactorLaws.{stores_fill, stores_walks, stores_diagonal}
+use Rattle.sparse_factor.proofs.FactorLaws.{stores_fill, stores_fill_paths, stores_diagonal}
 use Rattle.sparse_factor.proofs.FactorLaws.{triangle_low}
 use Rattle.sparse_factor.proofs.factorization.CscSymbolicCholesky.factor_counted.Goals as goal
 
@@ -8,9 +8,9 @@ returns-clause-fill c =
     let l = c.in_ok-l_pattern.ensures in
     stores_fill l.places l.valid
 
-pub returns-clause-walks : goal.returns-clause-walks
-returns-clause-walks c =
-    stores_walks (triangle_low Upper c.args.pattern) c.in_ok-l_pattern.ensures.places
+pub returns-clause-fill_paths : goal.returns-clause-fill_paths
+returns-clause-fill_paths c =
+    stores_fill_paths (triangle_low Upper c.args.pattern) c.in_ok-l_pattern.ensures.places
 
 pub returns-clause-diagonal : goal.returns-clause-diagonal
 returns-clause-diagonal c =

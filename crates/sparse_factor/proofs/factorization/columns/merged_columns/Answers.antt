@@ -3,20 +3,20 @@ use Rattle.std.proofs.Common.{◌≡◌, ℕ, ◌+◌, ◌<◌, ◌≤◌, lengt
 use Rattle.std.proofs.Common.{◌≢◌, refl, ap, ◌∙◌, arith}
 use Rattle.std.proofs.lemmas.List.{length-map, length-replicate}
 use Rattle.sparse_pattern.specs.Raw.{Raw, raw_of, start_of, IsValid}
-use Rattle.sparse_pattern.proofs.BuiltLanes.{all_built, place_within}
+use Rattle.sparse_pattern.proofs.BuiltLanes.{all_built, minor_index_below}
 use Rattle.sparse_factor.specs.Fill.{LowerBase, Filled}
 use Rattle.sparse_factor.specs.InnerColumns.{AreRowsBelow}
 use Rattle.sparse_factor.proofs.FillLaws.{low_filled}
-use Rattle.sparse_factor.proofs.HandedOn.{merged_next}
+use Rattle.sparse_factor.proofs.LinkedToParent.{merged_next}
 use Rattle.sparse_factor.proofs.Merged.{none_merged, are_columns, rows_below, filled_within}
 use Rattle.sparse_factor.proofs.Merged.{head_at, zero_at}
-use Rattle.sparse_factor.proofs.MergedSteps.{taken_within}
-use Rattle.sparse_factor.proofs.Taken.{none_taken, taken_later}
+use Rattle.sparse_factor.proofs.CountedMerges.{counted_within_fill}
+use Rattle.sparse_factor.proofs.AddedRows.{none_added, counted_later}
 use Rattle.sparse_factor.proofs.factorization.columns.merged_columns.Goals as goal
 use Rattle.sparse_factor.proofs.factorization.columns.merged_columns.Goals.{After-append_column}
 use Rattle.sparse_factor.proofs.factorization.columns.merged_columns.Goals.{After-deref}
 use Rattle.sparse_factor.proofs.factorization.columns.merged_columns.Answers.ColumnReads.{appended}
-use Rattle.sparse_factor.proofs.factorization.columns.merged_columns.Answers.ColumnReads.{steps_taken}
+use Rattle.sparse_factor.proofs.factorization.columns.merged_columns.Answers.ColumnReads.{steps_counted}
 use Rattle.sparse_factor.proofs.factorization.columns.merged_columns.Answers.ColumnReads.{steps_within}
 
 pub loop-column-init : goal.loop-column-init
@@ -28,7 +28,7 @@ loop-column-init g c =
       merged = rw (c.in_ok-columns.ensures.offsets, c.in_ok-columns.ensures.rows)
           (none_merged (λ i k b. b.1) (λ i k b. omega (
             arith,
-            place_within d c.major_offsets.ensures.valid k i b.0,
+            minor_index_below d c.major_offsets.ensures.valid k i b.0,
             c.major_dim-size.ensures,
             c.requires.square,
           )) (rw c.as_mut_slice-firsts.ensures.value c.in_ok-first_heads.ensures)
@@ -40,7 +40,7 @@ loop-column-init g c =
         length-replicate {A = ℕ} n 0,
       );
       marks = rw c.in_ok-zeros.ensures (λ i. omega (arith, zero_at n i));
-      taken = taken_later 0 (none_taken _ c.args.steps.now)
+      added = counted_later 0 (none_added _ c.args.steps.now)
           (omega (arith, c.major_offsets.ensures.valid.first)) (omega arith);
     }
 
@@ -67,7 +67,7 @@ append_column-requires-clause-first g c =
 
 pub append_column-requires-clause-inside : goal.append_column-requires-clause-inside
 append_column-requires-clause-inside g c =
-    rw (c.take_base.ensures.count, c.loop-column.invariant.count)
+    rw (c.merge_base.ensures.count, c.loop-column.invariant.count)
     (rows_below c.loop-column.invariant.merged)
 
 pub first_below-parent-requires : goal.first_below-parent-requires
@@ -75,11 +75,11 @@ first_below-parent-requires g c =
     let column = appended g (goal.at.first_below-parent-requires g c).After-deref in
     record { rising = column.rising; low = column.low }
 
-pub hand_on-requires-clause-parent : goal.hand_on-requires-clause-parent
-hand_on-requires-clause-parent g c =
+pub link_to_parent-requires-clause-parent : goal.link_to_parent-requires-clause-parent
+link_to_parent-requires-clause-parent g c =
     let l = c.loop-column in
     let p = c.first_below-parent.result in
-    let column = appended g (goal.at.hand_on-requires-clause-parent g c).After-deref in
+    let column = appended g (goal.at.link_to_parent-requires-clause-parent g c).After-deref in
     let inside = λ (some : p ≢ 0). column.within p (c.first_below-parent.ensures.some some).stored in
     let long = length-map l.firsts g.C.Count.number in
     grind (arith, long, l.invariant.merged.first_count, inside, c.loop-column-test.true)
@@ -89,27 +89,27 @@ loop-column-preserved g c =
     let f = g.C.Count.number in
     let at = goal.at.loop-column-preserved g c in
     let first = c.first_below-parent in
-    let handed = c.hand_on.ensures in
+    let linked_column = c.link_to_parent.ensures in
     record {
       merged = merged_next c.loop-column.invariant.merged c.loop-column-test.true
           (appended g at.After-deref) first.result first.ensures.none first.ensures.some
-          (λ e. (ap (map f) (handed.none e).0, ap (map f) (handed.none e).1))
-          handed.firsts handed.nexts;
-      count = c.append_column.ensures.count ∙ c.take_base.ensures.count
+          (λ e. (ap (map f) (linked_column.none e).0, ap (map f) (linked_column.none e).1))
+          linked_column.firsts linked_column.nexts;
+      count = c.append_column.ensures.count ∙ c.merge_base.ensures.count
           ∙ c.loop-column.invariant.count;
       marks = c.append_column.ensures.marks;
-      taken = steps_taken g at.After-append_column;
+      added = steps_counted g at.After-append_column;
     }
 
-pub returns-in_err-take_base-clause-no_more : goal.returns-in_err-take_base-clause-no_more
-returns-in_err-take_base-clause-no_more g c = λ fill all.
+pub returns-in_err-merge_base-clause-no_more : goal.returns-in_err-merge_base-clause-no_more
+returns-in_err-merge_base-clause-no_more g c = λ fill all.
     let l = c.loop-column in
     let lane = c.major_offsets.ensures.valid.lanes l.column
     (omega (arith, c.loop-column-test.true, c.major_dim-size.ensures)) in
     omega (
       arith,
-      c.in_err-take_base.ensures.none,
-      taken_within l.column l.invariant.taken fill all,
+      c.in_err-merge_base.ensures.none,
+      counted_within_fill l.column l.invariant.added fill all,
       lane.ordered,
       lane.inside,
     )
@@ -145,7 +145,7 @@ returns-clause-no_more g c = λ fill all.
     ) in
     omega (
       arith,
-      taken_within l.column l.invariant.taken fill all,
+      counted_within_fill l.column l.invariant.added fill all,
       ap (start_of d) whole,
       c.major_offsets.ensures.valid.last,
     )

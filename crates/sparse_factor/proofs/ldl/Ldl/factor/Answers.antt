@@ -1,6 +1,6 @@
 use Rattle.std.proofs.Common.{ap, ◌∙◌, arith}
 use Rattle.std.proofs.lemmas.Result.{IfOk-from_err, err_from_is_err_and}
-use Rattle.sparse_factor.proofs.JoinedFactors.{only_factors, factors_same, no_factors_same}
+use Rattle.sparse_factor.proofs.UniqueFactors.{only_factors, factors_same, no_factors_same}
 use Rattle.sparse_factor.proofs.ldl.Ldl.factor.Goals as goal
 
 pub factor_on_fill-requires-clause-fill : goal.factor_on_fill-requires-clause-fill

@@ -2,12 +2,12 @@ use Rattle.std.proofs.Common.{◌≡◌, length, drop, ap, sym, subst, ◌∙◌
 use Rattle.std.proofs.Math.Seq.{take-append_seam}
 use Rattle.sparse_compressed.specs.PlainOfLanes.{plain_of_cols}
 use Rattle.sparse_factor.specs.InnerFactors.{ArePartFactors}
-use Rattle.sparse_factor.proofs.ColumnSteps.{column_left, step_done, step_singular}
+use Rattle.sparse_factor.proofs.ColumnSteps.{column_updated, step_done, step_singular}
 use Rattle.sparse_factor.proofs.TransposedRows.{lane_is_row}
 use Rattle.sparse_factor.proofs.ldl.columns.factor_columns.Goals as goal
 
-pub subtract_columns-requires-clause-row : goal.subtract_columns-requires-clause-row
-subtract_columns-requires-clause-row g c =
+pub update_column-requires-clause-row : goal.update_column-requires-clause-row
+update_column-requires-clause-row g c =
     rw (
       c.pattern_and_values_mut-values.ensures.pattern,
       c.major_offsets-starts.ensures.offsets,
@@ -26,10 +26,10 @@ returns-in_default-clause-singular g c = λ m d part.
     let done = c.loop-j.invariant in
     let lt = c.loop-j-test.true in
     let added = c.axpy_csc_col in
-    let left = c.subtract_columns.ensures in
-    let at = column_left done added.ensures.sound
+    let left = c.update_column.ensures in
+    let at = column_updated done added.ensures.sound
     (omega (arith, lt, c.loop-j.auto.inverses, done.count)) added.new.y
-    c.subtract_columns.new.column c.one.ensures added.ensures.added added.auto.y left.rows left.left
+    c.update_column.new.column c.one.ensures added.ensures.added added.auto.y left.rows left.left
     left.above in
     let size = c.requires.rows
     ∙ ap (λ p. p.major_dim) (sym c.pattern_and_values_mut-values.ensures.pattern) in
@@ -43,12 +43,12 @@ loop-j-preserved g c =
     let done = c.loop-j.invariant in
     let lt = c.loop-j-test.true in
     let added = c.axpy_csc_col in
-    let left = c.subtract_columns.ensures in
-    let at = column_left done added.ensures.sound
+    let left = c.update_column.ensures in
+    let at = column_updated done added.ensures.sound
     (omega (arith, lt, c.loop-j.auto.inverses, done.count)) added.new.y
-    c.subtract_columns.new.column c.one.ensures added.ensures.added added.auto.y left.rows left.left
+    c.update_column.new.column c.one.ensures added.ensures.added added.auto.y left.rows left.left
     left.above in
-    step_done at c.index-column-j.is c.in-Some.ensures.inverse c.move_column.ensures.moved
+    step_done at c.index-column-j.is c.in-Some.ensures.inverse c.gather_column.ensures.gathered
     left.cursors left.count
 
 pub returns-clause-factors : goal.returns-clause-factors

@@ -1,7 +1,7 @@
 use Rattle.std.proofs.Common.{ap, sym, ◌∙◌}
 use Rattle.std.proofs.lemmas.Result.{IfErr-weaker}
 use Rattle.sparse_compressed.specs.PlainOfLanes.{plain_of_cols}
-use Rattle.sparse_with_dense.specs.SparseVectors.{elements}
+use Rattle.sparse_dense_ops.specs.SparseVectors.{elements}
 use Rattle.sparse_factor.proofs.FactorsOfFill.{factors_of_part, part_of_factors}
 use Rattle.sparse_factor.proofs.FillPatterns.{fill_pattern, lower_included}
 use Rattle.sparse_factor.proofs.Results.{ok_both}

@@ -1,7 +1,7 @@
 use Rattle.std.proofs.Common.{ap, ◌∙◌}
 use Rattle.std.specs.Prelude.{nat_le}
 use Rattle.sparse_algebra.specs.Plain.{plain_transpose}
-use Rattle.sparse_factor.proofs.FillPatterns.{lower_places}
+use Rattle.sparse_factor.proofs.FillPatterns.{lower_entries}
 use Rattle.sparse_factor.proofs.Results.{ok_both}
 use Rattle.sparse_factor.proofs.ldl.numeric.lower_triangle.Goals as goal
 
@@ -22,6 +22,6 @@ returns-clause-places g c =
     let upper = c.in_ok-upper_triangle.ensures in
     let kept = c.kept_cols_law.ensures (λ i j. nat_le i j) a u upper.sizes upper.kept in
     ok_both _ _ _ _
-    (λ t transposed _. lower_places g.T.Ring.ring g.T.Ring.value a u c.values.ensures.sound
+    (λ t transposed _. lower_entries g.T.Ring.ring g.T.Ring.value a u c.values.ensures.sound
     upper.sound kept t transposed.pattern) c.transpose-2.ensures.transposed
     c.transpose-2.ensures.sound

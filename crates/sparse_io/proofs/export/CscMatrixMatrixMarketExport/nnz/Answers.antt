@@ -1,7 +1,7 @@
 use Rattle.std.proofs.Common.{sym, ◌∙◌}
 use Rattle.std.proofs.lemmas.List.{length-map}
 use Rattle.sparse_compressed.specs.Compressed.{transposed}
-use Rattle.sparse_compressed.proofs.Inside.{length-lane_triplets}
+use Rattle.sparse_compressed.proofs.TripletBounds.{length-lane_triplets}
 use Rattle.sparse_io.proofs.export.CscMatrixMatrixMarketExport.nnz.Goals as goal
 
 pub returns : goal.returns

@@ -1,4 +1,4 @@
-use Rattle.sparse_compressed.proofs.Inside.{lane_triplets-inside}
+use Rattle.sparse_compressed.proofs.TripletBounds.{lane_triplets-inside}
 use Rattle.sparse_io.proofs.Transposed.{transposed-inside}
 use Rattle.sparse_io.proofs.export.CscMatrixMatrixMarketExport.triplet_iter.Goals as goal
 

@@ -1,5 +1,5 @@
 use Rattle.std.proofs.Common.{sym, ◌∙◌}
-use Rattle.sparse_compressed.proofs.Inside.{length-lane_triplets}
+use Rattle.sparse_compressed.proofs.TripletBounds.{length-lane_triplets}
 use Rattle.sparse_io.proofs.export.CsrMatrixMatrixMarketExport.nnz.Goals as goal
 
 pub returns : goal.returns

@@ -11,7 +11,7 @@ use Rattle.sparse_io.proofs.writer.indices.format_indices.Goals as goal
 abbrev field : ℕ → List ℕ → List ℕ
 field number after = decimal number ++ 32 ∷ after
 
--- the rest of the bytes, from where the second field starts
+-- both fields, from the offset at which the first one starts
 fields : (old mid new : List ℕ) (row col end start : ℕ) → length old ≡ 42 → length new ≡ 42
     → drop end mid ≡ field col (drop 42 old)
     → drop start new ≡ field row (drop end mid) → take (42 - start) (drop start new) ≡ field row

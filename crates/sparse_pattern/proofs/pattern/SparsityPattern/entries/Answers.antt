@@ -1,7 +1,7 @@
 use Rattle.std.proofs.Common.{arith, subst}
 use Rattle.std.proofs.lemmas.Grind.{common_steps}
 use Rattle.sparse_pattern.specs.Raw.{IsValid}
-use Rattle.sparse_pattern.proofs.LaneOrder.{length-entries, entries_are_places}
+use Rattle.sparse_pattern.proofs.LaneOrder.{length-entries, Contains-entries_of}
 use Rattle.sparse_pattern.proofs.EntryOrder.{entries_rise}
 use Rattle.sparse_pattern.proofs.pattern.SparsityPattern.entries.Goals as goal
 
@@ -14,7 +14,7 @@ returns-clause-count c = rw (returns-clause-all c)
 
 pub returns-clause-places : goal.returns-clause-places
 returns-clause-places c i j = rw (returns-clause-all c)
-    (entries_are_places c.args.self.now (subst IsValid c.self.view_is c.self.invariant) i j)
+    (Contains-entries_of c.args.self.now (subst IsValid c.self.view_is c.self.invariant) i j)
 
 pub returns-clause-rising : goal.returns-clause-rising
 returns-clause-rising c = rw (returns-clause-all c)

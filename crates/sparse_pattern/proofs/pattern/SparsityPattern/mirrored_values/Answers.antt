@@ -1,6 +1,6 @@
 use Rattle.std.proofs.Common.{◌≡◌, ap, arith, ◌∙◌}
 use Rattle.sparse_pattern.specs.Raw.{start_of}
-use Rattle.sparse_pattern.proofs.MirroredPlaces.{own_transpose, moved_values}
+use Rattle.sparse_pattern.proofs.MirroredEntries.{own_transpose, moved_values}
 use Rattle.sparse_pattern.proofs.pattern.SparsityPattern.mirrored_values.Goals as goal
 
 pub returns-clause-places : goal.returns-clause-places

@@ -1,6 +1,6 @@
 use Rattle.std.proofs.Common.{rules, subst}
 use Rattle.sparse_pattern.specs.Raw.{IsValid}
-use Rattle.sparse_pattern.proofs.SamePlaces.{places_decide}
+use Rattle.sparse_pattern.proofs.SameEntries.{raw_eq-HasSameEntries}
 use Rattle.sparse_pattern.proofs.pattern.SparsityPatternPartialEq.eq.Goals as goal
 
 pub returns-then-eq-clause-value : goal.returns-then-eq-clause-value
@@ -8,7 +8,7 @@ returns-then-eq-clause-value c = search rules
 
 pub returns-then-eq-clause-places : goal.returns-then-eq-clause-places
 returns-then-eq-clause-places c =
-    places_decide _ _ (subst IsValid c.self.view_is c.self.invariant)
+    raw_eq-HasSameEntries _ _ (subst IsValid c.self.view_is c.self.invariant)
     (subst IsValid c.other.view_is c.other.invariant) _ (returns-then-eq-clause-value c)
 
 pub returns-else-eq-clause-value : goal.returns-else-eq-clause-value
@@ -16,5 +16,5 @@ returns-else-eq-clause-value c = search rules
 
 pub returns-else-eq-clause-places : goal.returns-else-eq-clause-places
 returns-else-eq-clause-places c =
-    places_decide _ _ (subst IsValid c.self.view_is c.self.invariant)
+    raw_eq-HasSameEntries _ _ (subst IsValid c.self.view_is c.self.invariant)
     (subst IsValid c.other.view_is c.other.invariant) _ (returns-else-eq-clause-value c)

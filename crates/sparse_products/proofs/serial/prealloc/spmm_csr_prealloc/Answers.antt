@@ -9,7 +9,7 @@ use Rattle.sparse_products.proofs.serial.prealloc.spmm_csr_prealloc.Goals as goa
 pub update_checked-requires : goal.update_checked-requires
 update_checked-requires g c =
     let target = c.pattern_and_values_mut-values.ensures in
-    let update = update_of c.factors.result c.factors.ensures c.in_ok-operands.ensures.product
+    let update = update_of c.matrices.result c.matrices.ensures c.in_ok-operands.ensures.product
     target.pattern target.values c.values.ensures.sound c.requires.rows c.requires.cols in
     update.sizes
 
@@ -17,7 +17,7 @@ pub returns : goal.returns
 returns g c =
     let f = g.T.Ring.value in
     let target = c.pattern_and_values_mut-values.ensures in
-    let update = update_of c.factors.result c.factors.ensures c.in_ok-operands.ensures.product
+    let update = update_of c.matrices.result c.matrices.ensures c.in_ok-operands.ensures.product
     target.pattern target.values c.values.ensures.sound c.requires.rows c.requires.cols in
     let is = c.update_checked.ensures in
     record {

@@ -6,13 +6,13 @@ use Rattle.sparse_compressed.specs.Compressed.{IsSound, compressed_of}
 use Rattle.sparse_compressed.specs.PlainOfLanes.{plain_of_rows}
 use Rattle.sparse_products.specs.InnerUpdates.{CanUpdate}
 use Rattle.sparse_products.specs.Products.{IsProductOf}
-use Rattle.sparse_products.proofs.MadeProducts.{has_places, product_made}
+use Rattle.sparse_products.proofs.ZeroUpdates.{contains_product, update_with_zero_beta}
 use Rattle.sparse_products.proofs.Updating.{covered_is}
 use Rattle.sparse_products.proofs.serial.product.multiply_wide.Goals as goal
 
 pub update_covered-requires : goal.update_covered-requires
 update_covered-requires g c =
-    let x = c.args.factors in
+    let x = c.args.matrices in
     let d = c.in_ok-pattern.pattern in
     let places : IsProductOf d x.a.now.pattern x.b.now.pattern =
     rw (c.pattern.ensures.pattern, c.pattern-2.ensures.pattern) at
@@ -29,14 +29,14 @@ update_covered-requires g c =
           ∙ ap (λ (d : Raw). d.minor_dim) c.pattern-2.ensures.pattern);
       covered = (covered_is g.T.Ring.ring g.T.Ring.value sizes c.pattern.ensures.sound
           c.pattern-2.ensures.sound c.in_ok-pattern.ensures.valid).0
-          (has_places d x.a.now.pattern x.b.now.pattern places);
+          (contains_product d x.a.now.pattern x.b.now.pattern places);
     }
 
 pub returns : goal.returns
 returns g c =
     let R = g.T.Ring.ring in
     let f = g.T.Ring.value in
-    let x = c.args.factors in
+    let x = c.args.matrices in
     let d = c.in_ok-pattern.pattern in
     let places : IsProductOf d x.a.now.pattern x.b.now.pattern =
     rw (c.pattern.ensures.pattern, c.pattern-2.ensures.pattern) at
@@ -50,10 +50,10 @@ returns g c =
     ap (plain_of_rows R f) (c.from_pattern_and_values.ensures.is
     ∙ ap (compressed_of d) (take_at c.update_covered.new.values _ _ long))
     ∙ c.in_ok-update_covered.ensures.updated
-    ∙ product_made R f c.pattern.ensures.sound c.pattern-2.ensures.sound c.requires sound
+    ∙ update_with_zero_beta R f c.pattern.ensures.sound c.pattern-2.ensures.sound c.requires sound
     (c.in_ok-pattern.ensures.major ∙ ap (λ (d : Raw). d.major_dim) c.pattern.ensures.pattern)
     (c.in_ok-pattern.ensures.minor ∙ ap (λ (d : Raw). d.minor_dim) c.pattern-2.ensures.pattern)
-    places (f c.zero-2.result) (f c.one.result) (ap f c.zero-2.ensures ∙ g.met.T.Ring.zero_law)
+    places (f c.zero-2.result) (f c.one.result) (ap f c.zero-2.ensures ∙ g.members.T.Ring.zero_law)
     c.one.ensures
 
 -- ---- written by tools/answer-goals

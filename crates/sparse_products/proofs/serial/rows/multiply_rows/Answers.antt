@@ -1,7 +1,7 @@
 use Rattle.std.proofs.Common.{◌≡◌, ◌<◌, length, get_or, ap, subst, ◌∙◌, arith}
 use Rattle.std.proofs.lemmas.List.{take_at}
 use Rattle.sparse_pattern.specs.Raw.{Raw}
-use Rattle.sparse_products.specs.InnerLaneSets.{IsEmptyLaneSet}
+use Rattle.sparse_products.specs.InnerIndexSets.{IsEmptyIndexSet}
 use Rattle.sparse_sums.proofs.BuiltSums.{none_built}
 use Rattle.sparse_products.proofs.ProductRows.{row_more, product_sound, product_is}
 use Rattle.sparse_products.proofs.serial.rows.multiply_rows.Goals as goal
@@ -10,7 +10,7 @@ pub loop-i-init : goal.loop-i-init
 loop-i-init g c =
     let width_is = ap (λ (d : Raw). d.minor_dim) c.pattern-second.ensures.pattern in
     record {
-      empty = subst (λ n. IsEmptyLaneSet n c.guess_places.new.set) width_is
+      empty = subst (λ n. IsEmptyIndexSet n c.estimate_nnz.new.set) width_is
           c.in_ok-room.ensures;
       width = c.in_ok-row.ensures.width ∙ c.minor_dim-2.ensures ∙ width_is;
       zero = c.in_ok-row.ensures.zero;
@@ -27,7 +27,7 @@ loop-i-preserved g c =
     let z = g.T.Zero.zero_value in
     let lanes = c.major_dim-i-end.ensures
     ∙ ap (λ (d : Raw). d.major_dim) c.pattern-first.ensures.pattern in
-    let lt : c.loop-i.i < c.args.factors.a.now.pattern.major_dim =
+    let lt : c.loop-i.i < c.args.matrices.a.now.pattern.major_dim =
     omega (arith, c.loop-i-test.true, lanes) in
     let left = c.push_row.new.row in
     let long : length left ≡ c.loop-i.row.len = c.push_row.auto.row ∙ c.deref_mut.ensures.len in
@@ -45,7 +45,7 @@ pub into_matrix-requires : goal.into_matrix-requires
 into_matrix-requires g c =
     let first_is = c.pattern-first.ensures.pattern in
     let lanes = c.major_dim-i-end.ensures ∙ ap (λ (d : Raw). d.major_dim) first_is in
-    let whole : c.loop-i.i ≡ c.args.factors.a.now.pattern.major_dim =
+    let whole : c.loop-i.i ≡ c.args.matrices.a.now.pattern.major_dim =
     omega (arith, c.loop-i-test.false, c.loop-i.auto.i-end, lanes) in
     rw (c.major_dim-2.ensures, c.minor_dim-3.ensures, first_is, c.pattern-second.ensures.pattern)
     (product_sound g.T.Ring.ring g.T.Ring.value c.pattern-first.ensures.sound
@@ -55,7 +55,7 @@ pub returns : goal.returns
 returns g c =
     let first_is = c.pattern-first.ensures.pattern in
     let lanes = c.major_dim-i-end.ensures ∙ ap (λ (d : Raw). d.major_dim) first_is in
-    let whole : c.loop-i.i ≡ c.args.factors.a.now.pattern.major_dim =
+    let whole : c.loop-i.i ≡ c.args.matrices.a.now.pattern.major_dim =
     omega (arith, c.loop-i-test.false, c.loop-i.auto.i-end, lanes) in
     rw (
       c.into_matrix.ensures,

@@ -7,16 +7,16 @@ use Rattle.sparse_pattern.specs.InnerGainedLanes.{GainsLane}
 use Rattle.sparse_products.specs.InnerProducts.{IsInRow}
 use Rattle.sparse_sums.proofs.GainedLanes.{gains_same}
 use Rattle.sparse_products.proofs.LaneParts.{tail_is}
-use Rattle.sparse_products.specs.InnerFactors.{product_of}
+use Rattle.sparse_products.specs.InnerOperands.{product_of}
 use Rattle.sparse_products.proofs.ProductRows.{zero_off}
-use Rattle.sparse_products.proofs.TakenRows.{left_zero, values_taken}
+use Rattle.sparse_products.proofs.ExtractedRows.{left_zero, values_extracted}
 use Rattle.sparse_products.proofs.serial.rows.push_row.Goals as goal
 
-pub push_taken-requires : goal.push_taken-requires
-push_taken-requires g c =
+pub extract_values-requires : goal.extract_values-requires
+extract_values-requires g c =
     let old = c.args.rows.now.indices.items in
-    let gains : GainsLane old c.drain_into.new.indices.items (IsInRow c.args.factors c.args.i) =
-    gains_same c.add_row.ensures.met c.in_ok-drain_into.ensures.pushed in
+    let gains : GainsLane old c.drain_into.new.indices.items (IsInRow c.args.matrices c.args.i) =
+    gains_same c.add_row.ensures.members c.in_ok-drain_into.ensures.pushed in
     let begin : length old ≡ c.len-begin.result =
     omega (arith, c.len-begin.ensures, c.args.rows.now.indices.ok.0) in
     let tail = tail_is c.deref.result.now old gains.lane c.len-begin.result begin
@@ -40,33 +40,33 @@ returns g c =
     let sa = c.values.ensures.sound in
     let sb = c.values-2.ensures.sound in
     let i = c.args.i in
-    let x = (product_of R f c.args.factors).value i in
+    let x = (product_of R f c.args.matrices).value i in
     let row = c.add_row.new.row in
     let is_row : (j : ℕ) → j < length row → f (get_or row j z) ≡ x j = λ j lt.
     c.add_row.ensures.added j (omega (arith, lt, c.add_row.auto.row)) in
     let old = c.args.rows.now.indices.items in
-    let gains : GainsLane old c.drain_into.new.indices.items (IsInRow c.args.factors i) =
-    gains_same c.add_row.ensures.met c.in_ok-drain_into.ensures.pushed in
+    let gains : GainsLane old c.drain_into.new.indices.items (IsInRow c.args.matrices i) =
+    gains_same c.add_row.ensures.members c.in_ok-drain_into.ensures.pushed in
     let begin : length old ≡ c.len-begin.result =
     omega (arith, c.len-begin.ensures, c.args.rows.now.indices.ok.0) in
     let tail = tail_is c.deref.result.now old gains.lane c.len-begin.result begin
     (c.deref.ensures.value ∙ gains.pushed) in
     let lane : drop (length old) c.drain_into.new.indices.items ≡ gains.lane =
     ap (λ l. drop (length old) l) gains.pushed ∙ drop_at old gains.lane (length old) refl in
-    let taken = rw tail at c.push_taken.ensures.taken in
-    let pushed = rw (tail, c.in_ok-reserve.ensures.items) at c.push_taken.ensures.pushed in
+    let extracted = rw tail at c.extract_values.ensures.extracted in
+    let pushed = rw (tail, c.in_ok-reserve.ensures.items) at c.extract_values.ensures.pushed in
     record {
       empty = record {
         room = λ j lt. c.in_ok-drain_into.ensures.room j
             (c.add_row.ensures.room j (c.requires.empty.room j lt));
         empty = c.in_ok-drain_into.ensures.empty;
       };
-      zero = left_zero R f x g.met.T.Ring.zero_law (zero_off R f sa sb c.requires.inner i
-          c.requires.lane gains.lane (λ j. (gains.holds j).1)) is_row taken;
+      zero = left_zero R f x g.members.T.Ring.zero_law (zero_off R f sa sb c.requires.inner i
+          c.requires.lane gains.lane (λ j. (gains.holds j).1)) is_row extracted;
       lane = gains;
       offset = c.in_ok-push.ensures.items ∙ ap (λ n. c.args.rows.now.offsets.items ++ n ∷ [])
           (c.len.ensures ∙ c.drain_into.new.indices.ok.0);
-      values = rw lane (values_taken row pushed (λ q lt. is_row (get_or gains.lane q 0)
+      values = rw lane (values_extracted row pushed (λ q lt. is_row (get_or gains.lane q 0)
           (omega (
             arith,
             c.add_row.ensures.bounded (get_or gains.lane q 0)

@@ -1,8 +1,8 @@
 use Rattle.std.proofs.Common.{◌≡◌, ◌<◌, inl, inr, length, get_or, set, ap, sym, subst, ◌∙◌, arith}
 use Rattle.std.proofs.lemmas.List.{get_or-set_same, get_or-set_other, get_or_default, take_all}
 use Rattle.sparse_algebra.proofs.Cases.{lt_add_one_cases}
-use Rattle.sparse_products.specs.InnerProducts.{IsTaken}
-use Rattle.sparse_products.proofs.TakenRows.{taken_more, not_before}
+use Rattle.sparse_products.specs.InnerProducts.{IsExtracted}
+use Rattle.sparse_products.proofs.ExtractedRows.{extracted_more, not_before}
 use Rattle.sparse_products.proofs.serial.scatter.gather_row.Goals as goal
 
 pub loop-at-preserved : goal.loop-at-preserved
@@ -27,7 +27,7 @@ loop-at-preserved g c =
     ∙ get_or_default values at c.index-values-at.result z at_lt ∙ inv.others at (omega arith) in
     let read : c.index-row-j.result ≡ get_or start j z = c.index-row-j.is
     ∙ get_or_default row j c.index-row-j.result z j_lt
-    ∙ inv.taken.kept j (not_before js at c.requires.rising inside) in
+    ∙ inv.extracted.kept j (not_before js at c.requires.rising inside) in
     c.add.ensures ∙ ap (λ x. R.add x (f c.index-row-j.result))
     (c.mul.ensures ∙ ap (λ x. R.mul (f c.args.beta) (f x)) old)
     ∙ ap (λ x. R.add (R.mul (f c.args.beta) (f (get_or c.args.values.now at z))) (f x)) read in
@@ -41,7 +41,7 @@ loop-at-preserved g c =
             (f (get_or start (get_or js p 0) z))) (sym here)
       ];
       others = λ p le. get_or-set_other values at p w z (omega arith) ∙ inv.others p (omega arith);
-      taken = taken_more js at inside j_lt inv.taken;
+      extracted = extracted_more js at inside j_lt inv.extracted;
       counted = omega (arith, inv.counted, c.tick.ensures);
     }
 
@@ -52,7 +52,7 @@ returns g c =
     let whole : c.loop-at.at ≡ length js = omega arith in
     record {
       gathered = λ k lt. inv.gathered k (omega (arith, whole));
-      taken = subst (λ l. IsTaken g.T.Zero.zero_value l c.args.row.now c.loop-at.row)
-          (take_all c.loop-at.at js (omega (arith, whole))) inv.taken;
+      extracted = subst (λ l. IsExtracted g.T.Zero.zero_value l c.args.row.now c.loop-at.row)
+          (take_all c.loop-at.at js (omega (arith, whole))) inv.extracted;
       counted = omega (arith, inv.counted, whole);
     }

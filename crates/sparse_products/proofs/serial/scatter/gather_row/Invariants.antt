@@ -1,5 +1,5 @@
 use Rattle.std.proofs.Common.{◌≡◌, ◌+◌, ◌<◌, ◌≤◌, ℕ, take, get_or}
-use Rattle.sparse_products.specs.InnerProducts.{IsTaken}
+use Rattle.sparse_products.specs.InnerProducts.{IsExtracted}
 use Rattle.sparse_products.proofs.serial.scatter.gather_row.Given as goal
 
 abbrev pub invariant-loop-at : goal.invariant-loop-at
@@ -12,6 +12,6 @@ invariant-loop-at g l =
           (R.mul (f l.beta) (f (get_or l.initial.values p z)))
           (f (get_or l.initial.row (get_or l.indices p 0) z));
       others : (p : ℕ) → l.at ≤ p → get_or l.values p z ≡ get_or l.initial.values p z;
-      taken : IsTaken z (take l.at l.indices) l.initial.row l.row;
+      extracted : IsExtracted z (take l.at l.indices) l.initial.row l.row;
       counted : l.steps ≡ l.initial.steps + l.at;
     }

@@ -5,25 +5,25 @@ use borrow.Rule.Slice.PartMut.{mid_len}
 use Rattle.std.proofs.lemmas.List.Edits.{get_or-between}
 use Rattle.sparse_algebra.proofs.RingLemmas.{zero_add, mul_zero}
 use Rattle.sparse_pattern.specs.Raw.{start_of, end_of, lane_of}
-use Rattle.sparse_pattern.proofs.BuiltLanes.{place_within}
+use Rattle.sparse_pattern.proofs.BuiltLanes.{minor_index_below}
 use Rattle.sparse_pattern.proofs.LaneLists.{lane_has}
 use Rattle.sparse_pattern.proofs.PatternLanes.{length-lane}
 use Rattle.sparse_compressed.proofs.LaneSearch.{rising_lane}
-use Rattle.sparse_products.specs.InnerFactors.{product_of}
-use Rattle.sparse_sums.proofs.UpdatedLanes.{at_position, off_lane}
+use Rattle.sparse_products.specs.InnerOperands.{product_of}
+use Rattle.sparse_sums.proofs.UpdatedLanes.{at_offset, off_lane}
 use Rattle.sparse_products.proofs.LaneParts.{in_part, off_part}
 use Rattle.sparse_products.proofs.ProductLanes.{lane_below}
 use Rattle.sparse_products.proofs.ProductRows.{zero_off}
-use Rattle.sparse_products.proofs.TakenRows.{left_zero}
+use Rattle.sparse_products.proofs.ExtractedRows.{left_zero}
 use Rattle.sparse_products.proofs.serial.scatter.scatter_row.Goals as goal
 
-pub add_product_row-requires-clause-slots : goal.add_product_row-requires-clause-slots
-add_product_row-requires-clause-slots g c = λ j h. (
+pub add_product_row-requires-clause-row_sums : goal.add_product_row-requires-clause-row_sums
+add_product_row-requires-clause-row_sums g c = λ j h. (
   j,
   refl,
   omega (
     arith,
-    place_within c.args.update.now.factors.b.now.pattern c.values-2.ensures.sound.valid h.0 j h.2,
+    minor_index_below c.args.update.now.matrices.b.now.pattern c.values-2.ensures.sound.valid h.0 j h.2,
     c.requires.cols,
     c.requires.width,
   ),
@@ -73,11 +73,11 @@ returns g c =
       in_lane.ordered,
       ap (λ xs. get_or xs (i + 1) 0) offsets_are,
     ))) in
-    let a_lane : i < c.args.update.now.factors.a.now.pattern.major_dim =
+    let a_lane : i < c.args.update.now.matrices.a.now.pattern.major_dim =
     omega (arith, c.requires.lane, c.requires.sizes.lanes) in
     let sa = c.values.ensures.sound in
     let sb = c.values-2.ensures.sound in
-    let x = (product_of R f c.args.update.now.factors).value in
+    let x = (product_of R f c.args.update.now.matrices).value in
     let alpha = f c.args.update.now.alpha in
     let row = c.add_product_row.new.target in
     let is_row : (j : ℕ) → j < length row → f (get_or row j z) ≡ R.mul alpha (x i j) = λ j lt.
@@ -86,16 +86,16 @@ returns g c =
     ∙ ap (λ y. R.add y (R.mul alpha (x i j))) (c.requires.zero j)
     ∙ zero_add R (R.mul alpha (x i j)) in
     let gathered = rw (offsets_are, c.lane.ensures) at c.gather_row.ensures.gathered in
-    let taken = rw c.lane.ensures at c.gather_row.ensures.taken in
+    let extracted = rw c.lane.ensures at c.gather_row.ensures.extracted in
     let counted = rw c.lane.ensures at c.gather_row.ensures.counted in
     rw offsets_are record {
-      zero = left_zero R f (λ j. R.mul alpha (x i j)) g.met.T.Ring.zero_law
+      zero = left_zero R f (λ j. R.mul alpha (x i j)) g.members.T.Ring.zero_law
           (λ j none. ap (R.mul alpha) (zero_off R f sa sb c.requires.sizes.inner i a_lane
           (lane_of d i) (λ j h. (lane_has d valid i j c.requires.lane).1 (c.requires.places j h))
           j none)
-          ∙ mul_zero R alpha) is_row taken;
+          ∙ mul_zero R alpha) is_row extracted;
       updated = λ j p at.
-          let q = at_position d i j p in_lane at in
+          let q = at_offset d i j p in_lane at in
           let was : get_or (slice_range old s (end_of d i)) (p - s) z ≡ get_or old p z =
           get_or-between old s (end_of d i) (p - s) z (omega (arith, q.back, at.0.to))
           ∙ ap (λ p. get_or old p z) q.back in

@@ -10,12 +10,12 @@ use Rattle.sparse_products.proofs.serial.scatter.scatter_rows.Goals as goal
 pub scatter_row-requires-clause-places : goal.scatter_row-requires-clause-places
 scatter_row-requires-clause-places g c = λ j h.
     let i = c.loop-i.i in
-    c.requires.places i j h.0 ((lane_has c.args.update.factors.a.now.pattern
+    c.requires.places i j h.0 ((lane_has c.args.update.matrices.a.now.pattern
     c.values.ensures.sound.valid i h.0 (omega (arith, c.requires.sizes.lanes))).0 h.1) h.2
 
 pub loop-i-init : goal.loop-i-init
 loop-i-init g c =
-    let x = c.args.update.factors in
+    let x = c.args.update.matrices in
     record {
       width = omega (arith, c.in_ok-row.ensures.width, c.minor_dim.ensures);
       zero = c.in_ok-row.ensures.zero;
@@ -56,7 +56,7 @@ returns-clause-updated g c =
 
 pub returns-clause-counted : goal.returns-clause-counted
 returns-clause-counted g c =
-    let x = c.args.update.factors in
+    let x = c.args.update.matrices in
     let d = c.args.pattern.now in
     let i_is : c.loop-i.i ≡ d.major_dim =
     omega (arith, c.loop-i-test.false, c.loop-i.auto.i-end) in

@@ -1,6 +1,6 @@
 use Rattle.std.proofs.Common.{◌≡◌, ◌+◌, vec_len}
 use Rattle.sparse_pattern.specs.Raw.{start_of}
-use Rattle.sparse_products.specs.InnerFactors.{product_of}
+use Rattle.sparse_products.specs.InnerOperands.{product_of}
 use Rattle.sparse_products.specs.InnerProducts.{IsZeroRow}
 use Rattle.sparse_products.specs.InnerUpdates.{steps_below}
 use Rattle.sparse_sums.proofs.UpdatedLanes.{HasUpdatedLanes}
@@ -16,8 +16,8 @@ invariant-loop-i g l =
       width : vec_len l.row ≡ l.pattern.minor_dim;
       zero : IsZeroRow R f z l.row.items;
       rows : HasUpdatedLanes R f z l.pattern (λ c. R.mul (f u.beta) (f c)) (f u.alpha)
-          (product_of R f u.factors).value l.initial.values l.values l.i;
-      counted : l.steps ≡ l.initial.steps + steps_below l.i u.factors.a.now.pattern
-          u.factors.b.now.pattern
+          (product_of R f u.matrices).value l.initial.values l.values l.i;
+      counted : l.steps ≡ l.initial.steps + steps_below l.i u.matrices.a.now.pattern
+          u.matrices.b.now.pattern
           + start_of l.pattern l.i;
     }

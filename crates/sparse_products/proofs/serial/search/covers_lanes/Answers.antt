@@ -1,13 +1,13 @@
 use Rattle.std.proofs.Common.{ℕ, get_or, refl, subst, Contains}
 use Rattle.std.proofs.lemmas.List.{take_all}
 use Rattle.std.proofs.lemmas.List.Elements.{Contains-get_or}
-use Rattle.sparse_pattern.specs.Raw.{IsPlace}
+use Rattle.sparse_pattern.specs.Raw.{IsEntry}
 use Rattle.sparse_products.proofs.CoveredLanes.{element_more}
 use Rattle.sparse_products.proofs.serial.search.covers_lanes.Goals as goal
 
 pub loop-k-preserved : goal.loop-k-preserved
 loop-k-preserved c = element_more
-    (λ k. (j : ℕ) → IsPlace c.args.b.now k j → IsPlace c.args.pattern.now c.args.i j)
+    (λ k. (j : ℕ) → IsEntry c.args.b.now k j → IsEntry c.args.pattern.now c.args.i j)
     c.args.lanes.now c.loop-k.k-index c.loop-k-test.true
     (c.covers_lane.ensures.0 c.if-not-covers_lane.false) c.loop-k.invariant
 
@@ -22,7 +22,7 @@ returns-then-not-covers_lane c =
 
 pub returns : goal.returns
 returns c =
-    let all = subst (λ xs. (k : ℕ) → Contains xs k → (j : ℕ) → IsPlace c.args.b.now k j
-    → IsPlace c.args.pattern.now c.args.i j)
+    let all = subst (λ xs. (k : ℕ) → Contains xs k → (j : ℕ) → IsEntry c.args.b.now k j
+    → IsEntry c.args.pattern.now c.args.i j)
     (take_all c.loop-k.k-index c.args.lanes.now c.loop-k-test.false) c.loop-k.invariant in
     (λ _ j h. all h.0 h.1 j h.2, λ _. refl)

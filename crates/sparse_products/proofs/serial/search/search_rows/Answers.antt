@@ -1,26 +1,26 @@
 use Rattle.std.proofs.Common.{◌≡◌, ◌<◌, length, ◌∙◌, ap, arith}
-use Rattle.sparse_compressed.proofs.Arrays.{position_within}
-use Rattle.sparse_products.specs.InnerFactors.{product_of}
-use Rattle.sparse_products.proofs.CoveredLanes.{places_of_product}
+use Rattle.sparse_compressed.proofs.Arrays.{offset_within}
+use Rattle.sparse_products.specs.InnerOperands.{product_of}
+use Rattle.sparse_products.proofs.CoveredLanes.{lanes_of_product}
 use Rattle.sparse_products.proofs.ProductSums.{all_steps, no_steps}
 use Rattle.sparse_sums.proofs.UpdatedLanes.{lanes_more, lanes_none}
 use Rattle.sparse_products.proofs.Updating.{updated_is}
 use Rattle.sparse_products.proofs.serial.search.search_rows.Goals as goal
 
-pub add_product_row-requires-clause-slots : goal.add_product_row-requires-clause-slots
-add_product_row-requires-clause-slots g c = λ j h.
+pub add_product_row-requires-clause-row_sums : goal.add_product_row-requires-clause-row_sums
+add_product_row-requires-clause-row_sums g c = λ j h.
     let d = c.args.pattern.now in
     let i = c.loop-i.i in
-    let x = c.args.update.factors in
+    let x = c.args.update.matrices in
     let valid = c.major_offsets.ensures.valid in
     let lane : i < x.a.now.pattern.major_dim = omega (arith, c.requires.sizes.lanes) in
-    let place = places_of_product d x.a.now.pattern x.b.now.pattern
+    let place = lanes_of_product d x.a.now.pattern x.b.now.pattern
     c.values.ensures.sound.valid c.requires.places i lane j h in (
       place.at,
       (valid, (place.in_lane, place.index)),
       omega (
         arith,
-        position_within d valid i j place.at (place.in_lane, place.index),
+        offset_within d valid i j place.at (place.in_lane, place.index),
         c.requires.sizes.count,
         c.loop-i.auto.values,
       ),
@@ -28,7 +28,7 @@ add_product_row-requires-clause-slots g c = λ j h.
 
 pub loop-i-init : goal.loop-i-init
 loop-i-init g c =
-    let x = c.args.update.factors in
+    let x = c.args.update.matrices in
     record {
       rows = lanes_none;
       counted = omega (
@@ -49,7 +49,7 @@ loop-i-preserved g c =
           (λ p none. row.added.others p (λ j at. none at.1.0))
           (λ j p at. row.added.added j p (valid, at) (omega (
             arith,
-            position_within d valid i j p at,
+            offset_within d valid i j p at,
             c.requires.sizes.count,
             c.loop-i.auto.values,
           )));
@@ -67,14 +67,14 @@ returns-clause-updated g c =
     g.T.Zero.zero_value (f u.beta) (f u.alpha) c.loop-i.values
     (c.loop-i.auto.values ∙ c.scale_values.auto.values) c.requires.places (λ i j p at.
     let within : p < length c.args.values.now =
-    omega (arith, position_within d valid i j p at, c.requires.sizes.count) in
+    omega (arith, offset_within d valid i j p at, c.requires.sizes.count) in
     c.loop-i.invariant.rows.updated i j p (omega (arith, at.0.lane)) at
-    ∙ ap (λ y. R.add y (R.mul (f u.alpha) ((product_of R f u.factors).value i j)))
+    ∙ ap (λ y. R.add y (R.mul (f u.alpha) ((product_of R f u.matrices).value i j)))
     (c.scale_values.ensures.scaled.each p within))
 
 pub returns-clause-counted : goal.returns-clause-counted
 returns-clause-counted g c =
-    let x = c.args.update.factors in
+    let x = c.args.update.matrices in
     let whole : c.loop-i.i ≡ x.a.now.pattern.major_dim = omega (
       arith,
       c.loop-i-test.false,

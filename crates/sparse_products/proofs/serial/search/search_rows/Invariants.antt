@@ -1,5 +1,5 @@
 use Rattle.std.proofs.Common.{◌≡◌, ◌+◌}
-use Rattle.sparse_products.specs.InnerFactors.{product_of}
+use Rattle.sparse_products.specs.InnerOperands.{product_of}
 use Rattle.sparse_products.specs.InnerUpdates.{steps_below}
 use Rattle.sparse_sums.proofs.UpdatedLanes.{HasUpdatedLanes}
 use Rattle.sparse_products.proofs.serial.search.search_rows.Given as goal
@@ -11,7 +11,7 @@ invariant-loop-i g l =
     let u = l.fn.update in
     record {
       rows : HasUpdatedLanes R f g.T.Zero.zero_value l.pattern f (f u.alpha)
-          (product_of R f u.factors).value l.initial.values l.values l.i;
-      counted : l.steps ≡ l.initial.steps + steps_below l.i u.factors.a.now.pattern
-          u.factors.b.now.pattern;
+          (product_of R f u.matrices).value l.initial.values l.values l.i;
+      counted : l.steps ≡ l.initial.steps + steps_below l.i u.matrices.a.now.pattern
+          u.matrices.b.now.pattern;
     }

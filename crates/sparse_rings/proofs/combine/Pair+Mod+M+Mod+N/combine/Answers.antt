@@ -6,7 +6,7 @@ use Rattle.std.specs.Int.{IsGcd}
 use Rattle.sparse_algebra.specs.ModNumbers.{mod_number}
 use Rattle.sparse_algebra.specs.Moduli.{modulus, mod_class}
 use Rattle.sparse_algebra.proofs.ModClasses.{mod_same}
-use Rattle.sparse_rings.proofs.Chinese.{coprime-rest, glued-first, glued-below}
+use Rattle.sparse_rings.proofs.Chinese.{coprime-rest, combined-first, combined-below}
 use Rattle.sparse_rings.proofs.Chinese.{same_from_residues, combine-inverse, combine-second}
 use Rattle.sparse_rings.proofs.combine.Pair+Mod+M+Mod+N.combine.Goals as goal
 
@@ -40,7 +40,7 @@ returns-clause-below g c =
     let m = modulus g.row.M in
     let P : ℕ → Type 0 = λ k. a + k * q < m * modulus g.row.N in
     subst P (sym c.first_modulus-modulus.ensures)
-    (glued-below g.row.M g.row.N a q c.get-number.ensures.below c.get-quotient.ensures.below)
+    (combined-below g.row.M g.row.N a q c.get-number.ensures.below c.get-quotient.ensures.below)
 
 pub returns-clause-first : goal.returns-clause-first
 returns-clause-first g c =
@@ -48,7 +48,7 @@ returns-clause-first g c =
     let q = c.get-quotient.result in
     let m = modulus g.row.M in
     ap (λ k. (a + k * q) % m) c.first_modulus-modulus.ensures
-    ∙ ap (λ r. r.number) (glued-first g.row.M g.row.N a q)
+    ∙ ap (λ r. r.number) (combined-first g.row.M g.row.N a q)
     ∙ mod-eq_of_lt c.get-number.ensures.below ∙ c.get-number.ensures.number
 
 pub returns-clause-second : goal.returns-clause-second

@@ -1,20 +1,20 @@
--- `at_mut` lends one value of what `values_mut` lends.
-use Rattle.sparse_rows_cols.proofs.Walking.{◌≡◌, refl, sym, subst, List, [], ◌∷◌, length, Val, ◌<◌}
-use Rattle.sparse_rows_cols.proofs.Walking.{w64, named, a_type, inst_fn, emp, id⊢, flft, ftrue, ‵}
-use Rattle.sparse_rows_cols.proofs.Walking.{raw, ◌⊛◌, some, later, ◌$◌, ◌∵◌, !, qed, done, move}
-use Rattle.sparse_rows_cols.proofs.Walking.{drop, use1, use2, split, join, fjoin, pick, await}
-use Rattle.sparse_rows_cols.proofs.Walking.{rewrite, suffices, frame, enter, addr, stop, no_more}
-use Rattle.sparse_rows_cols.proofs.Walking.{and_then, returns, alloc_all, pass_all, free_all}
-use Rattle.sparse_rows_cols.proofs.Walking.{look_at, get, through, sets, lands_as, fact, ◌⊑◌, Lfts}
-use Rattle.sparse_rows_cols.proofs.Walking.{Shares, tables, RattleType, Array, usize, yes, no, Is}
-use Rattle.sparse_rows_cols.proofs.Walking.{shows, param, layouts, uint_vals, uint_Tells}
-use Rattle.sparse_rows_cols.proofs.Walking.{uint_Makes, MutBor, MutRef, mut_vals, mut_Tells}
-use Rattle.sparse_rows_cols.proofs.Walking.{mut_Lawful, MutSlice, mut_slice_Lawful, follows}
-use Rattle.sparse_rows_cols.proofs.Walking.{follows_then, plain, named_lft, nothing, heard, owned}
-use Rattle.sparse_rows_cols.proofs.Walking.{peeks, calls_at, Lasts, lasts, on_entry, triple_of}
-use Rattle.sparse_rows_cols.proofs.Walking.{framed, Stays, walk_of, says, stay_dropped}
-use Rattle.sparse_rows_cols.proofs.Walking.{Goes-dropped, Goes-spent_ref, ends_at, proved}
-use Rattle.sparse_rows_cols.proofs.Walking.{slice_set, slice_index_or}
+-- Proof by hand: `at_mut` borrows one value mutably from the slice that `values_mut` borrows.
+use Rattle.sparse_rows_cols.proofs.MutBorrowImports.{◌≡◌, refl, sym, subst, List, [], ◌∷◌, length, Val, ◌<◌}
+use Rattle.sparse_rows_cols.proofs.MutBorrowImports.{w64, named, a_type, inst_fn, emp, id⊢, flft, ftrue, ‵}
+use Rattle.sparse_rows_cols.proofs.MutBorrowImports.{raw, ◌⊛◌, some, later, ◌$◌, ◌∵◌, !, qed, done, move}
+use Rattle.sparse_rows_cols.proofs.MutBorrowImports.{drop, use1, use2, split, join, fjoin, pick, await}
+use Rattle.sparse_rows_cols.proofs.MutBorrowImports.{rewrite, suffices, frame, enter, addr, stop, no_more}
+use Rattle.sparse_rows_cols.proofs.MutBorrowImports.{and_then, returns, alloc_all, pass_all, free_all}
+use Rattle.sparse_rows_cols.proofs.MutBorrowImports.{look_at, get, through, sets, lands_as, fact, ◌⊑◌, Lfts}
+use Rattle.sparse_rows_cols.proofs.MutBorrowImports.{Shares, tables, RattleType, Array, usize, yes, no, Is}
+use Rattle.sparse_rows_cols.proofs.MutBorrowImports.{shows, param, layouts, uint_vals, uint_Tells}
+use Rattle.sparse_rows_cols.proofs.MutBorrowImports.{uint_Makes, MutBor, MutRef, mut_vals, mut_Tells}
+use Rattle.sparse_rows_cols.proofs.MutBorrowImports.{mut_Lawful, MutSlice, mut_slice_Lawful, follows}
+use Rattle.sparse_rows_cols.proofs.MutBorrowImports.{follows_then, plain, named_lft, nothing, heard, owned}
+use Rattle.sparse_rows_cols.proofs.MutBorrowImports.{peeks, calls_at, Lasts, lasts, on_entry, triple_of}
+use Rattle.sparse_rows_cols.proofs.MutBorrowImports.{framed, Stays, walk_of, says, stay_dropped}
+use Rattle.sparse_rows_cols.proofs.MutBorrowImports.{Goes-dropped, Goes-spent_ref, ends_at, proved}
+use Rattle.sparse_rows_cols.proofs.MutBorrowImports.{slice_set, slice_index_or}
 use Rattle.sparse_compressed.proofs.FoundEntries.{with_fact, with_facts}
 use Rattle.sparse_rows_cols.specs.contracts.col_mut.CscColMut.{the_row}
 use Rattle.sparse_rows_cols.specs.ColWriting.{col_with_values}
@@ -81,10 +81,11 @@ at_mut_spec 𝓤 𝓛 𝓜 𝓡 wired T L =
     (shows 𝓛 Got) r (v ∷ []) (λ is-got.
     move ! (2 ∷ []) $ pick ! (λ ws. split ! $ drop ! $ split ! $ move ! (1 ∷ []) $ heard ! _
     (λ same.
-    -- [what the row follows; the slice; the tokens]
+    -- hypotheses: the column follows the slice; the slice; the lifetime tokens
     lands_as ! refl refl ((mut_slice_Lawful 𝓛 (named 0) κs.0 P).typed r (v ∷ []) is-got).0 $
     move ! (2 ∷ []) $ split ! $ move ! (1 ∷ []) $ split ! $ move ! (2 ∷ 1 ∷ []) $ join ! $
-    -- [two tokens; that of the row's own lifetime; what the row follows; the slice]
+    -- hypotheses: two tokens; the token of the column's own lifetime; the column follows the slice;
+    -- the slice
     nothing ! $ owned ! usize _ (uint_Makes 𝓛 w64) k _ (refl, are.1.0.1) $ fjoin ! $ move !
     (4 ∷ 0 ∷ []) $ fjoin ! $ move ! (1 ∷ 0 ∷ []) $ join ! $
     let E = triple_of 𝓛 (h.signature T) (h.spec T 𝓛 𝓜.mem 𝓡.returns) in
@@ -108,8 +109,8 @@ at_mut_spec 𝓤 𝓛 𝓜 𝓡 wired T L =
     (shows 𝓛 Out) w (u ∷ []) (λ is-out.
     move ! (2 ∷ []) $ pick ! (λ ws'. split ! $ drop ! $ split ! $ move ! (1 ∷ []) $ heard ! _
     (λ value.
-    -- [what the slice follows; the value; two tokens; that of the row's own lifetime; what the row
-    -- follows]
+    -- hypotheses: the slice follows the value; the value; two tokens; the token of the column's own
+    -- lifetime; the column follows the slice
     lands_as ! refl refl ((mut_Lawful 𝓛 (named 0) κs.0 P).typed w (u ∷ []) is-out).0 $ move !
     (4 ∷ 0 ∷ []) $
     use2 𝓛 (‵ (follows R P x.ghost_name w.ghost_name

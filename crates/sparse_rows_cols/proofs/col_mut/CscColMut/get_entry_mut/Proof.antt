@@ -1,18 +1,18 @@
--- `get_entry_mut` passes on what `find_mut` lends, as an entry: a walk over the two calls.
-use Rattle.sparse_rows_cols.proofs.Walking.{◌≡◌, refl, sym, ap, ◌∙◌, subst, List, [], ◌∷◌, Val, w64}
-use Rattle.sparse_rows_cols.proofs.Walking.{named, a_type, inst_fn, emp, id⊢, GName, flft, ‵, raw}
-use Rattle.sparse_rows_cols.proofs.Walking.{◌⊛◌, some, later, ◌$◌, ◌∵◌, !, qed, done, move, drop}
-use Rattle.sparse_rows_cols.proofs.Walking.{use1, split, join, fjoin, pick, await, rewrite}
-use Rattle.sparse_rows_cols.proofs.Walking.{suffices, frame, enter, addr, stop, no_more, and_then}
-use Rattle.sparse_rows_cols.proofs.Walking.{returns, alloc_all, pass_all, free_all, look_at, get}
-use Rattle.sparse_rows_cols.proofs.Walking.{through, sets, lands_as, fact, ◌⊑◌, Lfts, Shares}
-use Rattle.sparse_rows_cols.proofs.Walking.{tables, RattleType, usize, yes, no, Is, shows, param}
-use Rattle.sparse_rows_cols.proofs.Walking.{layouts, param_laws, uint_vals, uint_Tells, mut_vals}
-use Rattle.sparse_rows_cols.proofs.Walking.{mut_Tells, follows_if, plain, named_lft, nothing, heard}
-use Rattle.sparse_rows_cols.proofs.Walking.{peeks, calls_at, Lasts, lasts, on_entry, triple_of}
-use Rattle.sparse_rows_cols.proofs.Walking.{framed, Stays, walk_of, says, stay_dropped}
-use Rattle.sparse_rows_cols.proofs.Walking.{Goes-dropped, Goes-spent_ref, ends_at, proved}
-use Rattle.sparse_rows_cols.proofs.Walking.{option_laws, option_row}
+-- Proof by hand: `get_entry_mut` returns the value that `find_mut` borrows mutably, as an entry.
+use Rattle.sparse_rows_cols.proofs.MutBorrowImports.{◌≡◌, refl, sym, ap, ◌∙◌, subst, List, [], ◌∷◌, Val, w64}
+use Rattle.sparse_rows_cols.proofs.MutBorrowImports.{named, a_type, inst_fn, emp, id⊢, GName, flft, ‵, raw}
+use Rattle.sparse_rows_cols.proofs.MutBorrowImports.{◌⊛◌, some, later, ◌$◌, ◌∵◌, !, qed, done, move, drop}
+use Rattle.sparse_rows_cols.proofs.MutBorrowImports.{use1, split, join, fjoin, pick, await, rewrite}
+use Rattle.sparse_rows_cols.proofs.MutBorrowImports.{suffices, frame, enter, addr, stop, no_more, and_then}
+use Rattle.sparse_rows_cols.proofs.MutBorrowImports.{returns, alloc_all, pass_all, free_all, look_at, get}
+use Rattle.sparse_rows_cols.proofs.MutBorrowImports.{through, sets, lands_as, fact, ◌⊑◌, Lfts, Shares}
+use Rattle.sparse_rows_cols.proofs.MutBorrowImports.{tables, RattleType, usize, yes, no, Is, shows, param}
+use Rattle.sparse_rows_cols.proofs.MutBorrowImports.{layouts, param_laws, uint_vals, uint_Tells, mut_vals}
+use Rattle.sparse_rows_cols.proofs.MutBorrowImports.{mut_Tells, follows_if, plain, named_lft, nothing, heard}
+use Rattle.sparse_rows_cols.proofs.MutBorrowImports.{peeks, calls_at, Lasts, lasts, on_entry, triple_of}
+use Rattle.sparse_rows_cols.proofs.MutBorrowImports.{framed, Stays, walk_of, says, stay_dropped}
+use Rattle.sparse_rows_cols.proofs.MutBorrowImports.{Goes-dropped, Goes-spent_ref, ends_at, proved}
+use Rattle.sparse_rows_cols.proofs.MutBorrowImports.{option_laws, option_row}
 use mathlib.Core.Option as maybe
 use Rattle.sparse_pattern.proofs.entry.Found.TheLaws.{the_row_laws as found_laws}
 use Rattle.sparse_pattern.proofs.entry.SparseEntryMut.TheLaws.{the_row_laws as entry_laws}
@@ -21,8 +21,8 @@ use Rattle.sparse_pattern.specs.contracts.entry.SparseEntryMut.{the_row as entry
 use Rattle.sparse_rows_cols.specs.contracts.col_mut.CscColMut.{the_row as row_row}
 use Rattle.sparse_pattern.specs.SparseEntries.{entry_of_found, entry_name, found_name}
 use Rattle.sparse_compressed.specs.Writing.{IsLaneFoundAt, IsLaneEntryMutOf}
-use Rattle.sparse_compressed.proofs.FoundEntries.{name_is, lane_entry_is, with_fact}
-use Rattle.sparse_rows_cols.specs.ColWriting.{lent_col, col_with_value}
+use Rattle.sparse_compressed.proofs.FoundEntries.{entry_name-found, IsLaneEntryMutOf-found, with_fact}
+use Rattle.sparse_rows_cols.specs.ColWriting.{col_as_lane, col_with_value}
 use Rattle.sparse_rows_cols.specs.contracts.col_mut.CscColMut.get_entry_mut as f
 use Rattle.sparse_rows_cols.proofs.col_mut.CscColMut.get_entry_mut.Statement.{statement}
 use Rattle.sparse_rows_cols.proofs.col_mut.CscColMut.get_entry_mut.Code as code
@@ -63,7 +63,7 @@ get_entry_mut_spec 𝓤 𝓛 𝓜 𝓡 wired T L =
     let Out = option_row Entry in
     let G = triple_of 𝓛 (g.signature T) (g.spec T 𝓛 𝓜.mem 𝓡.returns) in
     let z : G.Ghost = ((κs, qs, bounds, a, vss), tt) in
-    let Lent = λ (m : maybe.Option GName). follows_if R (param 0 T) a.0.ghost_name m
+    let FollowsIf = λ (m : maybe.Option GName). follows_if R (param 0 T) a.0.ghost_name m
     (col_with_value d j) a.0.now in
     qed 𝓛 (raw (on_entry 𝓛 (f.signature T) κs qs a vss) ∷ (raw (fact 𝓤 within) ⊛ raw (emp 𝓤)) ∷ [])
     ∵ move ! (1 ∷ []) $ split ! $ heard ! _ (λ le. drop ! $
@@ -77,17 +77,18 @@ get_entry_mut_spec 𝓤 𝓛 𝓜 𝓡 wired T L =
     use1 𝓛 (later
     (some (λ (r : Got.Denot). ((tok-self ⊛ (tok-a ⊛ tok-T)) ⊛ ‵ (Got.own_val r (v ∷ []))) ⊛ some
     (λ (ws : Unit {0} × (Unit {0} × Unit {0})). ‵ (lasts (g.ended T) κs a ws) ⊛
-    (‵ (Lent (found_name r)) ⊛ raw (fact 𝓤 (IsLaneFoundAt (lent_col d) j r))))))) (id⊢ 𝓤 _) $
+    (‵ (FollowsIf (found_name r)) ⊛ raw (fact 𝓤 (IsLaneFoundAt (col_as_lane d) j r))))))) (id⊢ 𝓤 _) $
     await ! tt $ pick ! (λ r. split ! $ split ! $ move ! (1 ∷ []) $ peeks ! Got (Is Got)
     (shows 𝓛 Got) r (v ∷ []) (λ is-got.
     move ! (2 ∷ []) $ pick ! (λ ws. split ! $ drop ! $ split ! $ move ! (1 ∷ []) $ heard ! _
     (λ found.
-    -- [what the row follows; what was found; the tokens]
+    -- hypotheses: the column follows what was found; what was found; the lifetime tokens
     lands_as ! refl refl
     (((found_laws (named_lft 3 0 tt κs) (param 0 T) (param_laws 0 T L)).lawful 𝓛).typed r (v ∷ [])
     is-got).0 $
     move ! (2 ∷ []) $ split ! $ move ! (1 ∷ []) $ split ! $ move ! (2 ∷ 1 ∷ []) $ join ! $
-    -- [two tokens; that of the row's own lifetime; what the row follows; what was found]
+    -- hypotheses: two tokens; the token of the column's own lifetime; the column follows what was
+    -- found; what was found
     move ! (3 ∷ []) $ nothing ! $ move ! (1 ∷ 0 ∷ []) $ fjoin ! $ move ! (1 ∷ 0 ∷ []) $ join ! $
     let E = triple_of 𝓛 (h.signature T) (h.spec T 𝓛 𝓜.mem 𝓡.returns) in
     let κs' : Lfts 2 = (κs.0, (κs.1.1.0, tt)) in let qs' : Shares 2 = (qs.0, (qs.1.1.0, tt)) in
@@ -104,7 +105,8 @@ get_entry_mut_spec 𝓤 𝓛 𝓜 𝓡 wired T L =
     await ! tt $ pick ! (λ e. split ! $ split ! $ move ! (1 ∷ []) $ peeks ! Out (Is Out)
     (shows 𝓛 Out) e (u ∷ []) (λ is-out.
     move ! (2 ∷ []) $ pick ! (λ ws'. split ! $ drop ! $ heard ! _ (λ same.
-    -- [the entry; two tokens; that of the row's own lifetime; what the row follows]
+    -- hypotheses: the entry; two tokens; the token of the column's own lifetime; the column follows
+    -- what was found
     lands_as ! refl refl
     (((option_laws Entry (entry_laws (named_lft 3 0 tt κs) (param 0 T) (param_laws 0 T L))).lawful
     𝓛).typed e (u ∷ []) is-out).0 $
@@ -113,7 +115,7 @@ get_entry_mut_spec 𝓤 𝓛 𝓜 𝓡 wired T L =
     nothing ! $ nothing ! $ fjoin ! $ nothing ! $ fjoin ! $ join ! $
     move ! (1 ∷ []) $ split ! $ move ! (3 ∷ 1 ∷ []) $ join ! $ move ! (1 ∷ 0 ∷ []) $ join ! $ join !
     $ frame ! $
-    says ! (subst (λ o. IsLaneEntryMutOf (lent_col d) j o) (sym same)
-    (lane_entry_is (lent_col d) j r found)) $
-    rewrite ! 0 (λ (m : maybe.Option GName). ‵ (Lent m)) (name_is r ∙ ap entry_name (sym same)) refl
+    says ! (subst (λ o. IsLaneEntryMutOf (col_as_lane d) j o) (sym same)
+    (IsLaneEntryMutOf-found (col_as_lane d) j r found)) $
+    rewrite ! 0 (λ (m : maybe.Option GName). ‵ (FollowsIf m)) (entry_name-found r ∙ ap entry_name (sym same)) refl
     $ done !)))))))))))))

@@ -1,6 +1,6 @@
 use Rattle.std.proofs.Common.{◌∙◌}
 use Rattle.sparse_compressed.proofs.LaneValues.{row_sum}
-use Rattle.sparse_with_dense.specs.SparseVectors.{elements}
+use Rattle.sparse_dense_ops.specs.SparseVectors.{elements}
 use Rattle.sparse_views.proofs.arrays.CsArrays.dot_lane.Goals as goal
 
 pub returns-clause-product : goal.returns-clause-product

@@ -11,7 +11,7 @@ use Rattle.sparse_compressed.specs.Lanes.{lane_at, IsLaneEntryAt}
 use Rattle.sparse_compressed.specs.StoredEntries.{IsEntryAt}
 use Rattle.sparse_views.proofs.arrays.CsArrays.index_entry.Goals as goal
 
--- the entry of lane i at j is the matrix's at (i, j)
+-- the entry at j of lane i is the entry at (i, j) of the matrix
 entry_in_lane : {T : Type 0} (m : Compressed T) → IsSound m → (i j : ℕ) → i < m.pattern.major_dim
     → (r : SparseEntry T) → IsLaneEntryAt (lane_at m i) j r → IsEntryAt m i j r
 entry_in_lane m sound i j lane (NonZero x) found =

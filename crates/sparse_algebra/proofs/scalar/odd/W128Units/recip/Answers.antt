@@ -1,26 +1,26 @@
 use Rattle.std.proofs.Common.{◌≡◌, ◌%◌, ap, sym, ◌∙◌, refl, arith}
 use Rattle.std.specs.Int.{w128, cast_unsigned}
 use Rattle.sparse_algebra.specs.WrappingValues.{w128_number}
-use Rattle.sparse_algebra.proofs.OddNumbers.{bits_shown, even_has_none, odd_inverse}
+use Rattle.sparse_algebra.proofs.OddNumbers.{unsigned_of_get, even_has_no_inverse, odd_inverse}
 use Rattle.sparse_algebra.proofs.scalar.odd.W128Units.recip.Goals as goal
 
 pub returns-then-cast_unsigned-eq0-clause-exact : goal.returns-then-cast_unsigned-eq0-clause-exact
 returns-then-cast_unsigned-eq0-clause-exact c =
     let x = c.args.self.number in
-    let bits = bits_shown w128 c.cast_unsigned.result c.get.result x c.args.self.in_range
+    let bits = unsigned_of_get w128 c.cast_unsigned.result c.get.result x c.args.self.in_range
     c.get.ensures c.cast_unsigned.ensures in (
       λ none. cc,
-      λ some. absurd (even_has_none w128 w128_number x
+      λ some. absurd (even_has_no_inverse w128 w128_number x
           (sym (ap (λ n. n % 2) bits) ∙ c.if-cast_unsigned-eq0.true) some),
     )
 
 pub returns-clause-inverse : goal.returns-clause-inverse
 returns-clause-inverse c =
     let x = c.args.self.number in
-    let bits = bits_shown w128 c.cast_unsigned.result c.get.result x c.args.self.in_range
+    let bits = unsigned_of_get w128 c.cast_unsigned.result c.get.result x c.args.self.in_range
     c.get.ensures c.cast_unsigned.ensures in
     let odd : cast_unsigned w128 x % 2 ≡ 1 = omega (arith, bits, c.if-cast_unsigned-eq0.false) in
-    odd_inverse w128 7 x c.approach.result.number refl odd c.approach.ensures
+    odd_inverse w128 7 x c.newton_inverse.result.number refl odd c.newton_inverse.ensures
 
 pub returns-clause-exact : goal.returns-clause-exact
-returns-clause-exact c = (λ _. (c.approach.result, returns-clause-inverse c), λ _. refl)
+returns-clause-exact c = (λ _. (c.newton_inverse.result, returns-clause-inverse c), λ _. refl)

@@ -1,26 +1,26 @@
 use Rattle.std.proofs.Common.{◌≡◌, ◌%◌, ap, sym, ◌∙◌, refl, arith}
 use Rattle.std.specs.Int.{w64, cast_unsigned}
 use Rattle.sparse_algebra.specs.Numbers.{w64_number}
-use Rattle.sparse_algebra.proofs.OddNumbers.{bits_shown, even_has_none, odd_inverse}
+use Rattle.sparse_algebra.proofs.OddNumbers.{unsigned_of_get, even_has_no_inverse, odd_inverse}
 use Rattle.sparse_algebra.proofs.scalar.odd.W64Units.recip.Goals as goal
 
 pub returns-then-cast_unsigned-eq0-clause-exact : goal.returns-then-cast_unsigned-eq0-clause-exact
 returns-then-cast_unsigned-eq0-clause-exact c =
     let x = c.args.self.number in
-    let bits = bits_shown w64 c.cast_unsigned.result c.get.result x c.args.self.in_range
+    let bits = unsigned_of_get w64 c.cast_unsigned.result c.get.result x c.args.self.in_range
     c.get.ensures c.cast_unsigned.ensures in (
       λ none. cc,
-      λ some. absurd (even_has_none w64 w64_number x
+      λ some. absurd (even_has_no_inverse w64 w64_number x
           (sym (ap (λ n. n % 2) bits) ∙ c.if-cast_unsigned-eq0.true) some),
     )
 
 pub returns-clause-inverse : goal.returns-clause-inverse
 returns-clause-inverse c =
     let x = c.args.self.number in
-    let bits = bits_shown w64 c.cast_unsigned.result c.get.result x c.args.self.in_range
+    let bits = unsigned_of_get w64 c.cast_unsigned.result c.get.result x c.args.self.in_range
     c.get.ensures c.cast_unsigned.ensures in
     let odd : cast_unsigned w64 x % 2 ≡ 1 = omega (arith, bits, c.if-cast_unsigned-eq0.false) in
-    odd_inverse w64 6 x c.approach.result.number refl odd c.approach.ensures
+    odd_inverse w64 6 x c.newton_inverse.result.number refl odd c.newton_inverse.ensures
 
 pub returns-clause-exact : goal.returns-clause-exact
-returns-clause-exact c = (λ _. (c.approach.result, returns-clause-inverse c), λ _. refl)
+returns-clause-exact c = (λ _. (c.newton_inverse.result, returns-clause-inverse c), λ _. refl)

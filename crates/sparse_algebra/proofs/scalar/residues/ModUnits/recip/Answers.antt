@@ -16,8 +16,8 @@ loop-low-init g c =
     let x = mod_class m n in
     record {
       high_is = ap (mod_class m) c.modulus-high.ensures ∙ mod_class_modulus m ∙ sym (mul_zero R x)
-          ∙ ap (λ z. R.mul x (mod_class m z.number)) (sym c.zero-at_high.ensures);
-      low_is = sym (R.laws.mul_one x) ∙ ap (R.mul x) (sym c.one-at_low.ensures);
+          ∙ ap (λ z. R.mul x (mod_class m z.number)) (sym c.zero-high_coefficient.ensures);
+      low_is = sym (R.laws.mul_one x) ∙ ap (R.mul x) (sym c.one-low_coefficient.ensures);
       gcd = λ d h. subst (λ k. IsGcd k n d) c.modulus-high.ensures h;
     }
 
@@ -26,8 +26,8 @@ loop-low-preserved g c =
     let m = g.row.M in
     let R = mod_ring m in
     let x = mod_class m c.args.self.number in
-    let s = mod_class m c.loop-low.at_high.number in
-    let t = mod_class m c.loop-low.at_low.number in
+    let s = mod_class m c.loop-low.high_coefficient.number in
+    let t = mod_class m c.loop-low.low_coefficient.number in
     let high = c.loop-low.high in
     let low = c.loop-low.low in
     let invariant = c.loop-low.invariant in
@@ -36,19 +36,19 @@ loop-low-preserved g c =
       low_is = euclid_step R x s t (mod_class m (high / low)) (mod_class m high) (mod_class m low)
           (mod_class m (high % low)) invariant.high_is invariant.low_is (class_split m high low)
           ∙ ap (R.mul x)
-          (sym (c.add-at_rest.ensures ∙ ap (R.add s)
+          (sym (c.add-rest_coefficient.ensures ∙ ap (R.add s)
           (c.neg.ensures ∙ ap R.neg (c.mul.ensures
           ∙ ap (λ z. R.mul z t) (mod_class_of m (high / low) _ c.new-quotient.ensures)))));
       gcd = λ d h. invariant.gcd d (IsGcd-from_mod high low d h);
     }
 
--- where the greatest common divisor is one, its cofactor is the inverse
+-- if the greatest common divisor is one, its Bezout coefficient is the inverse
 inverse : (g : Over) (c : goal.Then-high-eq1 g)
     → (mod_ring g.row.M).mul (mod_class g.row.M c.args.self.number)
-    (mod_class g.row.M c.loop-low.at_high.number) ≡ (mod_ring g.row.M).one
+    (mod_class g.row.M c.loop-low.high_coefficient.number) ≡ (mod_ring g.row.M).one
 inverse g c = sym c.loop-low.invariant.high_is ∙ ap (mod_class g.row.M) c.if-high-eq1.true
 
--- the last number is the greatest common divisor
+-- the last nonzero number is the greatest common divisor
 last_is_gcd : (m n high low : ℕ) → ((d : ℕ) → IsGcd high low d → IsGcd m n d) → low ≡ 0
     → IsGcd m n high
 last_is_gcd m n high low gcd none = gcd high (IsGcd-from_zero high low none)
@@ -61,7 +61,7 @@ returns-then-high-eq1 g c =
     c.loop-low-test.false in
     record {
       inverse = inverse g c;
-      exact = (λ _. (c.loop-low.at_high, inverse g c), λ _. refl);
+      exact = (λ _. (c.loop-low.high_coefficient, inverse g c), λ _. refl);
       coprime = (λ _. subst (λ d. IsGcd m n d) c.if-high-eq1.true last, λ _. refl);
     }
 

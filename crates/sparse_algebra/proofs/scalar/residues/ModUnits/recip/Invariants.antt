@@ -8,8 +8,8 @@ invariant-loop-low g l =
     let m = g.row.M in
     let x = mod_class m l.fn.self.number in
     record {
-      high_is : mod_class m l.high ≡ (mod_ring m).mul x (mod_class m l.at_high.number);
-      low_is : mod_class m l.low ≡ (mod_ring m).mul x (mod_class m l.at_low.number);
+      high_is : mod_class m l.high ≡ (mod_ring m).mul x (mod_class m l.high_coefficient.number);
+      low_is : mod_class m l.low ≡ (mod_ring m).mul x (mod_class m l.low_coefficient.number);
       gcd : (d : ℕ) → IsGcd l.high l.low d → IsGcd (modulus m) l.fn.self.number d;
     }
 

@@ -6,6 +6,6 @@ use Rattle.sparse_csr_csc.proofs.csc.operators.CscMatrixMulAssign.mul_assign.Goa
 pub returns : goal.returns
 returns g c = record {
   after = ap (plain_transpose g.T.Ring.ring) c.scale.ensures.values
-      ∙ ap (λ m. plain_scaled g.T.Ring.ring (g.T.Ring.value c.args.factor)
+      ∙ ap (λ m. plain_scaled g.T.Ring.ring (g.T.Ring.value c.args.coefficient)
       (plain_of_cols g.T.Ring.ring g.T.Ring.value m)) c.self.view_is;
 }

@@ -1,6 +1,6 @@
 use Rattle.std.proofs.Common.{◌≡◌, suc, ◌+◌, ◌-◌, inl, inr, sym, ◌∙◌, arith}
 use Rattle.std.proofs.lemmas.Bool.{eqb-true}
-use Rattle.sparse_factor.proofs.Children.{link_at, reach_cases, reach_none}
+use Rattle.sparse_factor.proofs.Children.{link_at, IsOnList-cases, IsOnList-none}
 use Rattle.sparse_factor.proofs.factorization.columns.children.is_single.Goals as goal
 
 pub returns-else-first-eq0 : goal.returns-else-first-eq0
@@ -10,7 +10,7 @@ returns-else-first-eq0 g c = λ yes k r.
     let first_is : first ≡ suc (first - 1) = omega (arith, some) in
     let read = link_at g.C.Count.number c.args.nexts.now (first + 1) first some (omega arith)
     (omega (arith, c.requires)) c.index-nexts-first.is c.get.ensures in
-    elim (reach_cases r (first - 1) first_is) [
+    elim (IsOnList-cases r (first - 1) first_is) [
       | inl e ↦ omega (arith, e, first_is)
-      | inr more ↦ absurd (reach_none more (sym read ∙ eqb-true c.get.result 0 yes))
+      | inr more ↦ absurd (IsOnList-none more (sym read ∙ eqb-true c.get.result 0 yes))
     ]

@@ -1,5 +1,5 @@
 use Rattle.std.proofs.Common.{◌≡◌, ◌-◌, length, map, slice_index, sym, ◌∙◌, arith}
-use Rattle.sparse_factor.proofs.Children.{reach_first, reach_more, link_at, column_at}
+use Rattle.sparse_factor.proofs.Children.{IsOnList-head, IsOnList-next, link_at, column_at}
 use Rattle.sparse_factor.proofs.factorization.columns.children.longest_child.Given.{Over}
 use Rattle.sparse_factor.proofs.factorization.columns.children.longest_child.Goals as goal
 use Rattle.sparse_factor.proofs.factorization.columns.children.longest_child.Goals.{After-get-head}
@@ -10,7 +10,7 @@ pub loop-head-init : goal.loop-head-init
 loop-head-init g c = record {
   within = c.requires.first;
   some = λ ne. ne;
-  reached = λ k e. reach_first e;
+  on_list = λ k e. IsOnList-head e;
   rest = λ k r. r;
 }
 
@@ -46,9 +46,9 @@ loop-head-preserved g c =
         | then-most-places w ↦ λ e. some (sym w.longest-is ∙ e)
         | else-most-places w ↦ λ e. inv.some ne (sym w.longest-is ∙ e)
       ];
-      reached = λ k e. elim c.if-most-places.branch [
-        | then-most-places w ↦ inv.rest k (reach_first (sym w.longest-is ∙ e))
-        | else-most-places w ↦ inv.reached k (sym w.longest-is ∙ e)
+      on_list = λ k e. elim c.if-most-places.branch [
+        | then-most-places w ↦ inv.rest k (IsOnList-head (sym w.longest-is ∙ e))
+        | else-most-places w ↦ inv.on_list k (sym w.longest-is ∙ e)
       ];
-      rest = λ k r. inv.rest k (reach_more some read r);
+      rest = λ k r. inv.rest k (IsOnList-next some read r);
     }

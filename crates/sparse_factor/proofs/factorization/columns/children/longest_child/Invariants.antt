@@ -1,5 +1,5 @@
 use Rattle.std.proofs.Common.{◌≡◌, ◌≢◌, ℕ, suc, ◌<◌, length, map}
-use Rattle.sparse_factor.specs.InnerChildren.{Reaches}
+use Rattle.sparse_factor.specs.InnerChildren.{IsOnList}
 use Rattle.sparse_factor.proofs.factorization.columns.children.longest_child.Given as goal
 
 abbrev pub invariant-loop-head : goal.invariant-loop-head
@@ -8,8 +8,8 @@ invariant-loop-head g l =
     record {
       within : l.head < length l.columns.offsets.items;
       some : l.first ≢ 0 → l.longest ≢ 0;
-      reached : (k : ℕ) → l.longest ≡ suc k → Reaches nexts l.first k;
-      rest : (k : ℕ) → Reaches nexts l.head k → Reaches nexts l.first k;
+      on_list : (k : ℕ) → l.longest ≡ suc k → IsOnList nexts l.first k;
+      rest : (k : ℕ) → IsOnList nexts l.head k → IsOnList nexts l.first k;
     }
 
 abbrev pub decreases-loop-head : goal.decreases-loop-head

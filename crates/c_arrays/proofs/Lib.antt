@@ -1,0 +1,8 @@
+pub mod Answering
+pub mod ValidStatuses
+mod Holding
+pub mod Joining
+mod Listing
+pub mod Meanings
+mod Filling
+mod ScaledSums

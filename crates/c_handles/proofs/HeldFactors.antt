@@ -1,0 +1,76 @@
+-- Factors held by handles.
+-- - `IsFactorisation-plain`: the factors that `Ldl::factor` finds for a CSC matrix are factors of its plain matrix
+-- - `OnOk-HoldsFactors`: a call that stores factors of the matrix of a handle meets the contract of `factor`
+-- - `SolvesInPlace-factors`: a dense solution written over its right-hand side meets the contract of `solve_factored`
+use Rattle.std.proofs.Common.{◌≡◌, ℕ, ℤ, ◌<◌, ◌*◌, List, length, sym, subst, ◌∙◌}
+use Rattle.std.specs.Prelude.{Option, Some, Ok, Err, OnOk}
+use Rattle.core.specs.declared.result.Result.{Result}
+use Rattle.sparse_algebra.specs.Plain.{Plain}
+use Rattle.sparse_algebra.specs.WrappingValues.{w64_value}
+use Rattle.sparse_algebra.specs.declared.scalar.wrapping.W64.{W64}
+use Rattle.sparse_coo_dense.specs.Dense.{Dense}
+use Rattle.sparse_coo_dense.specs.DensePlain.{plain_of_dense}
+use Rattle.c_arrays.specs.Arrays.{plain_by_values, ring64}
+use Rattle.c_arrays.specs.declared.refusal.Refusal.{Refusal}
+use Rattle.sparse_compressed.specs.Compressed.{Compressed}
+use Rattle.sparse_compressed.specs.PlainOfLanes.{plain_of_cols, plain_of_rows}
+use Rattle.c_handles.proofs.Done.{plain_of_rows-held, held}
+use Rattle.c_handles.proofs.Triangles.{SolvesInPlace-dense}
+use Rattle.c_handles.specs.Held.{plain_held}
+use Rattle.c_handles.specs.Factored.{product_held, zero64, HoldsFactors}
+use Rattle.c_handles.specs.Solved.{SolvesInPlace}
+use Rattle.sparse_factor.specs.Factorisations.{plain_symmetric, IsFactorisation, IsUnitLower}
+use Rattle.sparse_factor.specs.Factors.{diagonal, plain_of_factors, symmetric_of}
+use Rattle.sparse_factor.specs.Factors.{Factors, HavePivots}
+use Rattle.sparse_dense_ops.specs.Solutions.{HasSameValues, IsSolution}
+
+pub IsFactorisation-plain : (a : Plain ring64) (m : Compressed W64) (s : Factors W64)
+    → plain_of_cols ring64 w64_value m ≡ a → s.l.pattern.minor_dim ≡ m.pattern.minor_dim
+    → length s.d ≡ m.pattern.minor_dim → IsUnitLower ring64 (plain_of_cols ring64 w64_value s.l)
+    → HavePivots ring64 w64_value zero64 s.d
+    → HasSameValues ring64 (length s.d) (length s.d) (plain_of_factors ring64 w64_value zero64 s)
+    (symmetric_of ring64 w64_value m)
+    → IsFactorisation ring64 w64_value (plain_symmetric ring64 a)
+    (plain_of_cols ring64 w64_value s.l) (diagonal ring64 w64_value zero64 s.d)
+IsFactorisation-plain a m s plain rows count lower pivots equation =
+    subst (λ (p : Plain ring64). IsFactorisation ring64 w64_value (plain_symmetric ring64 p)
+    (plain_of_cols ring64 w64_value s.l) (diagonal ring64 w64_value zero64 s.d)) plain (record {
+      rows = rows;
+      lower = lower;
+      pivots = λ j lt. pivots j (subst (λ n. j < n) (sym count) lt);
+      equation = subst (λ (n : ℕ). HasSameValues ring64 n n
+          (plain_of_factors ring64 w64_value zero64 s) (symmetric_of ring64 w64_value m)) count
+          equation;
+    })
+
+pub OnOk-HoldsFactors : (handle : Option (Compressed W64)) (m a : Compressed W64) → handle ≡ Some m → a ≡ m
+    → (answer : Result (Unit {0}) Refusal) (factors : Option (Factors W64)) (s : Factors W64)
+    → OnOk answer (factors ≡ Some s)
+    → IsFactorisation ring64 w64_value (plain_symmetric ring64 (plain_of_rows ring64 w64_value a))
+    (plain_of_cols ring64 w64_value s.l) (diagonal ring64 w64_value zero64 s.d)
+    → OnOk answer (HoldsFactors factors (plain_held handle))
+OnOk-HoldsFactors handle m a is same (Ok u) factors s put equation = (
+  s,
+  put,
+  subst (λ (p : Plain ring64). IsFactorisation ring64 w64_value (plain_symmetric ring64 p)
+      (plain_of_cols ring64 w64_value s.l) (diagonal ring64 w64_value zero64 s.d))
+      (plain_of_rows-held handle m a is same) equation,
+)
+OnOk-HoldsFactors handle m a is same (Err e) factors s put equation = tt
+
+pub SolvesInPlace-factors : (handle : Option (Factors W64)) (f s : Factors W64) → handle ≡ Some f → s ≡ f
+    → (b x : Dense W64) (n cols : ℕ) (old new : List ℤ) → n ≡ s.l.pattern.minor_dim
+    → b.nrows ≡ n → b.ncols ≡ cols → length old ≡ n * cols
+    → plain_of_dense ring64 w64_value b ≡ plain_by_values ring64 n cols old
+    → x.nrows ≡ b.nrows → x.ncols ≡ b.ncols
+    → IsSolution ring64 (plain_of_factors ring64 w64_value zero64 s)
+    (plain_of_dense ring64 w64_value x) (plain_of_dense ring64 w64_value b)
+    → plain_by_values ring64 x.nrows x.ncols new ≡ plain_of_dense ring64 w64_value x
+    → SolvesInPlace (product_held handle) (product_held handle).rows cols old new
+SolvesInPlace-factors handle f s is same b x n cols old new size rows columns sized side xrows xcolumns solved
+    written = subst (λ (h : Option (Factors W64)). SolvesInPlace (product_held h)
+    (product_held h).rows cols old new) (held handle f s is same)
+    (subst (λ (k : ℕ). SolvesInPlace (plain_of_factors ring64 w64_value zero64 s) k cols old new)
+    size (SolvesInPlace-dense (plain_of_factors ring64 w64_value zero64 s)
+    (plain_of_dense ring64 w64_value b) x n cols old new (xrows ∙ rows) (xcolumns ∙ columns) sized
+    solved side written))

@@ -1,0 +1,12 @@
+use Rattle.std.proofs.Common.{◌∙◌}
+use Rattle.sparse_algebra.specs.Plain.{plain_difference}
+use Rattle.c_arrays.specs.Arrays.{ring64}
+use Rattle.c_handles.proofs.Done.{OnOk-Holds, plain_of_rows-held}
+use Rattle.c_handles.proofs.operations.subtract.Goals as goal
+
+pub returns-clause-done : goal.returns-clause-done
+returns-clause-done c =
+    let a = plain_of_rows-held c.args.a.now.value _ _ c.in_ok-a.ensures.first c.deref.ensures in
+    let b = plain_of_rows-held c.args.b.now.value _ _ c.in_ok-a.ensures.second c.deref-2.ensures in
+    OnOk-Holds c.put.result c.put.new.handle.value _ _ c.put.ensures.put
+    (c.in_ok-difference.ensures ∙ (λ i. plain_difference ring64 (a i) (b i)))

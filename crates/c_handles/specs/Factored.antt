@@ -1,0 +1,46 @@
+-- What a handle of factors L D Lᵀ holds, and the errors of calls with such handles.
+use Rattle.std.specs.Prelude.{◌≡◌, ◌⊎◌, ℕ, ℤ, pos, List, [], Option, None, Some}
+use Rattle.std.specs.Int.{w64}
+use Rattle.sparse_algebra.specs.Plain.{Plain, plain_of_triplets}
+use Rattle.sparse_algebra.specs.Wrapping.{fits_zero}
+use Rattle.sparse_algebra.specs.WrappingValues.{w64_value}
+use Rattle.sparse_algebra.specs.declared.scalar.wrapping.W64.{W64}
+use Rattle.c_arrays.specs.Arrays.{ring64}
+use Rattle.c_arrays.specs.Refused.{HasWrongLength}
+use Rattle.c_arrays.specs.declared.refusal.Refusal.{Refusal}
+use Rattle.c_arrays.specs.declared.refusal.Refusal.TheVariants.{EmptyHandle, Singular}
+use Rattle.sparse_compressed.specs.Compressed.{Compressed}
+use Rattle.sparse_compressed.specs.PlainOfLanes.{plain_of_cols}
+use Rattle.c_handles.specs.Held.{plain_held}
+use Rattle.c_handles.specs.Solved.{IsNoSquare}
+use Rattle.sparse_factor.specs.Factorisations.{plain_symmetric, IsFactorisation}
+use Rattle.sparse_factor.specs.Factors.{diagonal, plain_of_factors, Factors}
+
+abbrev pub zero64 : W64
+zero64 = record { number = pos 0; in_range = fits_zero w64 }
+
+-- the plain matrix L D Lᵀ of the factors that a handle holds; of an empty handle, the one with no rows and no columns
+abbrev pub product_held : Option (Factors W64) → Plain ring64
+product_held None = plain_of_triplets ring64 w64_value 0 0 []
+product_held (Some s) = plain_of_factors ring64 w64_value zero64 s
+
+-- the handle holds factors L and D of the symmetric matrix whose entries on and above the diagonal are those of a
+abbrev pub HoldsFactors : Option (Factors W64) → Plain ring64 → Type 0
+HoldsFactors handle a = (s : Factors W64) × (handle ≡ Some s)
+    × IsFactorisation ring64 w64_value (plain_symmetric ring64 a)
+    (plain_of_cols ring64 w64_value s.l) (diagonal ring64 w64_value zero64 s.d)
+
+-- the error of a factorisation: the handle holds no square matrix, or the symmetric matrix has no factors L and D
+abbrev pub IsUnfactored : Option (Compressed W64) → Refusal → Type 0
+IsUnfactored a refusal = IsNoSquare a refusal ⊎ ((refusal ≡ Singular)
+    × ((l : Plain ring64) (d : ℕ → ring64.Carrier)
+    → IsFactorisation ring64 w64_value (plain_symmetric ring64 (plain_held a)) l d → ⊥))
+
+-- the error of an empty handle of factors
+abbrev pub HasNoFactors : Option (Factors W64) → Refusal → Type 0
+HasNoFactors handle refusal = (refusal ≡ EmptyHandle) × (handle ≡ None)
+
+-- the error of a solve with factors: the handle is empty, or the right-hand side does not have m values for each row
+abbrev pub HasNoSystem : Option (Factors W64) → ℕ → List ℤ → Refusal → Type 0
+HasNoSystem handle m b refusal =
+    HasNoFactors handle refusal ⊎ HasWrongLength (product_held handle).rows m b refusal

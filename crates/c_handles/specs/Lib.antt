@@ -1,0 +1,5 @@
+pub mod Held
+pub mod Factored
+pub mod Owned
+pub mod Solved
+pub mod Texts

@@ -1,0 +1,13 @@
+//! Handles for C: opaque pointers to matrices and to exact factors that the library owns.
+//!
+//! A handle holds a matrix or factors, or is empty. Several handles may share what they hold.
+#![tactic(auto)]
+
+pub mod factoring;
+pub mod from_arrays;
+pub mod handle;
+pub mod held_matrix;
+pub mod operations;
+pub mod reading;
+pub mod solving;
+pub mod texts;

@@ -1,0 +1,56 @@
+use Rattle.std.proofs.Common.{◌≡◌, ◌<◌, ◌≤◌, List, [], ◌∷◌, ℕ, inl}
+use Rattle.std.proofs.Common.{inr, refl, ap, ◌∙◌, length, get_or, arith}
+use Rattle.std.proofs.Common.{Result, Ok, Err, OnOk, Option}
+use denote.Ref.{Bor}
+use Rattle.nalgebra_sparse.specs.PostfixWords.{texts}
+use Rattle.sparse_factor.specs.declared.factorization.Triangle.{Triangle}
+use Rattle.sparse_factor.specs.declared.factorization.Triangle.TheVariants.{Upper}
+use Rattle.mtx_commands.specs.Commands.{AsksFill, IsAnswered}
+use Rattle.mtx_commands.specs.Fills.{WritesFill}
+use Rattle.mtx_commands.proofs.cli.run.Goals as goal
+
+-- two words, the first of which is known
+two_words : (words : List (Bor (List ℕ))) (d : Bor (List ℕ)) (first : List ℕ) → 2 ≤ length words
+    → length words < 3 → (get_or words 0 d).now ≡ first
+    → (path : List ℕ) × (texts words ≡ first ∷ (path ∷ []))
+two_words [] d first least below is = absurd (omega arith)
+two_words (a ∷ []) d first least below is = absurd (omega arith)
+two_words (a ∷ (b ∷ [])) d first least below is =
+    (b.now, ap (λ (w : List ℕ). w ∷ (b.now ∷ [])) is)
+two_words (a ∷ (b ∷ (c ∷ rest))) d first least below is = absurd (omega arith)
+
+-- three words, the first two of which are known
+three_words : (words : List (Bor (List ℕ))) (d e : Bor (List ℕ)) (first second : List ℕ)
+    → 3 ≤ length words → length words < 4 → (get_or words 0 d).now ≡ first
+    → (get_or words 1 e).now ≡ second
+    → (path : List ℕ) × (texts words ≡ first ∷ (second ∷ (path ∷ [])))
+three_words [] d e first second least below is at = absurd (omega arith)
+three_words (a ∷ []) d e first second least below is at = absurd (omega arith)
+three_words (a ∷ (b ∷ [])) d e first second least below is at = absurd (omega arith)
+three_words (a ∷ (b ∷ (c ∷ []))) d e first second least below is at = (
+  c.now,
+  ap (λ (w : List ℕ). w ∷ (b.now ∷ (c.now ∷ []))) is
+      ∙ ap (λ (w : List ℕ). first ∷ (w ∷ (c.now ∷ []))) at,
+)
+three_words (a ∷ (b ∷ (c ∷ (o ∷ rest)))) d e first second least below is at = absurd (omega arith)
+
+-- a fill that the words ask for is an answer to them
+IfOk-fill : {T E : Type 0} (r : Result T E) (words : List (List ℕ)) (old new : Option (List ℕ))
+    (triangle : Triangle) (path : List ℕ) → AsksFill triangle path words
+    → OnOk r (WritesFill triangle old new) → OnOk r (IsAnswered words old new)
+IfOk-fill (Ok x) words old new triangle path asked filled =
+    inr (record { triangle = triangle; path = path; asked = asked; filled = filled })
+IfOk-fill (Err e) words old new triangle path asked filled = tt
+
+pub returns-in-fill-clause-answered : goal.returns-in-fill-clause-answered
+returns-in-fill-clause-answered g c =
+    let (path, words) = two_words c.args.words.now _ _ c.in-fill.len_at_least c.in-fill.len_below
+    c.in-fill.is-fill in
+    IfOk-fill c.fill.result _ _ _ Upper path (inr (refl, words)) c.fill.ensures.filled
+
+pub returns-in-Some-clause-answered : goal.returns-in-Some-clause-answered
+returns-in-Some-clause-answered g c =
+    let (path, words) = three_words c.args.words.now _ _ _ _ c.in-fill-2.len_at_least
+    c.in-fill-2.len_below c.in-fill-2.is-fill c.in-Some.ensures.named in
+    IfOk-fill c.fill-in-Some.result _ _ _ c.in-Some.triangle path (inl words)
+    c.fill-in-Some.ensures.filled

@@ -1,9 +1,0 @@
-use Rattle.std.proofs.Common.{◌≡◌, take}
-use Rattle.std.specs.Prelude.{filter}
-use Rattle.sparse_parser.specs.InnerReading.{is_content}
-use Rattle.slow_programs.specs.InnerTexts.{lines_in}
-use Rattle.slow_programs.proofs.texts.lines.without_comments.Given as goal
-
-abbrev pub invariant-loop-line : goal.invariant-loop-line
-invariant-loop-line l = lines_in l.contents.items ≡ filter is_content
-    (take l.line-index (lines_in l.lines))

@@ -1,8 +1,0 @@
-use Rattle.std.proofs.Common.{◌≡◌, take}
-use Rattle.sparse_parser.specs.InnerReading.{written_lines}
-use Rattle.slow_programs.specs.InnerTexts.{texts, lines_in}
-use Rattle.slow_programs.proofs.texts.lines.written_lines.Given as goal
-
-abbrev pub invariant-loop-line : goal.invariant-loop-line
-invariant-loop-line l = lines_in l.written.items ≡ written_lines
-    (take l.line-index (texts l.line-items))

@@ -1,7 +1,0 @@
-use Rattle.std.proofs.Common.{sym, ◌∙◌}
-use Rattle.sparse_c_arrays.proofs.Meanings.{places_of-rows}
-use Rattle.sparse_c_arrays.proofs.writing.write_rows_or_count.Goals as goal
-
-pub returns-then-status-ne0-clause-needed : goal.returns-then-status-ne0-clause-needed
-returns-then-status-ne0-clause-needed g c = λ _. c.nnz.ensures.count
-    ∙ sym (places_of-rows g.T.Ring.ring g.T.Ring.value c.args.matrix.now c.nnz.ensures.sound)

@@ -1,0 +1,6 @@
+-- written by tools/answer-goals
+use Rattle.std.proofs.Common.{rules}
+use Rattle.sparse_dense_ops.proofs.division.csc.div_scalar_mut_csc.Goals as goal
+
+pub returns-clause-quotient : goal.returns-clause-quotient
+returns-clause-quotient g c = search rules

@@ -1,0 +1,11 @@
+use Rattle.std.proofs.Common.{◌≡◌, length}
+use Rattle.sparse_compressed.specs.Compressed.{compressed_of}
+use Rattle.sparse_factor.proofs.RowEntries.{IsRowRead}
+use Rattle.sparse_factor.proofs.ldl.columns.update_column.Given as goal
+
+abbrev pub invariant-loop-q : goal.invariant-loop-q
+invariant-loop-q g l = record {
+  count : length l.cursors ≡ length l.initial.cursors;
+  read : IsRowRead g.T.Ring.ring g.T.Ring.value g.T.Zero.zero_value
+      (compressed_of l.pattern l.values) l.j l.row l.initial.column l.q l.cursors l.column;
+}

@@ -1,7 +1,0 @@
-use Rattle.sparse_handles.proofs.HeldFactors.{factored}
-use Rattle.sparse_handles.proofs.factoring.factor.Goals as goal
-
-pub returns-clause-done : goal.returns-clause-done
-returns-clause-done c = factored c.args.a.now.value _ _ c.in_ok-a.ensures.matrix c.deref.ensures
-    c.put_factors.result c.put_factors.new.handle.value _ c.put_factors.ensures.put
-    c.in_ok-factors.ensures.factors

@@ -1,5 +1,0 @@
-pub mod Behind
-pub mod Factored
-pub mod Owned
-pub mod Solved
-pub mod Texts

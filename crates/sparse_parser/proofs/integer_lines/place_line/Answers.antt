@@ -1,7 +1,0 @@
-use Rattle.sparse_parser.proofs.IntegerLaws.{place_line_is}
-use Rattle.sparse_parser.proofs.integer_lines.place_line.Goals as goal
-
-pub returns-clause-line : goal.returns-clause-line
-returns-clause-line c =
-    let col = c.in_ok-col.ensures.index in
-    place_line_is _ _ _ _ _ _ c.in_ok-row.ensures.index col.at col.line

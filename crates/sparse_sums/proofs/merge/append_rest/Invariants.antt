@@ -1,0 +1,14 @@
+use Rattle.std.proofs.Common.{not, eqb, ◌≡◌, ◌+◌, take, vec_len, vec_capacity}
+use Rattle.sparse_sums.specs.InnerSigns.{signed}
+use Rattle.sparse_sums.specs.InnerAdding.{GainsValues}
+use Rattle.sparse_sums.proofs.merge.append_rest.Given as goal
+
+abbrev pub invariant-loop-k : goal.invariant-loop-k
+invariant-loop-k g l = record {
+  values_capacity : vec_capacity l.values ≡ vec_capacity l.initial.values;
+  values_count : vec_len l.values ≡ vec_len l.initial.values + l.k;
+  values : GainsValues g.T.Ring.ring g.T.Ring.value
+      (λ x. signed g.T.Ring.ring (not (eqb g.row.NEGATE 0)) (g.T.Ring.value x))
+      l.initial.values.items
+      l.values.items (take l.k l.rest_values);
+}

@@ -1,6 +1,0 @@
--- written by tools/answer-goals
-use Rattle.std.proofs.Common.{rules}
-use Rattle.sparse_with_dense.proofs.division.csc.div_scalar_mut_csc.Goals as goal
-
-pub returns-clause-quotient : goal.returns-clause-quotient
-returns-clause-quotient g c = search rules
