@@ -1,4 +1,4 @@
-"""The public calls that can be reached through a crate, read from the sources of the crates below it."""
+"""The public calls of a crate and those that it re-exports, read from the sources of the crates below it."""
 import os
 import re
 
@@ -26,12 +26,12 @@ class Crate:
 
 
 def signatures(code, before):
-    """Returns the names and signatures of the functions that are written behind these words."""
+    """Returns the names and signatures of the functions that are declared after these words."""
     return re.findall(rf"^{before}fn (\w+)(.*?)(?:\{{|;|\n\s*(?:ensures|requires)\b)", code, re.M | re.S)
 
 
 def asks(signature):
-    """Says whether a call takes an allocator or can report an allocation failure of one that it has."""
+    """Says whether a call takes an allocator, or can report an allocation failure of one that it stores."""
     return bool(re.search(r"\bGlobal\b|\bAllocGlobal\b|\bAllocError\b", signature))
 
 
@@ -55,7 +55,7 @@ def leaves(tree):
 
 
 class Face:
-    """The public calls that can be reached through a crate."""
+    """The public calls of a crate and those that it re-exports."""
 
     def __init__(self, name):
         self.crates, self.calls, self.seen = {}, set(), set()

@@ -1,8 +1,8 @@
 """The edits of the crates and checks of crates with edits, for .ci/check_mutants and tools/mutants.
 
 An edit is a file of crates/NAME/must-fail or crates/NAME/mutants: a line 'file: src/PATH', and then pairs of lines
-'old: TEXT' and 'new: TEXT'. The kit's own `rt` is loaded as a module: so an edit, a crate, the words of a check and a
-kept library are what they are to `rt must-fail` and `rt ci`.
+'old: TEXT' and 'new: TEXT'. The kit's own `rt` is loaded as a module, so that edits, crates, the arguments of a check
+and kept libraries are those of `rt must-fail` and `rt ci`.
 """
 import glob
 import hashlib
@@ -46,7 +46,7 @@ def write(path, text):
 
 
 class Edit:
-    """An edit, the functions that it changes, whether it is to be tried alone, and what its trial came to."""
+    """An edit, the functions that it changes, whether it must be tried alone, and the result of its trial."""
 
     def __init__(self, path):
         self.path, self.name, self.text = path, os.path.basename(path).removesuffix(".edit"), read(path)
@@ -54,12 +54,14 @@ class Edit:
         self.functions, self.is_alone, self.result = set(), False, None
 
     def applied(self, folder):
-        """Returns the texts of the files that it changes in a copy of its crate, or None and why it does not apply."""
+        """Returns the texts of the files that it changes in a copy of its crate, or None and why it can't be
+        applied."""
         odd = [line for line in self.text.splitlines() if not re.match(r"file: src/|old: |new:|\s*$", line)]
         return (None, f"a line is not read: {odd[0]}") if odd else rt.edited(self.text, folder)
 
     def find_functions(self, names):
-        """Finds the functions that it changes, by their names in a check, of which these are those of its crate."""
+        """Finds the functions that it changes, by their names in a check. The argument has the names of the functions
+        of its crate."""
         crate, texts = os.path.basename(self.folder), self.applied(self.folder)[0] or {}
         for path, text in texts.items():
             lines = read(f"{self.folder}/{path}").split("\n")
@@ -75,7 +77,8 @@ class Edit:
 
 
 def is_in_body(text):
-    """Returns whether a text from the head of a function on ends in its body, and not in its head or a clause."""
+    """Returns whether a text that begins with the head of a function ends in its body, and not in its head or a
+    clause."""
     while text != (less := re.sub(r"\{[^{}]*\}", ";", text)):
         text = less
     head, opened, _ = text.partition("{")
@@ -83,7 +86,7 @@ def is_in_body(text):
 
 
 def function_at(crate, path, lines, start, names):
-    """Returns the name of the function that begins in a line of a source, or None if that cannot be told."""
+    """Returns the name of the function that begins in a line of a source, or None if it can't be determined."""
     if start < 0:
         return None
     indent, function = FUNCTION.match(lines[start]).groups()
@@ -97,7 +100,7 @@ def function_at(crate, path, lines, start, names):
     words = {it[0].upper() + it[1:] for it in re.findall(r"\w+", header) if it not in ("for", "mut")}
 
     def distance(name):
-        # `impl From<A> for B` is BFromA; a type's own functions stand below the module of the type
+        # `impl From<A> for B` is BFromA; the functions of a type are below the module of the type
         *above, owner, _ = name.split("::")
         rest = re.sub("|".join([r"Tuple\d+|\+", *sorted(words, key=len, reverse=True)]), "", owner)
         return rest, sum(it not in owner for it in words), -len(os.path.commonprefix([above, module]))
@@ -157,8 +160,8 @@ def recorded(crate):
 
 
 class Workshop:
-    """A copy of the crates in a folder. Those that a trial of some crates needs have their libraries: as `rt ci` keeps
-    them of the same sources, or as they stand in libs/crates/NAME/out."""
+    """A copy of the crates in a folder. The crates that a trial needs have their libraries: those that `rt ci` keeps of
+    the same sources, or those in libs/crates/NAME/out."""
 
     def __init__(self, room, names, libs=None):
         for path in glob.glob("crates.txt") + glob.glob("HANDLES"):
@@ -166,7 +169,7 @@ class Workshop:
         for path in glob.glob("crates/*/*"):
             if os.path.basename(path) in PARTS:
                 shutil.copytree(path, f"{room}/{path}")
-        # (so that `rt` takes it for the top of a repository)
+        # (so that `rt` treats it as the top of a repository)
         os.mkdir(f"{room}/.git")
         rt.Crate.allowed, rt.Crate.cuts_libraries = rt.handles_of(room), True
         self.crates, self.ready = {it.name: it for it in rt.crates_of(room)}, set()
@@ -210,8 +213,8 @@ class Workshop:
             return run.returncode, said.read(), used.ru_utime + used.ru_stime
 
     def apply(self, edits, folder):
-        """Applies edits to a copy of their crate, each that can be beside those before it, and returns these. One that
-        can be applied nowhere has its result."""
+        """Applies to a copy of the crate each edit that does not conflict with earlier ones, and returns the applied
+        edits. One that can't be applied at all gets its result."""
         group, changed = [], set()
         for edit in edits:
             if group and (edit.is_alone or group[0].is_alone or edit.functions & changed):
@@ -226,7 +229,7 @@ class Workshop:
         return group
 
     def compile(self, name, edits):
-        """Compiles edits of a crate, as many at a time as can be. One that does not compile has its result."""
+        """Compiles edits of a crate, as many at a time as possible. One that does not compile gets its result."""
         while edits:
             with tempfile.TemporaryDirectory(prefix="mutants-") as folder:
                 self.copy(name, folder)

@@ -1,54 +1,55 @@
 /* Exact sparse matrices: the calls of the static library libsparse_c.a.
  *
- * Values are integers modulo 2^64, shown as int64_t: sums and products wrap. A matrix by rows (CSR) is a shape and
- * three arrays: `offsets` with rows + 1 numbers, where the entries of row i are those numbered offsets[i] to
- * offsets[i + 1] - 1; the column of each entry, strictly increasing in each row; and the value of each entry, which may
- * be 0. The arrays of a matrix by columns (CSC) are those of its transpose by rows. A dense matrix is an array of its
- * values, column by column.
+ * Values are integers modulo 2^64, represented as int64_t: sums and products wrap. A matrix by rows (CSR) is a shape
+ * and three arrays: `offsets` with rows + 1 numbers, where row i has the entries offsets[i] to offsets[i + 1] - 1; the
+ * column of each entry, strictly increasing in each row; and the value of each entry, which may be 0. The arrays of a
+ * matrix by columns (CSC) are those of its transpose by rows. A dense matrix is an array of its values, column by
+ * column.
  *
- * Arrays of a matrix are sound if there are rows + 1 offsets, which start with 0, do not decrease and end with the
- * number of indices, if the indices are below the number of columns and strictly increasing in each row, and if there
- * are as many values as indices. The values of a dense matrix are sound if their number is rows * cols, and lists of
+ * Arrays of a matrix are sound if there are rows + 1 offsets, which begin with 0, do not decrease and end with the
+ * number of indices, if the indices are below the number of columns and strictly increase in each row, and if there are
+ * as many values as indices. The values of a dense matrix are sound if their number is rows * cols, and lists of
  * triplets if they have the same length and their indices are within the shape.
  *
  * The calls whose names end in _mod compute modulo `modulus` instead, which is one of 2, 3, 5, 7, 11, 13, 101, 65537,
- * 998244353, 1000000007 and 2305843009213693951 (2^61 - 1); any other modulus has the status UNKNOWN_CHOICE. An int64_t
- * of an operand means its residue, also where it is negative or larger than the modulus, and the values of a result are
- * from 0 to modulus - 1.
+ * 998244353, 1000000007 and 2305843009213693951 (2^61 - 1); for any other modulus the status is UNKNOWN_CHOICE. An
+ * int64_t of an operand means its residue, also if it is negative or larger than the modulus, and the values of a
+ * result are from 0 to modulus - 1.
  *
- * What is proved. Every call returns, never touches memory outside the arrays that it is given, and has a contract in
- * crates/sparse_c/src, which holds for all arrays, sound or not. At status 0 the arrays for the result start with the
- * arrays of a sound matrix, and this matrix is the one that the call names: the transpose, the sum, the product of the
- * operands; or they start with an X that solves the equation, with the factors of the matrix, with the triplets that a
- * text means, or with the text of triplets. Longer arrays are unchanged after the result. At any other status the
- * arrays are unchanged, and the status says why. Equations hold in the ring of the call: the integers modulo 2^64, or
- * modulo `modulus`.
+ * What is proved. Every call returns, accesses no memory outside the arrays that it is given, and has a contract in
+ * crates/sparse_c/src, which holds for all arrays, sound or not. At status 0 the arrays for the result begin with the
+ * arrays of a sound matrix, whose plain matrix is the one that the call names: the transpose, the sum, the product of
+ * the plain matrices of the operands; or they begin with an X that solves the equation, with the factors of the matrix,
+ * with the triplets that a text means, or with the text of triplets. The elements of longer arrays after the result are
+ * unchanged. At any other status the arrays are unchanged, and the status says why. Equations hold in the ring of the
+ * call: the integers modulo 2^64, or modulo `modulus`.
  *
- * At TOO_SMALL the call writes the size that is needed: the last argument, out_places, out_triplets or out_length,
- * becomes the number that it would have at status 0. So a call with short arrays, or with none, may be repeated with
- * arrays of that size. The other sizes follow from the shape. At any status but 0 and TOO_SMALL this argument is
- * unchanged. The calls that write a dense matrix have no such argument, and nalgebra_sparse_matrix_read leaves it
- * unchanged at TOO_SMALL too.
+ * At TOO_SMALL the call tells the size that is needed: the last argument, out_places, out_triplets or out_length,
+ * becomes the number that it would have at status 0. So after a call with short arrays, or with none, you can call
+ * again with arrays of that size. The other sizes follow from the shape. At any status but 0 and TOO_SMALL that number
+ * is unchanged. The calls that write a dense matrix have no such argument, and nalgebra_sparse_matrix_read leaves it
+ * unchanged.
  *
- * Each call lists its statuses in the order in which it looks for their causes, and returns the first that applies:
- * first a number that chooses among cases, then the faults of the operands in their order, then SINGULAR, and last
- * TOO_SMALL. So at status 0, SINGULAR and TOO_SMALL all operands are sound, and at TOO_SMALL there is a result, and
- * some array is smaller than its part of it. OUT_OF_MEMORY may be returned in place of any status but UNKNOWN_CHOICE.
+ * The statuses of each call are listed in the order in which it tests for their causes, and it returns the first that
+ * applies: first a number that chooses among cases, then the faults of the operands in their order, then SINGULAR, and
+ * last TOO_SMALL. So at status 0, SINGULAR and TOO_SMALL all operands are sound, and at TOO_SMALL there is a result,
+ * and some array is smaller than its part of it. OUT_OF_MEMORY may be returned instead of any status but
+ * UNKNOWN_CHOICE.
  *
  * What is not proved. No contract says that OUT_OF_MEMORY is returned only if an allocation failed: by the contracts it
- * may be returned at any time. A test lets each allocation of small calls fail in turn (bindings/c/test_refusals.c).
- * This header and the programs around the library are checked by tests alone (bindings/test). The caller must see to it
- * that
+ * may be returned at any time. A test refuses each request for memory of small calls in turn
+ * (bindings/c/test_refusals.c). This header and the programs around the library are checked by tests alone
+ * (bindings/test). The caller must ensure that
  *   - each pointer is not null, even where the length is 0, is aligned, and has at least as many elements as the length
  *     says (the inline functions over structs take the null pointer of an empty std::vector, and pass another one);
  *   - no array for a result overlaps another array;
- *   - malloc, realloc and free come from one allocator, which aligns blocks as the C standard demands;
- *   - no call is made from a signal handler, or in the child of a fork of a process with threads.
+ *   - malloc, realloc and free belong to one allocator, which aligns blocks as the C standard requires;
+ *   - no function is called from a signal handler, or in the child of a fork of a process with threads.
  *
- * Each call takes the time and memory of the library's function, and memory for copies of the operands' arrays. Sums
- * read the operands without a copy if the arrays for the result have room for the entries of both.
+ * Each call takes time and memory as the call of the Rattle library does, and in addition copies the operands' arrays.
+ * Sums read the operands without a copy if the arrays for the result have room for the entries of both.
  *
- * Threads. The library has no global state: only what handles own lasts from one call to the next. So any number of
+ * Threads. The library has no global variables: all that persists between calls is owned by handles. So any number of
  * threads may call at once. They may share the arrays of operands, and each handle is used by one call at a time. While
  * a call runs, no other thread may write an array that it reads, or read or write an array for its result.
  *
@@ -93,7 +94,7 @@ enum {
     NALGEBRA_SPARSE_TOO_SMALL = 5,
     /* A value that must have an inverse has none. */
     NALGEBRA_SPARSE_SINGULAR = 6,
-    /* A number that chooses among cases, such as a modulus, is none of those that the call knows. */
+    /* A number that chooses among cases, such as a modulus, is not one of those that the call knows. */
     NALGEBRA_SPARSE_UNKNOWN_CHOICE = 7,
     /* A text does not match the grammar, or a number in it is out of range. */
     NALGEBRA_SPARSE_INVALID_TEXT = 8,
@@ -101,7 +102,7 @@ enum {
     NALGEBRA_SPARSE_INVALID_HEADER = 9,
     /* The number of entries of a text is not the one of its size line. */
     NALGEBRA_SPARSE_ENTRY_MISMATCH = 10,
-    /* A text has an entry that is no integer of 64 bits. */
+    /* A text has an entry that is not an integer of 64 bits. */
     NALGEBRA_SPARSE_TYPE_MISMATCH = 11,
     /* An index of a text is 0; indices of texts count from 1. */
     NALGEBRA_SPARSE_ZERO_INDEX = 12,
@@ -122,8 +123,8 @@ enum {
 /* The triangles of nalgebra_sparse_fill. */
 enum { NALGEBRA_SPARSE_UPPER = 0, NALGEBRA_SPARSE_LOWER = 1, NALGEBRA_SPARSE_BOTH = 2 };
 
-/* Writes the matrix of a list of triplets by rows: an entry for each row and column that occur together in the lists,
- * with the sum of the values of these triplets.
+/* Writes the matrix of triplets by rows: an entry for each row and column in the lists, with the sum of the values
+ * there.
  *
  * The three lists have the same length. out_offsets needs rows + 1 numbers, and out_indices and out_values one for each
  * entry: `values_len` is always enough. *out_places becomes the number of entries, also at TOO_SMALL.
@@ -140,8 +141,8 @@ int32_t nalgebra_sparse_assemble_csr(
     int64_t *out_values, size_t out_values_len,
     size_t *out_places);
 
-/* Writes the matrix of a list of triplets by columns: out_offsets needs cols + 1 numbers, and out_indices are rows.
- * Otherwise as nalgebra_sparse_assemble_csr.
+/* Writes the matrix of triplets by columns: out_offsets needs cols + 1 numbers, and out_indices are rows. Otherwise
+ * like nalgebra_sparse_assemble_csr.
  */
 int32_t nalgebra_sparse_assemble_csc(
     size_t rows, size_t cols,
@@ -153,8 +154,8 @@ int32_t nalgebra_sparse_assemble_csc(
     int64_t *out_values, size_t out_values_len,
     size_t *out_places);
 
-/* Writes the matrix of a list of triplets by rows modulo `modulus`: the list of moduli and the meaning of values are at
- * the head of this file. The arrays for the result are as for nalgebra_sparse_assemble_csr.
+/* Writes the matrix of triplets by rows modulo `modulus`: the list of moduli and the meaning of values are at the head
+ * of this file. The arrays for the result are as for nalgebra_sparse_assemble_csr.
  *
  * Statuses: UNKNOWN_CHOICE if the modulus is not listed; otherwise as for nalgebra_sparse_assemble_csr.
  */
@@ -183,12 +184,12 @@ int32_t nalgebra_sparse_assemble_csc_mod(
     int64_t *out_values, size_t out_values_len,
     size_t *out_places);
 
-/* Writes the transpose of a matrix by rows, also by rows: out_offsets needs cols + 1 numbers, and out_indices and
- * out_values `values_len` each. The values are copied as they are, so this call serves every modulus.
+/* Writes the transpose of a matrix by rows, by rows too: out_offsets needs cols + 1 numbers, and out_indices and
+ * out_values `values_len` each. It only moves values, so it can be used for every modulus.
  *
  * Statuses: OUT_OF_MEMORY; INVALID_STRUCTURE, INDEX_OUT_OF_BOUNDS or DUPLICATE_ENTRY for the first fault of the arrays;
- * TOO_SMALL. Faults are looked for in this order: the number of offsets; the first and the last offset; row by row the
- * end of the row and then its indices, each compared with the number of columns and then with the index before it; the
+ * TOO_SMALL. Faults are tested in this order: the number of offsets; the first and the last offset; row by row the end
+ * of the row and then its indices, each compared with the number of columns and then with the index before it; the
  * number of values.
  */
 int32_t nalgebra_sparse_transpose(
@@ -201,10 +202,9 @@ int32_t nalgebra_sparse_transpose(
     int64_t *out_values, size_t out_values_len,
     size_t *out_places);
 
-/* Writes the sum a + b of two matrices by rows with the same shape. Its pattern is the union of theirs, also where a
- * sum is 0: out_offsets needs rows + 1 numbers, and for out_indices and out_values a_values_len + b_values_len is
- * always enough. With that much room the call allocates nothing; with less it allocates memory for the sum and copies
- * it.
+/* Writes the sum a + b of two matrices by rows with the same shape, on the union of their patterns, also where a sum is
+ * 0: out_offsets needs rows + 1 numbers, and for out_indices and out_values a_values_len + b_values_len is always
+ * enough. With that much room the call allocates nothing; with less it computes the sum in memory first, and copies it.
  *
  * Statuses: OUT_OF_MEMORY; the first fault of a, and otherwise that of b, as for nalgebra_sparse_transpose; TOO_SMALL.
  */
@@ -221,7 +221,7 @@ int32_t nalgebra_sparse_add(
     int64_t *out_values, size_t out_values_len,
     size_t *out_places);
 
-/* Writes the difference a - b. Otherwise as nalgebra_sparse_add. */
+/* Writes the difference a - b. Otherwise like nalgebra_sparse_add. */
 int32_t nalgebra_sparse_subtract(
     size_t rows, size_t cols,
     const size_t *a_offsets, size_t a_offsets_len,
@@ -235,8 +235,8 @@ int32_t nalgebra_sparse_subtract(
     int64_t *out_values, size_t out_values_len,
     size_t *out_places);
 
-/* Writes the sum of multiples alpha a + beta b of two matrices by rows with the same shape. Its pattern is the union of
- * theirs, also where alpha, beta or a value is 0. Otherwise as nalgebra_sparse_add.
+/* Writes the sum alpha a + beta b of multiples of two matrices by rows with the same shape, on the union of their
+ * patterns, also where a scale or a value is 0. Otherwise like nalgebra_sparse_add.
  */
 int32_t nalgebra_sparse_add_scaled(
     size_t rows, size_t cols,
@@ -272,7 +272,7 @@ int32_t nalgebra_sparse_add_mod(
     int64_t *out_values, size_t out_values_len,
     size_t *out_places);
 
-/* Writes the difference a - b modulo `modulus`. Otherwise as nalgebra_sparse_add_mod. */
+/* Writes the difference a - b modulo `modulus`. Otherwise like nalgebra_sparse_add_mod. */
 int32_t nalgebra_sparse_subtract_mod(
     uint64_t modulus,
     size_t rows, size_t cols,
@@ -287,7 +287,7 @@ int32_t nalgebra_sparse_subtract_mod(
     int64_t *out_values, size_t out_values_len,
     size_t *out_places);
 
-/* Writes the sum alpha a + beta b modulo `modulus`; alpha and beta mean their residues. Otherwise as
+/* Writes the sum alpha a + beta b modulo `modulus`; alpha and beta mean their residues. Otherwise like
  * nalgebra_sparse_add_mod.
  */
 int32_t nalgebra_sparse_add_scaled_mod(
@@ -306,7 +306,7 @@ int32_t nalgebra_sparse_add_scaled_mod(
     int64_t *out_values, size_t out_values_len,
     size_t *out_places);
 
-/* Writes to *out_places the number of entries of the product of two matrices with these patterns by rows: the size for
+/* Writes to *out_places how many entries the product of two patterns by rows has: the size for
  * nalgebra_sparse_multiply. `a` has `rows` rows and `inner` columns, `b` has `inner` rows and `cols` columns.
  *
  * Statuses: OUT_OF_MEMORY; the first fault of a, and otherwise that of b, as for nalgebra_sparse_transpose.
@@ -319,11 +319,10 @@ int32_t nalgebra_sparse_multiply_places(
     const size_t *b_indices, size_t b_indices_len,
     size_t *out_places);
 
-/* Writes the product a b of two matrices by rows. It has an entry (i, j) wherever there are entries (i, k) of a and (k,
- * j) of b, also where the sum is 0: out_offsets needs rows + 1 numbers, and out_indices and out_values as many as
+/* Writes the product a b of two matrices by rows, with an entry (i, j) wherever some k has an entry (i, k) in a and (k,
+ * j) in b, also where the sum is 0: out_offsets needs rows + 1 numbers, and out_indices and out_values as many as
  * *out_places says at TOO_SMALL, or nalgebra_sparse_multiply_places, which takes about as long as the product. One
- * number for each multiplication is always enough: the sum, over the entries (i, k) of a, of the number of entries in
- * row k of b.
+ * number for each multiplication is always enough: the sum, over the entries (i, k) of a, of the lengths of row k of b.
  *
  * Statuses: OUT_OF_MEMORY; the first fault of a, and otherwise that of b, as for nalgebra_sparse_transpose; TOO_SMALL.
  */
@@ -387,10 +386,11 @@ int32_t nalgebra_sparse_multiply_dense_mod(
     const int64_t *b_values, size_t b_values_len,
     int64_t *out_values, size_t out_values_len);
 
-/* Writes the X for which L X = B, or L^T X = B if `transposed` is true. L is the lower triangle, with the diagonal, of
- * a matrix by columns with `size` rows and columns; entries above the diagonal are ignored. To solve with the upper
- * triangle of a matrix by rows, pass its arrays with `transposed`: they are those of its transpose by columns. B and X
- * have `cols` columns: b_values_len is size * cols, and out_values needs as many numbers.
+/* Writes the X for which L X = B, or, if `transposed` is true, for which the transpose of L times X is B. L is the part
+ * on and below the diagonal of a matrix by columns with `size` rows and columns; entries above the diagonal have no
+ * effect. The arrays of a matrix by rows are those of its transpose by columns, so for its part on and above the
+ * diagonal set `transposed`. B and X have `cols` columns: b_values_len is size * cols, and out_values needs as many
+ * numbers.
  *
  * Statuses: OUT_OF_MEMORY; the first fault of the arrays, as for nalgebra_sparse_transpose; INVALID_STRUCTURE if B has
  * another number of values; SINGULAR if there is a column to solve for, and some diagonal entry is missing or even,
@@ -455,10 +455,10 @@ int32_t nalgebra_sparse_divide_mod(
     int64_t *out_values, size_t out_values_len,
     size_t *out_places);
 
-/* Writes to *out_places the number of entries of the factor L of a symmetric matrix: the size for nalgebra_sparse_fill.
- * `triangle` says which entries of the pattern by columns, with `size` rows and columns, give the pattern of the
- * symmetric matrix: NALGEBRA_SPARSE_UPPER, those on and above the diagonal; NALGEBRA_SPARSE_LOWER, those on and below
- * it; NALGEBRA_SPARSE_BOTH, all.
+/* Writes to *out_places how many entries the factor L of a symmetric elimination has: the size for
+ * nalgebra_sparse_fill. `triangle` says which entries of the pattern by columns, with `size` rows and columns, the
+ * elimination starts from: NALGEBRA_SPARSE_UPPER, those on and above the diagonal; NALGEBRA_SPARSE_LOWER, those on and
+ * below it; NALGEBRA_SPARSE_BOTH, all.
  *
  * Statuses: UNKNOWN_CHOICE if `triangle` is another number; OUT_OF_MEMORY; the first fault of the arrays, as for
  * nalgebra_sparse_transpose.
@@ -469,9 +469,9 @@ int32_t nalgebra_sparse_fill_places(
     const size_t *indices, size_t indices_len,
     size_t *out_places);
 
-/* Writes the pattern of this factor L, by columns: the smallest set of pairs (i, j), i >= j, that has the given
- * entries, those above the diagonal transposed, and that has (i, j) wherever it has (i, k) and (j, k) with k < j <= i.
- * out_offsets needs size + 1 numbers, and out_indices as many as nalgebra_sparse_fill_places says.
+/* Writes the pattern of that factor, by columns: the smallest set of pairs on and below the diagonal that has the pairs
+ * that the elimination starts from, and that has (i, j) wherever it has (i, k) and (j, k) with k < j <= i. out_offsets
+ * needs size + 1 numbers, and out_indices as many as nalgebra_sparse_fill_places says.
  *
  * Statuses: as for nalgebra_sparse_fill_places; TOO_SMALL.
  */
@@ -485,9 +485,9 @@ int32_t nalgebra_sparse_fill(
 
 /* Writes the X for which A X = B, where A is the symmetric matrix whose entries on and above the diagonal are those of
  * a matrix by columns with `size` rows and columns, by the exact factorisation of A into L D L^T. Entries below the
- * diagonal are ignored: for a matrix that is not symmetric, X solves another system. (A matrix is symmetric if all
- * values of nalgebra_sparse_subtract of it and its nalgebra_sparse_transpose are 0.) B and X have `cols` columns:
- * b_values_len is size * cols, and out_values needs as many numbers.
+ * diagonal have no effect, and no call tests them: for a matrix that is not symmetric, X solves another system. (A
+ * matrix is symmetric if all values of nalgebra_sparse_subtract of it and its nalgebra_sparse_transpose are 0.) B and X
+ * have `cols` columns: b_values_len is size * cols, and out_values needs as many numbers.
  *
  * Statuses: OUT_OF_MEMORY; the first fault of the arrays, as for nalgebra_sparse_transpose; INVALID_STRUCTURE if B has
  * another number of values; SINGULAR if no factorisation exists; TOO_SMALL.
@@ -514,13 +514,13 @@ int32_t nalgebra_sparse_solve_symmetric_mod(
     int64_t *out_values, size_t out_values_len);
 
 /* Writes the exact factors of a symmetric matrix, A = L D L^T, where A has the entries on and above the diagonal of a
- * matrix by columns with `size` rows and columns. Entries below the diagonal are ignored. L has ones on the diagonal
- * and zeros above it, and is written by columns; D is diagonal, each of its values has an inverse, and they are written
- * to out_diagonal. No other L and D satisfy the equation.
+ * matrix by columns with `size` rows and columns. Entries below the diagonal have no effect, and no call tests them. L
+ * has ones on the diagonal and zeros above it, and is written by columns; D is diagonal, each of its values has an
+ * inverse, and they are written to out_diagonal. No other L and D satisfy the equation.
  *
- * The pattern of L is exactly the one that nalgebra_sparse_fill gives for NALGEBRA_SPARSE_UPPER, also where a value is
- * 0: so out_indices and out_values need as many numbers as nalgebra_sparse_fill_places says for that triangle,
- * out_offsets needs size + 1, and out_diagonal `size`. *out_places becomes the number of entries of L.
+ * The pattern of L is the one that nalgebra_sparse_fill writes for NALGEBRA_SPARSE_UPPER, also where a value is 0: so
+ * out_indices and out_values need as many numbers as nalgebra_sparse_fill_places says for that triangle, out_offsets
+ * needs size + 1, and out_diagonal `size`. *out_places becomes the number of entries of L.
  *
  * Statuses: OUT_OF_MEMORY; the first fault of the arrays, as for nalgebra_sparse_transpose; SINGULAR if no
  * factorisation exists; TOO_SMALL.
@@ -557,19 +557,19 @@ int32_t nalgebra_sparse_factor_symmetric_mod(
  *
  * Statuses: OUT_OF_MEMORY; UNREADABLE; and the first error of the text, in this order: INVALID_TEXT if it does not
  * match the grammar; INVALID_HEADER; INVALID_TEXT if the size line does not fit the header or a size is 2^64 or more;
- * NON_SQUARE; ENTRY_MISMATCH; then, entry by entry, INVALID_TEXT if it has not the numbers that the header asks for or
- * an index is 2^64 or more; ZERO_INDEX; INVALID_TEXT if its value is no integer from -2^127 to 2^127 - 1; TYPE_MISMATCH
- * if the value is no integer of 64 bits; NOT_LOWER_TRIANGLE; DIAGONAL_ENTRY; last INDEX_OUT_OF_BOUNDS. So the line `0 1
- * x` is INVALID_TEXT, and `0 1 1.0` is ZERO_INDEX, although 1.0 is no integer.
+ * NON_SQUARE; ENTRY_MISMATCH; then, entry by entry, INVALID_TEXT if it does not have the numbers that the header
+ * requires or an index is 2^64 or more; ZERO_INDEX; INVALID_TEXT if its value is not an integer from -2^127 to 2^127 -
+ * 1; TYPE_MISMATCH if the value is not an integer of 64 bits; NOT_LOWER_TRIANGLE; DIAGONAL_ENTRY; last
+ * INDEX_OUT_OF_BOUNDS. So the line `0 1 x` is INVALID_TEXT, and `0 1 1.0` is ZERO_INDEX, although 1.0 is not an
+ * integer.
  */
 int32_t nalgebra_sparse_read_sizes(
     const uint8_t *text, size_t text_len,
     size_t *out_rows, size_t *out_cols, size_t *out_triplets);
 
-/* Writes the triplets of such a text, in the order of the text: rows and columns count from 0, triplets with the same
- * row and column are kept, and the mirrored triplet that a symmetry implies directly follows the triplet of the text.
- * The three arrays need as many numbers as nalgebra_sparse_read_sizes says there are triplets, and *out_triplets
- * becomes their number.
+/* Writes the triplets of such a text, in its order: rows and columns count from 0, repeated entries are kept, and the
+ * mirrored entry that a symmetry implies directly follows its entry. The three arrays need as many numbers as
+ * nalgebra_sparse_read_sizes says there are triplets, and *out_triplets becomes their number.
  *
  * Statuses: as for nalgebra_sparse_read_sizes; TOO_SMALL.
  */
@@ -607,30 +607,30 @@ int32_t nalgebra_sparse_write(
 
 /* Handles.
  *
- * A handle is an opaque pointer to a matrix that the library owns, over the integers modulo 2^64. An empty handle holds
- * no matrix: it is {NULL}, as NALGEBRA_SPARSE_NO_MATRIX. The calls below take handles in place of arrays, so a chain of
- * them checks no array twice. Transposes, multiples, sums and products copy no operand; a triangular solve and a
- * factorisation copy the matrix, and each solve copies its right-hand side. Their contracts are equations between the
- * matrices that the handles hold (crates/sparse_c/src/handles.rt, handle_operations.rt, handle_systems.rt and
- * handle_texts.rt). No call with handles computes modulo another number.
+ * A handle has a matrix that the library owns, over the integers modulo 2^64, or none: then it is {NULL}, like
+ * NALGEBRA_SPARSE_NO_MATRIX. The calls below take handles instead of arrays, so a chain of them checks each array once.
+ * Transposes, multiples, sums and products copy no operand; a solve with a triangle and a factorisation copy the
+ * matrix, and each solve copies its right-hand side. Their contracts are equations between the plain matrices behind
+ * handles (crates/sparse_c/src/handles.rt, handle_operations.rt, handle_systems.rt and handle_texts.rt). No call over
+ * handles computes modulo another number.
  *
- *     nalgebra_sparse_matrix a = NALGEBRA_SPARSE_NO_MATRIX, square = NALGEBRA_SPARSE_NO_MATRIX;
- *     nalgebra_sparse_matrix copy = NALGEBRA_SPARSE_NO_MATRIX;
+ *     nalgebra_sparse_matrix a = NALGEBRA_SPARSE_NO_MATRIX, copy = NALGEBRA_SPARSE_NO_MATRIX;
+ *     nalgebra_sparse_matrix square = NALGEBRA_SPARSE_NO_MATRIX;
  *     status = nalgebra_sparse_matrix_from_rows(2, 2, offsets, 3, indices, 2, values, 2, &a);
  *     status = nalgebra_sparse_matrix_clone(&a, &copy);
  *     status = nalgebra_sparse_matrix_multiply(&a, &copy, &square);
  *     nalgebra_sparse_matrix_free(&a), nalgebra_sparse_matrix_free(&copy), nalgebra_sparse_matrix_free(&square);
  *
- * A result is stored in `out`, and the matrix that `out` held before is dropped. At any status but 0 `out` is
- * unchanged. Each handle that holds a matrix must be freed once. A handle that was freed is empty: it may be freed
- * again and used again.
+ * A call puts its result behind `out`, and the matrix that was there before is dropped. At any status but 0 `out` is
+ * unchanged. Each handle with a matrix must be freed once, and a handle that was freed is empty: it may be freed again
+ * and used again.
  *
- * The caller must see to it that
- *   - a handle is either empty or as a call left it: its bytes are not set in another way, and if they are copied, only
- *     one of the copies is passed to calls;
- *   - the handles of one call are different variables: for the square of a matrix, or to store a result in place of an
- *     operand, clone it first, which copies no array;
- *   - each handle is used by one call at a time. Between calls a handle may be passed to another thread, and handles
+ * The caller must ensure that
+ *   - a handle is either empty or as a call left it: it is not created from other bytes, and after its bytes were
+ *     copied only one of the copies is passed to calls;
+ *   - the handles of one call are different variables: for the square of a matrix, or to replace an operand by the
+ *     result, clone it first, which copies no array;
+ *   - each handle is used by one call at a time. Between calls a handle may be moved to another thread, and handles
  *     that share a matrix may be used by several threads at once.
  *
  * Statuses: OUT_OF_MEMORY; EMPTY_HANDLE exactly if an operand is empty, before each status but OUT_OF_MEMORY;
@@ -653,8 +653,8 @@ int32_t nalgebra_sparse_matrix_from_rows(
     const int64_t *values, size_t values_len,
     nalgebra_sparse_matrix *out);
 
-/* Stores in `out` the matrix of a list of triplets, as nalgebra_sparse_assemble_csr writes it. Statuses:
- * INVALID_STRUCTURE if the lists have different lengths; INDEX_OUT_OF_BOUNDS.
+/* Puts the matrix of triplets behind `out`: an entry for each row and column in the lists, with the sum of the values
+ * there. Statuses: INVALID_STRUCTURE if the lists have different lengths; INDEX_OUT_OF_BOUNDS.
  */
 int32_t nalgebra_sparse_matrix_from_triplets(
     size_t rows, size_t cols,
@@ -663,12 +663,12 @@ int32_t nalgebra_sparse_matrix_from_triplets(
     const int64_t *values, size_t values_len,
     nalgebra_sparse_matrix *out);
 
-/* Writes the numbers of rows, columns and entries of the matrix that `a` holds. */
+/* Writes the numbers of rows, columns and entries of the matrix behind `a`. */
 int32_t nalgebra_sparse_matrix_sizes(nalgebra_sparse_matrix *a, size_t *out_rows, size_t *out_cols, size_t *out_places);
 
-/* Writes the arrays by rows of the matrix that `a` holds: out_offsets needs rows + 1 numbers, and out_indices and
- * out_values one for each entry, whose number nalgebra_sparse_matrix_sizes writes. *out_places becomes the number of
- * entries. Statuses: TOO_SMALL.
+/* Writes the matrix behind `a` by rows: out_offsets needs rows + 1 numbers, and out_indices and out_values one for each
+ * entry, whose number nalgebra_sparse_matrix_sizes tells. *out_places becomes the number of entries. Statuses:
+ * TOO_SMALL.
  */
 int32_t nalgebra_sparse_matrix_read(
     nalgebra_sparse_matrix *a,
@@ -680,25 +680,24 @@ int32_t nalgebra_sparse_matrix_read(
 /* Stores in `out` the transpose of the matrix that `a` holds. */
 int32_t nalgebra_sparse_matrix_transpose(nalgebra_sparse_matrix *a, nalgebra_sparse_matrix *out);
 
-/* Stores in `out` the matrix that `a` holds, times a number, with the same pattern. */
+/* Puts the product of a number and the matrix behind `a` behind `out`, with the same pattern. */
 int32_t nalgebra_sparse_matrix_scale(int64_t factor, nalgebra_sparse_matrix *a, nalgebra_sparse_matrix *out);
 
-/* Stores in `out` the sum a + b of two matrices with the same shape. Its pattern is the union of theirs. */
+/* Puts the sum a + b of two matrices with the same shape behind `out`, on the union of their patterns. */
 int32_t nalgebra_sparse_matrix_add(nalgebra_sparse_matrix *a, nalgebra_sparse_matrix *b, nalgebra_sparse_matrix *out);
 
-/* Stores in `out` the difference a - b of two matrices with the same shape. Its pattern is the union of theirs. */
+/* Puts the difference a - b of two matrices with the same shape behind `out`, on the union of their patterns. */
 int32_t nalgebra_sparse_matrix_subtract(nalgebra_sparse_matrix *a, nalgebra_sparse_matrix *b, nalgebra_sparse_matrix *out);
 
-/* Stores in `out` the sum alpha a + beta b of multiples of two matrices with the same shape. Its pattern is the union
- * of theirs.
- */
+/* Puts the sum alpha a + beta b of multiples of two matrices with the same shape behind `out`, on the union of their
+ * patterns. */
 int32_t nalgebra_sparse_matrix_add_scaled(
     int64_t alpha, nalgebra_sparse_matrix *a,
     int64_t beta, nalgebra_sparse_matrix *b,
     nalgebra_sparse_matrix *out);
 
-/* Stores in `out` the product a b, with the pattern of nalgebra_sparse_multiply. The matrix of `a` has as many columns
- * as that of `b` has rows.
+/* Puts the product a b behind `out`, with an entry (i, j) wherever some k has an entry (i, k) in a and (k, j) in b. `a`
+ * has as many columns as `b` has rows.
  */
 int32_t nalgebra_sparse_matrix_multiply(nalgebra_sparse_matrix *a, nalgebra_sparse_matrix *b, nalgebra_sparse_matrix *out);
 
@@ -708,20 +707,20 @@ int32_t nalgebra_sparse_matrix_clone(nalgebra_sparse_matrix *a, nalgebra_sparse_
 /* Empties a handle. The matrix that it held is freed with the last handle that shares it. */
 void nalgebra_sparse_matrix_free(nalgebra_sparse_matrix *a);
 
-/* Stores in `out` the matrix of a text in Matrix Market format, with integers or as an array of integers. Values with
- * the same row and column are added. Statuses: as for nalgebra_sparse_read_sizes.
+/* Puts the matrix of a text in Matrix Market format, with integers or as an array of integers, behind `out`: an entry
+ * for each row and column in the text, with the sum of the values there. Statuses: as for nalgebra_sparse_read_sizes.
  */
 int32_t nalgebra_sparse_matrix_from_text(const uint8_t *text, size_t text_len, nalgebra_sparse_matrix *out);
 
-/* Writes the text of the matrix that `a` holds in Matrix Market format (coordinate, integer, general), with a line for
- * each entry, row by row. It is ASCII, and no zero byte ends it. *out_length becomes the number of its bytes, also at
+/* Writes the text of the matrix behind `a` in Matrix Market format (coordinate, integer, general), with a line for each
+ * entry, row by row. It is ASCII, and no zero byte ends it. *out_length becomes the number of its bytes, also at
  * TOO_SMALL, where `out_text` is unchanged. Statuses: TOO_SMALL if out_text_len is less.
  */
 int32_t nalgebra_sparse_matrix_to_text(nalgebra_sparse_matrix *a, uint8_t *out_text, size_t out_text_len, size_t *out_length);
 
-/* Solves L X = B in place, or L^T X = B if `transposed` is set: L is the lower triangle, with the diagonal, of the
- * square matrix that `a` holds. `values` has the values of B, column by column, before the call and those of X after
- * it: values_len is the number of rows times `cols`. The call allocates memory for copies of B and of the matrix.
+/* Solves L X = B, or L^T X = B where `transposed` is set: L is the part on and below the diagonal of the square matrix
+ * behind `a`. `values` has B, column by column, and then X: values_len is the number of rows times `cols`. In addition
+ * the call allocates a copy of B and of the matrix.
  *
  * Statuses: SHAPE_MISMATCH if the matrix is not square; INVALID_STRUCTURE if B has another number of values; SINGULAR
  * if there is a column to solve for, and some diagonal entry is missing or even. At any status but 0 `values` is
@@ -731,7 +730,7 @@ int32_t nalgebra_sparse_matrix_solve_lower(
     nalgebra_sparse_matrix *a, bool transposed,
     size_t cols, int64_t *values, size_t values_len);
 
-/* Solves U X = B, or U^T X = B, where U is the upper triangle, with the diagonal. Otherwise as
+/* Solves U X = B, or U^T X = B, where U is the part on and above the diagonal. Otherwise like
  * nalgebra_sparse_matrix_solve_lower.
  */
 int32_t nalgebra_sparse_matrix_solve_upper(
@@ -740,8 +739,8 @@ int32_t nalgebra_sparse_matrix_solve_upper(
 
 /* Handles of factors.
  *
- * A handle of factors holds the exact factors L D L^T of a symmetric matrix, as nalgebra_sparse_factor_symmetric writes
- * them, or is empty. The rules for handles of matrices apply to it.
+ * Such a handle has the exact factors L D L^T of a symmetric matrix, as nalgebra_sparse_factor_symmetric writes them,
+ * or none. What is said above about handles of matrices is true of these.
  *
  *     nalgebra_sparse_factors f = NALGEBRA_SPARSE_NO_FACTORS;
  *     status = nalgebra_sparse_matrix_factor(&a, &f);
@@ -755,16 +754,17 @@ typedef struct {
 /* An empty handle. */
 #define NALGEBRA_SPARSE_NO_FACTORS {NULL}
 
-/* Stores in `out` the factors of the symmetric matrix whose entries on and above the diagonal are those of the matrix
- * that `a` holds. Entries below the diagonal are ignored: if nalgebra_sparse_matrix_subtract of the matrix and its
- * transpose has a value other than 0, the factors are those of another matrix. The call also allocates memory for a
- * copy of the matrix. Statuses: SHAPE_MISMATCH if the matrix is not square; SINGULAR if no factorisation exists.
+/* Puts the factors of the symmetric matrix behind `out` whose entries on and above the diagonal are those of the matrix
+ * behind `a`. Entries below the diagonal have no effect, and no call tests them: if nalgebra_sparse_matrix_subtract of
+ * the matrix and its transpose has a value other than 0, the factors are those of another matrix. In addition the call
+ * allocates a copy of the matrix. Statuses: SHAPE_MISMATCH if the matrix is not square; SINGULAR if no factorisation
+ * exists.
  */
 int32_t nalgebra_sparse_matrix_factor(nalgebra_sparse_matrix *a, nalgebra_sparse_factors *out);
 
-/* Solves L D L^T X = B in place with the factors that `f` holds. `values` has the values of B, column by column, before
- * the call and those of X after it: values_len is the number of rows of L times `cols`. The call allocates memory for a
- * copy of B. Statuses: INVALID_STRUCTURE if B has another number of values. At any status but 0 `values` is unchanged.
+/* Solves L D L^T X = B with the factors behind `f`. `values` has B, column by column, and then X: values_len is the
+ * number of rows of L times `cols`. In addition the call allocates a copy of B. Statuses: INVALID_STRUCTURE if B has
+ * another number of values; `values` is then unchanged.
  */
 int32_t nalgebra_sparse_factors_solve(nalgebra_sparse_factors *f, size_t cols, int64_t *values, size_t values_len);
 

@@ -1,16 +1,16 @@
 /* The inline functions of nalgebra_sparse.h, which includes this file: the calls with matrices as structs, and the
  * texts of statuses.
  *
- * Each function takes structs and calls the function of nalgebra_sparse.h whose name is its own without the last word:
- * nalgebra_sparse_multiply_rows calls nalgebra_sparse_multiply. It has the statuses of that function, and
- * SHAPE_MISMATCH if the shapes of the operands do not fit. A null pointer stands for an array of length 0, whatever
- * length is passed with it, so the data of an empty std::vector may be passed. The functions with handles take arrays
- * as those of nalgebra_sparse.h do, and null pointers too. These functions are tested, not proved.
+ * Each function takes structs and calls the function of nalgebra_sparse.h with the same name but for the last word:
+ * nalgebra_sparse_multiply_rows calls nalgebra_sparse_multiply. It returns the statuses of that function, and
+ * SHAPE_MISMATCH if the shapes of the operands do not fit. A null pointer means an array of length 0, whatever length
+ * is passed with it, so the data of an empty std::vector may be passed. The functions over handles take arrays as those
+ * of nalgebra_sparse.h do, and null pointers too. These functions are tested, not proved.
  */
 #ifndef NALGEBRA_SPARSE_INLINE_H
 #define NALGEBRA_SPARSE_INLINE_H
 
-/* Returns the text of a status, without a full stop, or "an unknown status". It is never freed. */
+/* Returns the text of a status, without a full stop, or "an unknown status". It is static: do not free it. */
 static inline const char *nalgebra_sparse_status_text(int32_t status) {
     switch (status) {
     case NALGEBRA_SPARSE_DONE: return "done";
@@ -36,7 +36,7 @@ static inline const char *nalgebra_sparse_status_text(int32_t status) {
     }
 }
 
-/* A matrix by rows: `offsets` has rows + 1 numbers, `indices` and `values` have `places`. */
+/* A matrix by rows: `offsets` has rows + 1 numbers, `indices` and `values` have `places`, the number of entries. */
 typedef struct {
     size_t rows, cols;
     const size_t *offsets, *indices;
@@ -44,7 +44,7 @@ typedef struct {
     size_t places;
 } nalgebra_sparse_rows;
 
-/* A matrix by columns: `offsets` has cols + 1 numbers, `indices` and `values` have `places`. */
+/* A matrix by columns: `offsets` has cols + 1 numbers, `indices` and `values` have `places`, the number of entries. */
 typedef struct {
     size_t rows, cols;
     const size_t *offsets, *indices;
@@ -67,10 +67,9 @@ typedef struct {
     size_t values_len;
 } nalgebra_sparse_dense;
 
-/* Output arrays for a matrix by rows or by columns: `offsets` with offsets_len numbers, `indices` and `values` with
- * `room` each. At status 0 the call sets `rows`, `cols` and `places`, the number of entries. At TOO_SMALL it sets only
- * `places`, to the `room` that is needed: the arrays, which may be null, then hold no matrix. At any other status all
- * fields are unchanged.
+/* Arrays for a matrix by rows or by columns: `offsets` with offsets_len numbers, `indices` and `values` with `room`
+ * each. At status 0 the call sets `rows`, `cols` and `places`. At TOO_SMALL it sets `places` alone, to the `room` that
+ * is needed: then the arrays, which may be null, have no matrix. Otherwise it changes nothing.
  */
 typedef struct {
     size_t *offsets;
@@ -81,8 +80,8 @@ typedef struct {
     size_t rows, cols, places;
 } nalgebra_sparse_result;
 
-/* Output arrays for triplets, with `room` numbers each. nalgebra_sparse_read_sizes_lists sets `rows`, `cols` and
- * `count`, the `room` that is needed.
+/* Arrays for triplets, with `room` numbers each. nalgebra_sparse_read_sizes_lists sets `rows`, `cols` and `count`, the
+ * `room` that is needed.
  */
 typedef struct {
     size_t *row_indices, *col_indices;
@@ -109,7 +108,7 @@ static inline nalgebra_sparse_lists nalgebra_sparse_lists_of(const nalgebra_spar
     return t;
 }
 
-/* What is passed for an array that is null: a pointer that no call reads or writes through. */
+/* The pointer that is passed for a null array. No call reads or writes through it. */
 static inline size_t *nalgebra_sparse_no_sizes(void) {
     static size_t nothing;
     return &nothing;
@@ -140,9 +139,8 @@ static inline const uint8_t *nalgebra_sparse_no_text(void) {
     NALGEBRA_SPARSE_SIZES((r)->offsets, (r)->offsets_len), NALGEBRA_SPARSE_SIZES((r)->indices, (r)->room), \
         NALGEBRA_SPARSE_VALUES((r)->values, (r)->room)
 
-/* Sets the shape and the number of entries of a result if the call wrote it, or the number of entries that is needed,
- * and returns the status.
- */
+/* Sets the shape and the number of entries of a result that the call wrote, or the number that is needed, and returns
+ * the status. */
 static inline int32_t nalgebra_sparse_written(int32_t status, nalgebra_sparse_result *out, size_t rows, size_t cols, size_t places) {
     if (status == NALGEBRA_SPARSE_DONE) {
         out->rows = rows;
@@ -392,9 +390,8 @@ static inline int32_t nalgebra_sparse_matrix_from_text_bytes(const uint8_t *text
     return nalgebra_sparse_matrix_from_text(NALGEBRA_SPARSE_TEXT(text, text_len), out);
 }
 
-/* Writes the length of the text of the matrix that `a` holds to *out_length: the room that
- * nalgebra_sparse_matrix_to_text needs.
- */
+/* Writes the length of the text of the matrix behind `a` to *out_length: the room that nalgebra_sparse_matrix_to_text
+ * needs. */
 static inline int32_t nalgebra_sparse_matrix_text_length(nalgebra_sparse_matrix *a, size_t *out_length) {
     uint8_t nothing = 0;
     int32_t status = nalgebra_sparse_matrix_to_text(a, &nothing, 0, out_length);

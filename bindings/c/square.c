@@ -1,4 +1,4 @@
-/* Squares a matrix by rows and prints its entries. */
+/* Squares a matrix by rows and prints the entries of the result. */
 #include "nalgebra_sparse.h"
 
 #include <inttypes.h>

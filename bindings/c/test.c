@@ -8,7 +8,7 @@
 
 enum { MOST = 5, ROOM = 64 };
 
-/* A plain matrix: its set of places, and their values modulo 2^64. */
+/* A plain matrix: its places, and their values modulo 2^64. */
 typedef struct {
     size_t rows, cols;
     int has[MOST][MOST];
@@ -122,7 +122,7 @@ static void check_untouched(const arrays *r) {
 #define PATTERN(m, a) (m).offsets, (a)->rows + 1, (m).indices, (m).places
 #define OUT(r) (r).offsets, ROOM, (r).indices, ROOM, (r).values, ROOM, &(r).places
 
-/* The inverse of an odd number modulo 2^64, by Newton's steps. */
+/* The inverse of an odd number modulo 2^64, by Newton's iteration. */
 static uint64_t inverse(uint64_t odd) {
     uint64_t x = odd;
     for (int k = 0; k < 6; k++) x *= 2 - odd * x;
@@ -299,8 +299,7 @@ static void check_random_case(void) {
 }
 
 /* Each fault of a matrix of two rows and three columns: status, offsets and their number, indices and their number,
- * number of values.
- */
+ * number of values. */
 static const struct {
     int32_t status;
     size_t offsets[3], offsets_len, indices[2], places, values_len;
@@ -335,7 +334,7 @@ static void check_faults(void) {
     /* One row pointer more than there are addresses. */
     CHECK(nalgebra_sparse_assemble_csr(SIZE_MAX, 2, empty, 0, empty, 0, values, 0, OUT(r)) == NALGEBRA_SPARSE_OUT_OF_MEMORY);
     check_untouched(&r);
-    /* Arrays for the result that are too short by one: the call writes the number of entries. */
+    /* Arrays for the result that are too short by one: the call tells the number of entries. */
     const int32_t small = NALGEBRA_SPARSE_TOO_SMALL;
     CHECK(nalgebra_sparse_transpose(2, 3, sound_offsets, 3, sound_indices, 2, values, 2, r.offsets, 3, r.indices, 2, r.values, 2, &r.places) == small);
     CHECK(nalgebra_sparse_transpose(2, 3, sound_offsets, 3, sound_indices, 2, values, 2, r.offsets, 4, r.indices, 1, r.values, 2, &r.places) == small);
@@ -377,7 +376,7 @@ static void check_other_errors(void) {
     check_untouched(&r);
 }
 
-/* Prints how long a call takes that has nothing to do. */
+/* Prints the time of a call on an empty matrix. */
 static void time_empty_calls(void) {
     enum { CALLS = 1000000 };
     const size_t offsets[] = {0};

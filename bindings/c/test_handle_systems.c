@@ -1,6 +1,5 @@
-/* Compares solves, factors and texts of matrices held by handles with plain dense matrices in random cases, and tries
- * each error of these calls. Run by bindings/test.
- */
+/* Compares solves, factors and texts of matrices behind handles with plain dense matrices in random cases, and tries
+ * each error of these calls. Run by bindings/test. */
 #include "nalgebra_sparse.h"
 
 #include <stdio.h>
@@ -90,9 +89,7 @@ static uint64_t inverse(uint64_t odd) {
     return x;
 }
 
-/* Makes the matrix symmetric by its entries on and above the diagonal, and says whether elimination meets odd pivots
- * alone.
- */
+/* Mirrors the entries above the diagonal, and says whether all pivots of the elimination are odd. */
 static int has_factors(plain *a) {
     EACH(i, a->size) EACH(j, i) a->value[i][j] = a->value[j][i];
     plain p = *a;
@@ -144,7 +141,7 @@ static void check_factors(nalgebra_sparse_matrix *a, const plain *p) {
     nalgebra_sparse_factors_free(&g);
 }
 
-/* A matrix is that of its text. */
+/* The matrix that is read from the text of a matrix equals that matrix. */
 static void check_text(nalgebra_sparse_matrix *a, const plain *p) {
     nalgebra_sparse_matrix back = NALGEBRA_SPARSE_NO_MATRIX;
     uint8_t text[TEXT];
@@ -163,7 +160,7 @@ static void check_text(nalgebra_sparse_matrix *a, const plain *p) {
     nalgebra_sparse_matrix_free(&back);
 }
 
-/* Texts written by hand, with and without errors. */
+/* Texts of other programs, and texts with errors. */
 static void check_texts(void) {
     static const struct {
         const char *text;

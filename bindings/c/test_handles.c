@@ -1,6 +1,5 @@
 /* Compares chains of calls over handles with plain dense matrices in random cases, and tries each error of these calls.
- * Run by bindings/test.
- */
+ * Run by bindings/test. */
 #include "nalgebra_sparse.h"
 
 #include <stdio.h>
@@ -31,7 +30,7 @@ static size_t below(size_t bound) { return (size_t)(next_random() % bound); }
 
 static int64_t random_value(void) { return below(3) == 0 ? (int64_t)next_random() : (int64_t)below(7) - 3; }
 
-/* A plain matrix modulo 2^64, or none: then `is` is 0. */
+/* A plain matrix modulo 2^64, or none, where `is` is 0. */
 typedef struct {
     int is;
     size_t rows, cols;
@@ -75,7 +74,7 @@ static int same_shape(const plain *a, const plain *b) { return a->rows == b->row
 static nalgebra_sparse_matrix handles[HANDLES];
 static plain models[HANDLES];
 
-/* Reads the matrix of a handle, and compares it with its model: shape, entries and values. */
+/* Reads a handle, and compares it with its model: shape, entries and values. */
 static void compare(size_t at) {
     const plain *p = &models[at];
     size_t offsets[MOST + 1], indices[ROOM], rows, cols, places, count = MARK, seen = 0;
@@ -182,7 +181,7 @@ static void step(void) {
     compare(a), compare(b), compare(out);
 }
 
-/* The faults of arrays, and what a call leaves unchanged on an error. */
+/* The faults of arrays, and that a refused call changes nothing. */
 static void refuse(void) {
     nalgebra_sparse_matrix a = NALGEBRA_SPARSE_NO_MATRIX;
     size_t offsets[] = {0, 1, 2}, fallen[] = {0, 2, 1}, indices[] = {0, 1}, wide[] = {0, 2}, rows, cols, places;

@@ -1,6 +1,5 @@
-/* Tries the inline functions: each calls the function of its name, takes null for empty, and compares shapes. Compiled
- * as C and as C++ by bindings/test.
- */
+/* Tries the inline functions: each calls the function with its name, takes a null pointer as an empty array, and
+ * compares shapes. Compiled as C and as C++ by bindings/test. */
 #include "nalgebra_sparse.h"
 
 #include <stdio.h>
@@ -31,7 +30,7 @@ static nalgebra_sparse_result result_in(arrays *r) {
     return out;
 }
 
-/* Returns whether a result has these dense values, row by row, with an entry for each value but 99. */
+/* Says whether a result has these dense values, row by row, with an entry for each value but 99. */
 static int holds(nalgebra_sparse_result r, int by_cols, size_t rows, size_t cols, const int64_t *want) {
     size_t lanes = by_cols ? cols : rows, across = by_cols ? rows : cols, p = 0;
     if (r.rows != rows || r.cols != cols) return 0;
@@ -158,7 +157,7 @@ static void check_texts(void) {
     CHECK(nalgebra_sparse_read_lists(NULL, 7, &t) == NALGEBRA_SPARSE_INVALID_TEXT);
 }
 
-/* Null stands for an array of length 0, whatever length is passed with it. */
+/* A null pointer means an array of length 0, whatever length is passed with it. */
 static void check_nulls(void) {
     arrays x;
     nalgebra_sparse_result r = result_in(&x), nowhere = {NULL, 3, NULL, NULL, 4, 77, 77, 77};

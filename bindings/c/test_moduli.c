@@ -1,6 +1,5 @@
 /* Compares the calls with a modulus, and the factors of symmetric matrices, with plain dense matrices in random cases,
- * and tries each error. Run by bindings/test.
- */
+ * and tries each error. Run by bindings/test. */
 #include "nalgebra_sparse.h"
 
 #include <stdio.h>
@@ -61,7 +60,7 @@ static uint64_t minus(uint64_t m, uint64_t x) { return m == 0 ? 0 - x : (m - x) 
 
 static int has_inverse(uint64_t m, uint64_t x) { return m == 0 ? x % 2 == 1 : x != 0; }
 
-/* By Newton's steps modulo 2^64, and by Fermat's theorem modulo a prime. */
+/* By Newton's iteration modulo 2^64, and by Fermat's theorem modulo a prime. */
 static uint64_t inverse(uint64_t m, uint64_t x) {
     uint64_t y = m == 0 ? x : 1;
     for (int k = 0; m == 0 && k < 6; k++) y *= 2 - x * y;
@@ -173,7 +172,7 @@ static void check_quotient(uint64_t m, const matrix *a) {
     }
 }
 
-/* Checks L and D, of which nothing may be written if there are none, and the number of entries of L. */
+/* Checks L and D, of which nothing may be written if there are none, and the pattern of L. */
 static void check_factors(uint64_t m, const matrix *a) {
     size_t n = a->size, offsets[ROOM], indices[ROOM], places = 77, fill_offsets[ROOM], fill[ROOM], count;
     int64_t values[ROOM], diagonal[ROOM];

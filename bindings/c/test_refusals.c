@@ -1,5 +1,5 @@
 /* Refuses each request for memory of each call in turn, one in each run: the call must end in its answer, or in
- * OUT_OF_MEMORY with nothing written, and must free all that it took. Run by bindings/test, which links it with
+ * OUT_OF_MEMORY with nothing written, and must free all that it allocated. Run by bindings/test, which links it with
  * -Wl,--wrap so that the library's requests come here. Every call has a line in CALLS: .ci/refusals compares them with
  * the sources. */
 #include "nalgebra_sparse.h"
@@ -45,8 +45,7 @@ void __wrap_free(void *block) {
 }
 
 /* The matrix 1 0 2 / 0 3 0 / 4 0 5 by rows, or its transpose by columns; triplets, two of them with the same row and
- * column; a right side with two columns; and a text.
- */
+ * column; a right-hand side with two columns; and a text. */
 static const size_t OFFSETS[] = {0, 2, 3, 5}, INDICES[] = {0, 2, 1, 0, 2}, ROWS[] = {2, 0, 2, 1}, COLS[] = {1, 2, 1, 0};
 static const int64_t VALUES[] = {1, 2, 3, 4, 5}, SIDES[] = {1, -2, 3, 4, 5, 6};
 static const char LINES[] = "%%MatrixMarket matrix coordinate integer symmetric\n3 3 2\n1 1 5\n3 1 -7\n";
@@ -58,8 +57,7 @@ static const char LINES[] = "%%MatrixMarket matrix coordinate integer symmetric\
 #define TO_PATTERN t->offsets, ROOM, t->indices, ROOM
 #define TO_VALUES t->values, ROOM
 #define TO_MATRIX TO_PATTERN, TO_VALUES, &t->count
-/* Room for the sum of MATRIX and itself, but not for the entries of both: the call then allocates memory for the sum.
- */
+/* Room for the sum of MATRIX and itself, but not for the entries of both: then the sum is computed in memory first. */
 #define TO_SUM t->offsets, ROOM, t->indices, 5, t->values, 5, &t->count
 #define TO_FACTORS TO_PATTERN, TO_VALUES, t->diagonal, ROOM, &t->count
 
@@ -96,7 +94,7 @@ static const char LINES[] = "%%MatrixMarket matrix coordinate integer symmetric\
     CALL(write_length, 3, 3, LISTS, &t->count)                          \
     CALL(write, 3, 3, LISTS, t->text, TEXT, &t->count)
 
-/* Handles of operands, which are filled before the first call, and handles of results. */
+/* Operands behind handles, which are created before the first call, and the handles of results. */
 static nalgebra_sparse_matrix a = NALGEBRA_SPARSE_NO_MATRIX, b = NALGEBRA_SPARSE_NO_MATRIX, out = NALGEBRA_SPARSE_NO_MATRIX;
 static nalgebra_sparse_factors f = NALGEBRA_SPARSE_NO_FACTORS, g = NALGEBRA_SPARSE_NO_FACTORS;
 
@@ -121,9 +119,8 @@ static nalgebra_sparse_factors f = NALGEBRA_SPARSE_NO_FACTORS, g = NALGEBRA_SPAR
     CALL(factors_solve, &f, 2, t->values, 6)                     \
     CALL(factors_clone, &f, &g)
 
-/* Reads what a call has stored in `out`, solves with what it has stored in `g`, and frees both. These allocations are
- * not counted, and none fails.
- */
+/* Reads what a call has put behind `out`, solves with what it has put behind `g`, and frees both. These requests are
+ * not counted, and none is refused. */
 static int32_t shown(int32_t status, target *t) {
     size_t made = requests;
     refused = SIZE_MAX;

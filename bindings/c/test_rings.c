@@ -1,6 +1,5 @@
 /* Compares assembly, sums and products modulo each modulus and modulo 2^64 with plain dense matrices in random cases,
- * and tries each error of the calls with a modulus. Run by bindings/test.
- */
+ * and tries each error of the calls with a modulus. Run by bindings/test. */
 #include "nalgebra_sparse.h"
 
 #include <stdio.h>
@@ -119,7 +118,7 @@ static void clear(void) {
     places = MARK;
 }
 
-/* Checks a result by rows, or by columns, and that longer arrays are unchanged after it. */
+/* Checks a result by rows, or by columns, and that the rest of the arrays is unchanged. */
 static void check(int32_t status, const plain *want, int by_cols) {
     size_t lanes = by_cols ? want->cols : want->rows, across = by_cols ? want->rows : want->cols, p = 0;
     CHECK(status == NALGEBRA_SPARSE_DONE);
@@ -141,7 +140,7 @@ static void check(int32_t status, const plain *want, int by_cols) {
 
 #define OUT to_offsets, ROOM, to_indices, ROOM, to_values, ROOM, &places
 #define IN(a) (a).offsets, (a).as.rows + 1, (a).indices, (a).places, (a).values, (a).places
-/* A call, or that with a modulus. */
+/* A call, or the same call with a modulus. */
 #define CALL(name, ...) (clear(), m ? nalgebra_sparse_##name##_mod(m, __VA_ARGS__) : nalgebra_sparse_##name(__VA_ARGS__))
 
 static void check_assembly(uint64_t m) {

@@ -1,7 +1,6 @@
-/* Makes each call with arrays that are too short: it tells the size that is needed, leaves the arrays, and writes the
- * same result into arrays of that size. The arrays are blocks of their own, so that the sanitizers see an access past
- * the end. Run by bindings/test.
- */
+/* Makes each call with arrays that are too short: it tells the size that is needed, leaves the arrays unchanged, and
+ * writes the same result into arrays of that size. Each array is a block of its own, so that the sanitizers find an
+ * access after its end. Run by bindings/test. */
 #include "nalgebra_sparse.h"
 
 #include <stdio.h>
@@ -20,7 +19,7 @@ enum { AMPLE = 40, MARK = 77, LANES = 4 };
 
 static const int32_t SMALL = NALGEBRA_SPARSE_TOO_SMALL;
 
-/* The triplets of 1 . 3 . / . 5 . 7 / 3 . 1 . / . 7 . 9, the first of them given in two parts. */
+/* The triplets of 1 . 3 . / . 5 . 7 / 3 . 1 . / . 7 . 9, the first of them as two triplets. */
 static const size_t ROWS[] = {0, 0, 0, 1, 1, 2, 2, 3, 3}, COLS[] = {0, 0, 2, 1, 3, 0, 2, 1, 3};
 static const int64_t PARTS[] = {4, -3, 3, 5, 7, 3, 1, 7, 9};
 static const nalgebra_sparse_lists LIST = {4, 4, ROWS, COLS, PARTS, 9};
@@ -32,8 +31,7 @@ static const size_t B_OFFSETS[] = {0, 4, 5, 6, 7}, B_INDICES[] = {0, 1, 2, 3, 1,
 static const int64_t B_VALUES[] = {1, 1, 1, 1, 1, 1, 1};
 static const nalgebra_sparse_rows B = {4, 4, B_OFFSETS, B_INDICES, B_VALUES, 7};
 /* The transpose of B by columns: the symmetric matrix with the first row and column of ones, whose elimination fills
- * all.
- */
+ * all. */
 static const size_t C_OFFSETS[] = {0, 1, 3, 5, 7}, C_INDICES[] = {0, 0, 1, 0, 2, 0, 3};
 static const int64_t C_VALUES[] = {1, 1, 2, 1, 3, 1, 5};
 static const nalgebra_sparse_cols C = {4, 4, C_OFFSETS, C_INDICES, C_VALUES, 7};
@@ -74,7 +72,7 @@ static const struct {
     {fill_cols, 10}, {factor_symmetric_cols, 10}, {factor_symmetric_mod_cols, 10},
 };
 
-/* An array of this many marks, as a block of its own. */
+/* An array of this many marks, in a block of its own. */
 static size_t *sizes(size_t count) {
     size_t *block = malloc(count * sizeof *block + 1);
     CHECK(block != NULL);
@@ -100,7 +98,7 @@ static void release(nalgebra_sparse_result *r) {
     free(r->values);
 }
 
-/* Checks that a call with so much room returns TOO_SMALL, writes this size and nothing else. */
+/* Checks that a call with this much room is refused, tells this size and writes nothing else. */
 static void check_small(call made, size_t offsets, size_t places, size_t needed) {
     nalgebra_sparse_result r = room(offsets, places);
     CHECK(made(&r) == SMALL && r.places == needed && r.rows == MARK && r.cols == MARK);
@@ -124,7 +122,7 @@ static void check_matrix(call made, size_t needed) {
     release(&got);
 }
 
-/* Arrays of which one alone is too short. */
+/* Arrays of which exactly one is too short. */
 static void check_one_array(void) {
     size_t *o = sizes(LANES + 1), *x = sizes(12), places = MARK;
     int64_t *v = values(12), *d = values(LANES);

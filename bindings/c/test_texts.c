@@ -1,5 +1,5 @@
-/* Compares texts that are read and written with plain ones in random cases, and tries each error. Run by bindings/test.
- */
+/* Compares texts that are read and written with plain ones in random cases, and tries each error. Run by
+ * bindings/test. */
 #include "nalgebra_sparse.h"
 
 #include <inttypes.h>

@@ -1,8 +1,8 @@
 """Times the calls beside SciPy's, in turns, and prints one table: the ratio of the least times, ours to SciPy's.
 
-bench.py [ROUNDS]. SciPy takes indices of 32 bits where they fit, and ours have 64. Its products are sorted afterwards, as ours
-are. It has no limit in time: a machine that does other work gives other ratios. The second table is made in a process that
-keeps freed memory (`reuse_memory`), for both.
+bench.py [ROUNDS]. SciPy takes indices of 32 bits where they fit, and ours have 64. Its products are sorted afterwards,
+as ours are. There is no limit for the times: a machine that does other work gives other ratios. The second table is
+measured in a process that keeps freed memory (`reuse_memory`), for both.
 """
 import os
 import sys
@@ -15,7 +15,7 @@ import nalgebra_sparse as ours
 
 
 def grid(side):
-    """Returns the triplets of a grid in row order: each node with itself and its neighbours."""
+    """Returns the triplets of the adjacency matrix of a grid in row order, with the diagonal."""
     i = np.arange(side * side)
     x, y = i % side, i // side
     rows, cols = [], []

@@ -1,8 +1,8 @@
 """Multiplies two matrices by blocks of rows on a cluster of two workers, and compares the bytes with those of one call.
 
-The rows i to j of a product are the rows i to j of the first factor times the second, and stacked again they are the
-product, whatever the blocks are: `product_blocks_law` and `stacked_law` in crates/examples_theorems/src/blocks.rt. Values wrap,
-and no sum is rounded, so every split gives the same bytes. Needs Debian's python3-dask and python3-distributed. A cluster
+The rows i to j of a product are the rows i to j of the first operand times the second, and stacked again they are the
+product, for any blocks: `product_blocks_law` and `stacked_law` in crates/examples_theorems/src/blocks.rt. Values wrap,
+and no sum is rounded, so all blocks give the same bytes. Needs Debian's python3-dask and python3-distributed. A cluster
 of several machines differs in one line: `Client("tcp://HOST:8786")`.
 """
 import numpy as np
@@ -20,7 +20,7 @@ def rows_of(matrix, start, end):
 
 
 def stacked(blocks):
-    """Returns CSR matrices one below the other, as one."""
+    """Returns the matrix of CSR matrices one below the other."""
     starts = np.cumsum([0, *(block.nnz for block in blocks)])
     offsets = [block.indptr[1:] + start for block, start in zip(blocks, starts)]
     values, indices = (np.concatenate([getattr(block, name) for block in blocks]) for name in ("data", "indices"))

@@ -1,7 +1,8 @@
 """Builds the package: links its shared library, and takes the version from the file VERSION of the repository.
 
-`build` beside this file links the library over the archive that `bindings/archive` or `tools/install` makes. A wheel has
-the library and VERSION in it; an editable install has the library in nalgebra_sparse/, and VERSION where it stands.
+`build` beside this file links the library with the archive that `bindings/archive` or `tools/install` builds. A wheel
+has the library and VERSION in it; an editable install has the library in nalgebra_sparse/, and reads VERSION in the
+repository.
 """
 import os
 import shutil
@@ -29,7 +30,7 @@ class Build(build_py):
     def run(self):
         into = os.path.join(here if self.editable_mode else os.path.abspath(self.build_lib), "nalgebra_sparse")
         if not self.editable_mode:
-            # The files of a build before this one.
+            # The files of an earlier build.
             shutil.rmtree(into, ignore_errors=True)
         super().run()
         linked = subprocess.run([os.path.join(here, "build"), os.path.join(into, "libnalgebra_sparse.so")], check=False)

@@ -1,4 +1,4 @@
-"""Squares a matrix by rows and prints its places."""
+"""Squares a matrix by rows and prints the entries of the result."""
 import numpy as np
 
 import nalgebra_sparse

@@ -1,4 +1,4 @@
-"""Tries arguments that no call may get, the forms and dtypes of operands, and the examples of the package. Run by bindings/test."""
+"""Tries wrong arguments, the formats and dtypes of operands, and the examples of the package. Run by bindings/test."""
 import array
 import ctypes
 import ctypes.util
@@ -36,7 +36,7 @@ def refused(error, call, *arguments):
 
 
 def with_shape(shape):
-    """Returns a COO matrix with this shape, whatever SciPy thinks of it."""
+    """Returns a COO matrix with this shape, without the checks of SciPy."""
     matrix = sp.coo_matrix((ONE, (ONE, ONE)), (1, 1))
     matrix._shape = shape
     return matrix
@@ -56,7 +56,7 @@ def check_shapes():
         matrix = sp.csr_matrix(PLAIN)
         matrix._shape = (2, 3, 4)
         refused(ns.Error, call, *[matrix] * (1 if call is ns.transpose else 2))
-    # No memory holds the offsets, or the values, of these.
+    # The offsets, or the values, of these do not fit in memory.
     huge = 2**62
     refused(MemoryError, ns.assemble_csr, (huge, 1), NONE, NONE, NONE)
     refused(MemoryError, ns.assemble_csc, (1, huge), NONE, NONE, NONE)
@@ -66,7 +66,7 @@ def check_shapes():
 
 
 def check_kinds():
-    """An argument of the wrong kind is refused before a call."""
+    """An argument of the wrong kind is refused before the library is called."""
     square = sp.csc_matrix(np.array([[5, 0], [0, 7]]))
     b = np.array([1, 2])
     for operand in ([0], ONE.astype(float), ONE.astype(bool), np.zeros((1, 1), np.int64), None, ONE.astype("m8[s]")):
@@ -93,7 +93,7 @@ def check_kinds():
 
 
 def check_flags():
-    """What only counts as true is no flag: NaN, a text and a number are refused, with the name of the argument."""
+    """A flag must be a boolean: NaN, a text and a number are refused, with the name of the argument."""
     square, b = sp.csc_matrix(np.array([[5, 0], [0, 7]])), np.array([1, 2])
     owned = ns.Exact.from_scipy(square)
     for wrong in (float("nan"), "no", 0, None, np.array([False])):
@@ -106,7 +106,7 @@ def check_flags():
 
 
 def check_masks():
-    """A mask would be dropped, so a masked array is refused, also one that masks nothing."""
+    """A mask would be ignored, so a masked array is refused, also one that masks nothing."""
     for mask in (True, False):
         masked = np.ma.array(ONE, mask=[mask])
         for arguments in ((masked, ONE, ONE), (ONE, masked, ONE), (ONE, ONE, masked)):
@@ -149,14 +149,15 @@ def check_table():
 
 
 def check_exceptions():
-    """Each refusal is an exception of its own, which keeps the frames of one call."""
+    """Each error is a new exception, which keeps the frames of one call."""
     found = [refused(ns.IndexOutOfBounds, ns.assemble_csr, (2, 2), ONE + 2, ONE, ONE) for _ in range(3)]
     assert len({id(error) for error in found}) == 3
     assert len({len(traceback.extract_tb(error.__traceback__)) for error in found}) == 1
 
 
 def check_dtypes():
-    """Every dtype of integers that fits is taken, in any byte order and with any stride, and operands are left as they are."""
+    """Every dtype of integers that fits is accepted, in any byte order and with any stride, and operands are
+    unchanged."""
     want = ns.assemble_csr((3, 3), np.array([0, 2]), np.array([1, 2]), np.array([3, 4])).toarray()
     for dtype in ("i1", "i2", "i4", "i8", "u1", "u2", "u4", "u8", ">i2", ">i8", ">u8"):
         i, j, values = (np.array(list_of, dtype) for list_of in ([0, 2], [1, 2], [3, 4]))
@@ -204,7 +205,7 @@ def check_forms():
 
 
 def check_import():
-    """A library that is not there, a file that is none and another library are errors that say how to make it."""
+    """If the library is missing, or the file is not a library or another one, the error says how to build it."""
     other = ctypes.util.find_library("c")
     for path, said in ((os.path.join(here, "none.so"), "none.so"), (__file__, "test_arguments.py"), (other, f"{other} has no call nalgebra_sparse_")):
         settings = {**os.environ, "NALGEBRA_SPARSE_LIBRARY": path}
@@ -215,7 +216,7 @@ def check_import():
 
 
 def check_package():
-    """The version is that of the file VERSION, each name of `__all__` is there, and the examples run."""
+    """The version is that of the file VERSION, each name of `__all__` exists, and the examples run."""
     assert ns.__version__ == open(os.path.join(here, "..", "..", "VERSION"), encoding="ascii").read().strip()
     examples = 0
     for module in (ns, _exact, _factorisation, _matrices, _systems, _texts):

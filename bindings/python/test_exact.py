@@ -1,4 +1,4 @@
-"""Compares chains of operations over `Exact` with plain matrices, and tries its refusals. Run by bindings/test."""
+"""Compares chains of operations over `Exact` with plain matrices, and tries its errors. Run by bindings/test."""
 import copy
 import faulthandler
 import gc
@@ -30,7 +30,7 @@ def wrapped(value):
 
 
 class Plain:
-    """A matrix modulo 2^64 as a dictionary of places."""
+    """A matrix modulo 2^64 as a dictionary from (row, column) to values."""
 
     def __init__(self, shape, entries):
         self.shape, self.entries = shape, {at: wrapped(value) for at, value in entries.items()}
@@ -70,7 +70,7 @@ def a_value():
 
 
 def a_pair(size):
-    """Returns a random square matrix in both forms."""
+    """Returns a random square matrix, both as an `Exact` and as a plain matrix."""
     count = chance.randrange(3 * size + 1) if size else 0
     triplets = [(chance.randrange(size), chance.randrange(size), a_value()) for _ in range(count)]
     i, j, values = (np.array([t[k] for t in triplets], np.int64) for k in range(3))
@@ -150,7 +150,7 @@ def check_systems():
 
 
 def check_symmetry():
-    """A matrix that is not symmetric is refused, unless its upper triangle is asked for."""
+    """A matrix that is not symmetric is refused, unless `assume_symmetric` is given."""
     b = np.array([5, 12])
     upper = Exact.from_scipy(sp.csr_array(np.array([[1, 2], [0, 5]])))
     for call in (upper.factor, lambda: upper.solve(b)):
@@ -263,7 +263,7 @@ def check_refusals():
 
 
 def check_memory():
-    """A matrix is freed with its object, and what a refused call made is too."""
+    """A matrix is freed with its object, and so is what a refused call allocated."""
     row = np.arange(10**6)
     for _ in range(200):
         # 24 MB each: the program would end if they were not freed.

@@ -30,7 +30,7 @@ def triplets(rows, cols):
 
 
 def same(ours, theirs):
-    """Says whether two matrices have the same places and values. SciPy keeps a place whose sum is 0."""
+    """Says whether two matrices have the same pattern and values. SciPy keeps an entry whose sum is 0."""
     theirs.sort_indices()
     return (
         ours.shape == theirs.shape
@@ -42,7 +42,8 @@ def same(ours, theirs):
 
 
 def pattern_product(a, b):
-    """Returns the product by SciPy with a place wherever the operands share a middle index: SciPy keeps zeros that sums give."""
+    """Returns the product by SciPy, with an entry (i, j) wherever some k has an entry (i, k) in a and (k, j) in b:
+    SciPy keeps sums that are 0."""
     ones = [sp.csr_matrix((np.ones_like(m.data), m.indices, m.indptr), m.shape) for m in (a, b)]
     places = (ones[0] @ ones[1]).tocoo()
     values = np.zeros((a.shape[0], b.shape[1]), np.int64)
@@ -57,7 +58,7 @@ def matrix(rows, cols):
 
 
 def merged(a, b, sign):
-    """Returns a + sign b on the union of the places, zeros among them."""
+    """Returns a + sign b on the union of the patterns, also where the sum is 0."""
     parts = [m.tocoo() for m in (a, b)]
     i, j = (np.concatenate([getattr(m, it) for m in parts]) for it in ("row", "col"))
     return sp.csr_matrix((np.concatenate([parts[0].data, sign * parts[1].data]), (i, j)), a.shape)
@@ -120,7 +121,7 @@ def has_factors(symmetric, modulus=2**64):
 
 
 def filled(base):
-    """Returns the fill of the places on and below the diagonal, by the definition."""
+    """Returns the fill of the entries on and below the diagonal, by the definition."""
     n = len(base)
     for k in range(n):
         for i in range(k + 1, n):
@@ -218,7 +219,7 @@ def check_ring():
 
 
 def same_places(a, b):
-    """Says whether two matrices by rows have the same places."""
+    """Says whether two matrices by rows have the same pattern."""
     return np.array_equal(a.indptr, b.indptr) and np.array_equal(a.indices, b.indices)
 
 
@@ -297,7 +298,7 @@ def check_errors():
     refused(ns.DuplicateEntry, ns.transpose, twice)
     refused(ns.InvalidStructure, ns.add, fine, falling)
     refused(ns.InvalidStructure, ns.multiply, falling, matrix(3, 1))
-    # The faults of operands that SciPy does not test are found before the room for the product is.
+    # Faults of operands that SciPy does not test are found before memory for the product is allocated.
     outside = sp.csr_matrix((1, 3), dtype=np.int64)
     for index in (3, -1, -4):
         outside.data, outside.indices, outside.indptr = wide[:1], np.array([index]), np.array([0, 1])
@@ -341,7 +342,8 @@ def check_errors():
 
 
 def check_sizes():
-    """A call with arrays that are too short by one tells the size that is needed, and the calls here are made again with it."""
+    """A call with arrays that are too short by one tells the size that is needed, and the calls here are repeated with
+    it."""
     a = sp.csr_matrix(np.array([[1, 2], [0, 3]]))
     lanes = (a.indptr.astype(np.int64), a.indices.astype(np.int64), a.data)
     offsets, indices, values, places = np.full(3, 77), np.full(2, 77), np.full(2, 77), ctypes.c_size_t()
@@ -350,7 +352,7 @@ def check_sizes():
     indices, values = np.full(places.value, 77), np.full(places.value, 77)
     calls.call("multiply", 2, 2, 2, *lanes, *lanes, offsets, indices, values, places)
     assert (offsets.tolist(), indices.tolist(), values.tolist()) == ([0, 2, 3], [0, 1, 1], [1, 8, 9])
-    # The elimination of an arrow fills all, and a text of long numbers is longer than is guessed.
+    # The elimination of an arrow fills the whole triangle, and a text of long numbers is longer than estimated.
     arrow = sp.csc_matrix(np.array([[1, 1, 1, 1], [0, 1, 0, 0], [0, 0, 1, 0], [0, 0, 0, 1]]))
     assert ns.fill(arrow)[1].tolist() == [0, 1, 2, 3, 1, 2, 3, 2, 3, 3]
     far = np.full(50, 2**31 - 2)

@@ -1,4 +1,5 @@
-"""Tests `solve_rational` beside elimination with fractions, and that no wrong solution is returned. Run by bindings/test."""
+"""Compares `solve_rational` with elimination over fractions, and tests that no wrong solution is returned. Run by
+bindings/test."""
 import doctest
 import os
 import re
@@ -37,7 +38,7 @@ def values(shape):
 
 
 def check_random_systems():
-    """500 systems are solved as elimination solves them."""
+    """The solutions of 500 systems are those of elimination."""
     solved = 0
     while solved < 500:
         n, cols = (int(size) for size in random.integers(1, 7, 2))
@@ -74,7 +75,7 @@ def check_large_systems():
     for i in range(400):
         entries = zip(rows.indices[rows.indptr[i] : rows.indptr[i + 1]], rows.data[rows.indptr[i] : rows.indptr[i + 1]])
         assert sum(int(value) * x[j] for j, value in entries) == first[i]
-    # The smallest prime takes the most steps.
+    # The smallest prime needs the most steps.
     threes = sp.diags([1, 3, 3], [0, 2, -2], (30, 30), dtype=np.int64).tocsr().tocsc()
     want = eliminated(threes.toarray(), first[:30, None])
     assert ns.solve_rational(threes, first[:30], 3).tolist() == [row[0] for row in want]
@@ -112,7 +113,7 @@ def check_refusals():
 
 
 def check_mistakes():
-    """Where a call or a step in Python answers wrongly, there is an error, and nothing is returned."""
+    """If a call or a step in Python gives a wrong result, there is an error, and nothing is returned."""
     system = sp.csc_matrix(np.array([[2, 1], [1, 3]])), np.array([8, 20])
     want = [Fraction(4, 5), Fraction(32, 5)]
 
@@ -135,7 +136,7 @@ def check_mistakes():
             right = getattr(_rational, name)
             setattr(_rational, name, lambda *arguments, **words: mistaken(right(*arguments, **words)))
             try:
-                # Modulo 3, a solution takes several steps.
+                # Modulo 3, a solution needs several steps.
                 found = ns.solve_rational(*system, 3, assumed)
             except ns.Error as error:
                 assert "at fault" in str(error), error

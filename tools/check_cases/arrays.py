@@ -1,4 +1,4 @@
-"""Matrices and lists of arrays: the first fault of the arrays, or what they stand for."""
+"""Matrices and lists from arrays: the first fault of the arrays, or the matrix that they represent."""
 from .matrices import Matrix, Over, Triplets, drawn_arrays, drawn_list, matrix_of, shown
 from .scalars import scalar_of
 from .words import Picture, Refused, index_of, named_lists, size_of
@@ -79,7 +79,7 @@ def pattern_of(lanes, length, offsets, indices):
 
 
 def pairs_of(offsets, indices):
-    """Returns the lane and the index of each place, in the order of the arrays."""
+    """Returns the lane and the index of each entry, in the order of the arrays."""
     return [(lane, index) for lane, end in enumerate(offsets[1:]) for index in indices[offsets[lane]:end]]
 
 
@@ -147,14 +147,14 @@ def values_of(words, scalars):
 
 
 def joined(over, pattern, values):
-    """Returns the matrix of a pattern and its values, in the order of the form."""
+    """Returns the matrix of a pattern and its values, in the order of the format."""
     if len(values) != len(pattern.entries):
         raise Refused("InvalidStructure", VALUES[over.form])
     return pattern.with_entries(dict(zip(sorted(pattern.entries, key=over.lane), values)))
 
 
 def answer(words, over):
-    """Returns what a constructor of arrays answers, or `None` if the call is none."""
+    """Returns the answer of a constructor from arrays, or `None` if the call is not one."""
     match words:
         case ["view", "csr" | "csc" | "coo", *_]:
             return answer(words[1:], over)

@@ -5,7 +5,7 @@ from . import (
 )
 from .words import Refused, Unreadable, words_of
 
-# Each subject answers `None` where a call is none of its own. Those of texts are given the name of a call and what
+# Each subject returns `None` if a call is not one of its own. Those of texts are given the name of a call and what
 # follows it, the others all words.
 OF_TEXTS = (texts, json_texts, expressions)
 OF_WORDS = (numbers, arrays, systems, vectors, entries, conversions, lists, dense, patterns, operations)

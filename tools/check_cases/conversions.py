@@ -1,4 +1,4 @@
-"""Matrices as they are, transposed, in parts, in the other form, as lists and as dense matrices."""
+"""Matrices as they are, transposed, in parts, in the other format, as lists and as dense matrices."""
 from .matrices import (
     INDEX_BYTES, Matrix, Triplets, allocate, dense, dense_of, drawn, drawn_arrays, drawn_list, list_of, matrix_of,
     places, shown, shown_pattern, summed, truth, words_after,
@@ -18,7 +18,7 @@ KEPT = {
 
 
 def answer(words, over):
-    """Returns what a conversion or a call for a part of a matrix answers, or `None` if the call is none."""
+    """Returns the answer of a conversion or of a call for a part of a matrix, or `None` if the call is not one."""
     scalars = over.scalars
     match words:
         case ["zeros", size]:
@@ -47,7 +47,7 @@ def answer(words, over):
 
 
 def converted(name, picture, over):
-    """Returns the answer of a name before a matrix, or `None` if it is none of a conversion."""
+    """Returns the answer of a name before a matrix, or `None` if it is not that of a conversion."""
     if name == "sparse":
         whole = dense_of(picture, over)
         return shown(whole.kept(KEPT["nonzero"]), over)

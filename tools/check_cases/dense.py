@@ -1,4 +1,4 @@
-"""Dense matrices: how they are made, copied, compared, read and written."""
+"""Dense matrices: constructors, copies, comparisons, reading and writing."""
 from .entries import or_none
 from .matrices import Matrix, allocate, dense_of, drawn, places, truth
 from .scalars import scalar_of
@@ -6,7 +6,7 @@ from .words import Picture, misfit, place_of, size_of
 
 
 def made(name, size, values, scalars):
-    """Returns the matrix of this size that a constructor makes of values, or `None` if it is no constructor."""
+    """Returns the matrix of this size that a constructor returns for values, or `None` if it is not a constructor."""
     nrows, ncols = size
     if name in ("zeros", "repeat"):
         allocate(nrows * ncols, scalars.bytes)
@@ -21,7 +21,7 @@ def made(name, size, values, scalars):
 
 
 def value_at(matrix, place):
-    """Returns the value at a place in bounds."""
+    """Returns the value at a row and a column within bounds."""
     if place not in matrix.entries:
         raise misfit()
     return matrix.entries[place]
@@ -35,7 +35,7 @@ def column(matrix, index):
 
 
 def answer(words, over):
-    """Returns what a call `dense ..` on a dense matrix answers, or `None` if the call is none."""
+    """Returns the answer of a call `dense ..` on a dense matrix, or `None` if the call is not one."""
     match words:
         case ["dense", "get", place, Picture() as a]:
             return str(value_at(dense_of(a, over), place_of(place)))

@@ -9,14 +9,14 @@ def or_none(words):
 
 
 def entry(matrix, row, col):
-    """Returns the number at a place, `.` if it is not stored, and `none` out of bounds."""
+    """Returns the number at a row and a column, `.` if none is stored there, and `none` out of bounds."""
     if row < matrix.nrows and col < matrix.ncols:
         return str(matrix.entries.get((row, col), "."))
     return "none"
 
 
 def with_value(matrix, place, value):
-    """Returns a matrix after a value was written at a place, if that is stored."""
+    """Returns a matrix after a value was written to an entry, if it is stored."""
     return matrix.with_entries({**matrix.entries, place: value}) if place in matrix.entries else matrix
 
 
@@ -56,7 +56,7 @@ def of_lanes(name, words, over):
 
 
 def answer(words, over):
-    """Returns what a call on an entry, on a lane or on all triplets answers, or `None` if the call is none."""
+    """Returns the answer of a call on an entry, on a lane or on all triplets, or `None` if the call is not one."""
     scalars = over.scalars
     match words:
         case ["entry", place, Picture() as a]:

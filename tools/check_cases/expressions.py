@@ -15,7 +15,7 @@ MESSAGES = {
     "NoSuchInput": "no such input",
     "Shape": "shapes do not fit",
 }
-# Errors that no text and no expression leads to.
+# Errors that no text and no expression causes.
 ERRORS = {
     "Input": (f"Input({GREATEST}, IOError(NotFound))", f"input {GREATEST}: IOError"),
     "Write": ("Write(BrokenPipe)", "write failed"),
@@ -44,7 +44,8 @@ def words_in(text):
 
 
 def value(words, inputs, scalars):
-    """Returns the value of an expression. The left operand comes before the right one, and both before their sizes."""
+    """Returns the value of an expression. Errors of the left operand precede those of the right one, and both those of
+    their sizes."""
     stack = []
     for word in words:
         if word in ("t", "n"):

@@ -32,12 +32,12 @@ def fields_of(kind, text):
 
 
 def is_list(part, least, greatest):
-    """Returns whether a part of a JSON text is a list of whole numbers in a range."""
+    """Returns whether a part of a JSON text is a list of integers in a range."""
     return isinstance(part, list) and all(type(number) is int and least <= number <= greatest for number in part)
 
 
 def read(kind, text, over):
-    """Returns what a JSON text stands for."""
+    """Returns what a JSON text means."""
     size, *lists = fields_of(kind, text)
     if kind == "pattern":
         return shown_pattern(pattern_of(*size, *lists), over._replace(form="rows"))
@@ -61,7 +61,8 @@ def written(kind, text, over):
 
 
 def answer(name, call, over):
-    """Returns what is read of a JSON text or written as one, or `None` if the name is none of such a call."""
+    """Returns the answer of a call that reads or writes a JSON text, or `None` if the name is not that of such a
+    call."""
     if name not in ("from-json", "to-json"):
         return None
     kind, _, text = call.partition(" ")

@@ -1,4 +1,4 @@
-"""Lists of triplets: how they grow, are cleared, written, copied, taken apart and collected."""
+"""Lists of triplets: how they grow, are cleared, written, copied, disassembled and collected."""
 import re
 
 from .arrays import checked
@@ -31,7 +31,7 @@ def block_pushed(triplets, row, col, block):
 
 
 def of_one(name, triplets, scalars):
-    """Returns the answer of a name before one list, or `None` if it is none of a call on lists."""
+    """Returns the answer of a name before one list, or `None` if it is not that of a call on lists."""
     match name:
         case "copy" | "data":
             return drawn_list(triplets)
@@ -47,7 +47,7 @@ def of_one(name, triplets, scalars):
 
 
 def answer(words, over):
-    """Returns what a call `triplets ..` on a list answers, or `None` if the call is none."""
+    """Returns the answer of a call `triplets ..` on a list, or `None` if the call is not one."""
     scalars = over.scalars
     match words:
         case ["triplets", "push", place, Picture() as block, Picture() as a]:

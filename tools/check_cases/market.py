@@ -1,4 +1,4 @@
-"""The Matrix Market format: what a text means, and the text that is written of a list of triplets."""
+"""The Matrix Market format: what a text means, and the text of a list of triplets."""
 import re
 
 from .arrays import GREATEST, checked
@@ -19,7 +19,7 @@ HEADING = "%%matrixmarket matrix coordinate {} general\n% matrixmarket file gene
 
 
 def meaning(text, scalars):
-    """Returns the list of triplets that a text stands for, or raises its first error."""
+    """Returns the list of triplets that a text means, or raises its first error."""
     header, lines = parsed(text)
     check_header(*header)
     nrows, ncols, count = sizes(lines[0], *header)
@@ -36,7 +36,7 @@ def meaning(text, scalars):
 
 
 def parsed(text):
-    """Returns the header, and the words of the lines behind it that are no comments, if they are of the grammar."""
+    """Returns the header, and the words of the lines after it that are not comments, if the grammar allows them."""
     lines = re.split("\r\n|\n|\r", text)
     while lines and not lines[0].strip(" \t"):
         lines.pop(0)
@@ -53,14 +53,14 @@ def parsed(text):
 
 
 def is_data(words):
-    """Returns whether words are those of a data line: one or two numbers, before which two indices may stand."""
+    """Returns whether words are those of a data line: one or two numbers, with or without two indices before them."""
     if len(words) > 2 and not all(map(INDEX.fullmatch, words[:2])):
         return False
     return len(words) <= 4 and all(map(NUMBER.fullmatch, words))
 
 
 def check_header(form, field, symmetry):
-    """Raises the error of a header whose words do not go together."""
+    """Raises the error of a header whose words do not fit together."""
     if symmetry == "hermitian" and field != "complex":
         raise Refused("InvalidHeader", f"{field.capitalize()} matrix can't be hermitian.")
     if symmetry == "skew-symmetric" and field == "pattern":
@@ -84,13 +84,13 @@ def sizes(words, form, _, symmetry):
 
 
 def array_positions(nrows, ncols, symmetry):
-    """Returns the places of an array's data lines, column after column."""
+    """Returns the row and the column of each data line of an array, column after column."""
     first = {"general": lambda col: 0, "skew-symmetric": lambda col: col + 1}.get(symmetry, lambda col: col)
     return [(row, col) for col in range(ncols if nrows else 0) for row in range(first(col), nrows)]
 
 
 def entry(words, position, header, scalars):
-    """Returns the triplet of a data line, and the mirrored one where the symmetry has one."""
+    """Returns the triplet of a data line, and the mirrored one if the symmetry implies one."""
     form, field, symmetry = header
     count = {"pattern": 0, "complex": 2}.get(field, 1) + (2 if form == "coordinate" else 0)
     if len(words) != count:
@@ -109,7 +109,7 @@ def entry(words, position, header, scalars):
 
 
 def indices(words):
-    """Returns the place that two indices, counted from 1, stand for."""
+    """Returns the row and the column of two indices that are counted from 1."""
     numbers = [int(word) for word in words]
     if max(numbers) > GREATEST:
         raise Refused("ParsingError", "An index is too large.")
@@ -130,7 +130,7 @@ def value_of(word, field, scalars):
 
 
 def written(triplets, scalars):
-    """Returns the text that is written of a list of triplets."""
+    """Returns the text of a list of triplets."""
     lines = ["{} {} {}".format(*triplets.size, len(triplets.triplets))]
     lines += [f"{row + 1} {col + 1} {scalars.text(value)}" for row, col, value in triplets.triplets]
     return HEADING.format(scalars.typename) + "".join(line + "\n" for line in lines)

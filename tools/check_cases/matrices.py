@@ -1,7 +1,7 @@
 """Plain matrices, lists of triplets, and the pictures of both.
 
-A plain matrix is a size and a dictionary from (row, column) to numbers, with a key for each stored place. A dense one
-has a key for each place.
+A plain matrix is a shape and a dictionary from (row, column) to numbers, with a key for each place. A dense one has a
+key for each row and column.
 """
 import re
 from typing import NamedTuple
@@ -12,7 +12,7 @@ from .words import Refused, Unreadable, index_of, size_of
 # No machine has so many bytes: a request for more fails.
 MOST_BYTES = 2**40
 INDEX_BYTES = 8
-# The most elements that are made here.
+# The most elements that a matrix has here.
 MOST_ELEMENTS = 2**22
 # The most cells of a picture in an answer.
 MOST_CELLS = 256
@@ -25,11 +25,11 @@ class Over(NamedTuple):
     scalars: object
 
     def other(self):
-        """Returns the same in the other form."""
+        """Returns the same in the other format."""
         return Over("columns" if self.form == "rows" else "rows", self.scalars)
 
     def lane(self, place):
-        """Returns a place as a lane and an index in it."""
+        """Returns a row and a column as a lane and an index in it."""
         return place if self.form == "rows" else place[::-1]
 
 
@@ -74,7 +74,7 @@ class Triplets(NamedTuple):
 
 
 def allocate(count, size):
-    """Fails where so many elements of so many bytes have no room in memory."""
+    """Fails if so many elements of so many bytes do not fit in memory."""
     if MOST_BYTES < count * size:
         raise Refused("out of memory")
     if MOST_ELEMENTS < count:
@@ -82,12 +82,12 @@ def allocate(count, size):
 
 
 def places(nrows, ncols):
-    """Returns all places, column after column."""
+    """Returns all pairs (row, column), column after column."""
     return [(row, col) for col in range(ncols) for row in range(nrows)] if nrows else []
 
 
 def with_lanes(matrix, over):
-    """Returns a matrix, if its offsets have room in memory."""
+    """Returns a matrix, if its offsets fit in memory."""
     allocate(over.lane(matrix.size)[0], INDEX_BYTES)
     return matrix
 
@@ -127,7 +127,7 @@ def indices_of(word, count):
 
 
 def summed(triplets, scalars):
-    """Returns the matrix of a list: at each place that it names the sum of the values."""
+    """Returns the matrix of a list: for each row and column in it the sum of the values there."""
     entries = {}
     for row, col, value in triplets.triplets:
         entries[row, col] = scalars.reduced(entries[row, col] + value) if (row, col) in entries else value
@@ -140,13 +140,13 @@ def inner_of(picture, over):
 
 
 def matrix_of(picture, over):
-    """Returns the compressed matrix of a picture, transposed where the picture is."""
+    """Returns the compressed matrix of a picture, transposed if the picture is."""
     matrix = inner_of(picture, over)
     return with_lanes(matrix.transposed(), over) if picture.is_transposed else matrix
 
 
 def operand_of(picture, over):
-    """Returns the matrix that an operation takes, which is given the transposition and needs no memory for it."""
+    """Returns the matrix of an operand. The operation is told whether it is transposed, so this needs no memory."""
     matrix = inner_of(picture, over)
     return matrix.transposed() if picture.is_transposed else matrix
 
@@ -158,13 +158,13 @@ def dense(matrix, scalars):
 
 
 def dense_of(picture, over):
-    """Returns the dense matrix of a picture, transposed where the picture is."""
+    """Returns the dense matrix of a picture, transposed if the picture is."""
     matrix = dense(summed(list_of(picture, over.scalars), over.scalars), over.scalars)
     return matrix.transposed() if picture.is_transposed else matrix
 
 
 def drawn(matrix, cell=str):
-    """Returns the picture of a matrix, or its size where it has no rows or columns."""
+    """Returns the picture of a matrix, or its size if it has no rows or columns."""
     if 0 in matrix.size:
         return "[{}x{}]".format(*matrix.size)
     cells = {place: cell(value) for place, value in matrix.entries.items()}
@@ -192,7 +192,7 @@ def shown(matrix, over, cell=str):
 
 
 def shown_pattern(matrix, over):
-    """Returns the answer that is a pattern: its picture, or the places of a large one as triplets of ones."""
+    """Returns the answer that is a pattern: its picture, or the entries of a large one as triplets of ones."""
     return shown(matrix.with_entries(dict.fromkeys(matrix.entries, 1)), over, lambda _: "x")
 
 

@@ -4,14 +4,14 @@ from .scalars import Residues
 
 
 def answer(words, over):
-    """Returns what a call on scalars answers, or `None`. Behind it `mod M` may stand for the residues modulo M."""
+    """Returns the answer of a call on scalars, or `None`. After the call, `mod M` means the residues modulo M."""
     if words[-2:-1] == ["mod"]:
         return computed(words[:-2], Residues(words[-1]))
     return computed(words, over.scalars)
 
 
 def computed(words, scalars):
-    """Returns what a call on scalars answers, or `None`."""
+    """Returns the answer of a call on scalars, or `None`."""
     of, reduced = scalars.of, scalars.reduced
     match words:
         case ["zero"]:

@@ -1,4 +1,4 @@
-"""Sums, products, multiples and quotients, as matrices of their own and into a given one."""
+"""Sums, products, multiples and quotients, as new matrices and added to a given one."""
 from .matrices import Matrix, allocate, dense_of, drawn, inner_of, matrix_of, operand_of, places, shown
 from .words import Picture, Refused, misfit
 
@@ -19,7 +19,7 @@ def combined(scalars, beta, a, alpha, b):
 
 
 def product(scalars, a, b):
-    """Returns A B, stored where an entry of A and one of B have a middle index in common."""
+    """Returns A B, stored at (i, j) where A stores (i, k) and B stores (k, j) for some k."""
     if a.ncols != b.nrows:
         raise misfit()
     rows, sums = {}, {}
@@ -45,7 +45,7 @@ def quotient(scalars, a, divisor):
 
 
 def updated(scalars, beta, c, alpha, x, refusal):
-    """Returns beta C + alpha X on the places of C, among which those of X must be."""
+    """Returns beta C + alpha X on the places of C, which must include those of X."""
     if c.size != x.size:
         raise misfit()
     if x.entries.keys() - c.entries.keys():
@@ -70,7 +70,7 @@ def dense_update(scalars, beta, c, alpha, a, b):
 
 
 def answer(words, over):
-    """Returns what a call in the signs of mathematics answers, or `None` if the call is none."""
+    """Returns the answer of a call in mathematical notation, or `None` if the call is not one."""
     scalars = over.scalars
     match words:
         case [Picture() as a]:
@@ -103,7 +103,7 @@ def answer(words, over):
 
 
 def into(over, factors, c, operands):
-    """Returns the answer of `2 C += 3 A`, `2 C += 3 A B` or, where B and C are dense, `2 C += 3 A * B`."""
+    """Returns the answer of `2 C += 3 A`, `2 C += 3 A B` or, if B and C are dense, `2 C += 3 A * B`."""
     scalars, (beta, alpha) = over.scalars, factors
     match operands:
         case [Picture() as a]:

@@ -17,14 +17,14 @@ def of_arrays(name, size, words):
 
 
 def transposed(pattern, values, over):
-    """Returns the transpose of a pattern and the values that move with its places."""
+    """Returns the transpose of a pattern and the values that are moved with its entries."""
     turned = with_lanes(pattern, over.other()).transposed()
     moved = dict(zip(sorted(pattern.entries), values))
     return turned, [moved[place[::-1]] for place in sorted(turned.entries)]
 
 
 def of_one(name, pattern, over):
-    """Returns the answer of a name before one pattern, or `None` if it is none of a call on patterns."""
+    """Returns the answer of a name before one pattern, or `None` if it is not that of a call on patterns."""
     match name:
         case "copy" | "data":
             return shown_pattern(pattern, over)
@@ -39,7 +39,7 @@ def of_one(name, pattern, over):
 
 
 def answer(words, over):
-    """Returns what a call `pattern ..` on a pattern answers, or `None` if the call is none."""
+    """Returns the answer of a call `pattern ..` on a pattern, or `None` if the call is not one."""
     over = over._replace(form="rows")
     match words:
         case ["pattern", "of" | "kind" as name, size, *lists]:

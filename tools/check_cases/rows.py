@@ -1,4 +1,4 @@
-"""Tables: their lines, and whether each row says what is computed here."""
+"""Tables: their lines, and whether the answer of each row is the one that is computed here."""
 from typing import NamedTuple
 
 from .calls import answer
@@ -6,12 +6,12 @@ from .matrices import Over, list_of, shown, summed
 from .scalars import BY_NAME
 from .words import Picture, Refused, Unreadable, words_of
 
-# What a picture of an answer has where one word stands for several triplets.
+# The mark in the picture of an answer, where one word means several triplets.
 SPANS = ("(*,", ",*)", "(even,", ",even)", "(odd,", ",odd)")
 
 
 class Row(NamedTuple):
-    """A row of a table: where it stands, what it is run over, and its text."""
+    """A row of a table: its file and line, what it is run over, and its text."""
 
     place: str
     over: str
@@ -32,7 +32,7 @@ def rows_of(path):
 
 
 def overs_of(text):
-    """Returns each form with each of the scalars that a line `over` names."""
+    """Returns each format with each of the scalars that a line `over` names."""
     names = text.split()
     forms = [name for name in names if name in ("rows", "columns")]
     scalars = [BY_NAME[name] for name in names if name in BY_NAME]
@@ -42,7 +42,8 @@ def overs_of(text):
 
 
 def difference(row):
-    """Returns what a row says and what is computed where these first differ, or `None` if they agree over all."""
+    """Returns what a row says and what is computed for the first scalar and format for which these differ, or
+    `None`."""
     call, arrow, wanted = (part.strip() for part in row.text.partition(" -> "))
     if not arrow:
         return "has no arrow"
@@ -71,7 +72,7 @@ def computed_for(call, wanted, over):
 
 
 def redrawn(wanted, over):
-    """Returns the answer that a row means: in a picture of a matrix one word may stand for several triplets."""
+    """Returns the answer that a row means: in a picture of a matrix one word may mean several triplets."""
     if any(span in wanted for span in SPANS):
         match words_of(wanted):
             case [Picture(_, False) as picture]:

@@ -5,7 +5,7 @@ TOO_SMALL = ("TypeMismatch", "Please consider using a larger integer type.")
 
 
 class Integers:
-    """Integers of so many bits, with sign. They have no arithmetic."""
+    """Signed integers of this many bits. They have no arithmetic."""
 
     typename = "integer"
     one = 1
@@ -30,7 +30,7 @@ class Integers:
         return number
 
     def from_pattern(self):
-        """Returns the scalar of a place in a text of places."""
+        """Returns the scalar of an entry of a text of field `pattern`."""
         raise Refused("TypeMismatch", "Int type can't be parsed from ()")
 
     def negative(self, number):
@@ -51,7 +51,7 @@ class Integers:
 
 
 class Ring(Integers):
-    """A ring of integers modulo a number. `reduced` gives the one integer that stands for all that are equal to it."""
+    """A ring of integers modulo a number. `reduced` returns the representative of a residue."""
 
     modulus = 1
 
@@ -60,7 +60,7 @@ class Ring(Integers):
         return number % self.modulus
 
     def inverse(self, number):
-        """Returns the inverse, or `None` where there is none."""
+        """Returns the inverse, or `None` if there is none."""
         try:
             return self.reduced(pow(number, -1, self.modulus))
         except ValueError:
@@ -71,7 +71,7 @@ class Ring(Integers):
 
 
 class Wrapping(Ring):
-    """The integers modulo 2^bits, each written as the one with sign."""
+    """The integers modulo 2^bits, each written as a signed integer."""
 
     def __init__(self, bits):
         super().__init__(f"W{bits}", bits)
@@ -104,7 +104,7 @@ class Residues(Ring):
 
 
 class Places:
-    """The type of places without a value, which rows write as `x`."""
+    """The type of entries without a value, which rows write as `x`."""
 
     name, typename, one, bytes = "Places", "pattern", "x", 0
 

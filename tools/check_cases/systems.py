@@ -4,7 +4,7 @@ from typing import NamedTuple
 from .matrices import Matrix, Over, arrays_of, dense_of, drawn, inner_of, matrix_of, places, truth
 from .words import Picture, Refused, misfit
 
-# The calls that make factors.
+# The calls that return factors.
 NAMES = {"fill", "fill-upper", "fill-lower", "fill-both", "fill-counted", "ldl"}
 NOT_DIAGONAL = Refused("Singular", "Matrix contains at least one diagonal entry that is zero.")
 
@@ -17,7 +17,7 @@ def square(matrix):
 
 
 def substituted(scalars, order, rows, inverses, b):
-    """Returns the dense X of T X = B, whose rows are found in an order in which T has only earlier ones."""
+    """Returns the dense X of T X = B. Its rows are computed in an order in which each depends on earlier ones alone."""
     if not b.entries:
         return b
     x = {}
@@ -38,7 +38,7 @@ def rows_of(entries):
 
 
 def solution(scalars, l, is_transposed, b):
-    """Returns the X of L X = B, or of L' X = B, where nothing above the diagonal of L counts."""
+    """Returns the X of L X = B, or of L' X = B, without the entries of L above the diagonal."""
     if square(l).nrows != b.nrows:
         raise misfit()
     if b.ncols == 0:
@@ -64,7 +64,7 @@ def filled(pairs):
 
 
 def fill(name, matrix):
-    """Returns the places of the Cholesky factor of a triangle of a pattern, or of both."""
+    """Returns the pattern of the Cholesky factor of a triangle of a pattern, or of both."""
     upper = {(col, row) for row, col in square(matrix).entries if row <= col}
     lower = {(row, col) for row, col in matrix.entries if row >= col}
     return filled({"fill-lower": lower, "fill-both": upper | lower}.get(name, upper))
@@ -87,7 +87,7 @@ def ldl(scalars, matrix):
 
 
 class Factors(NamedTuple):
-    """What a call such as `fill A` or `ldl A` makes: what `==` compares, and what is shown."""
+    """The result of a call such as `fill A` or `ldl A`: what `==` compares, and what is printed."""
 
     compared: tuple
     text: str
@@ -104,7 +104,7 @@ def factors_of(name, picture, over):
 
 
 def answer(words, over):
-    """Returns what a call of a system or of factors answers, or `None` if the call is none."""
+    """Returns the answer of a call on a system or on factors, or `None` if the call is not one."""
     scalars, columns = over.scalars, over._replace(form="columns")
     match words:
         case [Picture() as l, "\\", Picture() as b]:

@@ -1,4 +1,4 @@
-"""Calls on Matrix Market texts. In a row `|` ends a line, and `\\s` and the like stand for blank characters."""
+"""Calls on Matrix Market texts. In a row `|` ends a line, and `\\s` and the like mean blank characters."""
 import re
 
 from .market import meaning, written
@@ -8,8 +8,8 @@ from .words import Picture, Refused, Unreadable, words_of
 
 FIRST = "%%MatrixMarket matrix "
 ESCAPES = {"\\r": "\r", "\\n": "\n", "\\t": "\t", "\\f": "\f", "\\s": " "}
-# The errors that become errors of a text: a missing file's, the kind of a failed write, a word that is no number, a
-# number that a type does not have, and a place that is given twice.
+# The errors that are converted to errors of a text: that of a missing file, the kind of a failed write, a word that is
+# not a number, a number that a type does not have, and two entries with the same row and column.
 ERRORS = {
     "AllocError": ("OutOfMemory", "Out of memory."),
     "io::Error": ("IOError(NotFound)", "The reader or writer failed."),
@@ -33,7 +33,7 @@ def lines_of(text):
 
 
 def in_order(call, over):
-    """Returns the list of the triplets in a picture, in the order of the form."""
+    """Returns the list of the triplets in a picture, in the order of the format."""
     match words_of(call):
         case [Picture() as a]:
             matrix = summed(list_of(a, over.scalars), over.scalars)
@@ -59,7 +59,7 @@ def of_error(name, call, scalars):
 
 
 def answer(name, call, over):
-    """Returns what a call on a text or on its scalars answers, or `None` if the name is none of such a call."""
+    """Returns the answer of a call on a text or on its scalars, or `None` if the name is not that of such a call."""
     scalars = over.scalars
     match name:
         case "read":
@@ -80,7 +80,7 @@ def answer(name, call, over):
 
 
 def of_scalar(name, call, scalars):
-    """Returns what a scalar of a text answers, or `None` if the name is none of such a call."""
+    """Returns the answer of a call on a scalar of texts, or `None` if the name is not that of such a call."""
     match name:
         case "from-integer":
             return str(scalars.from_integer(int(call)))

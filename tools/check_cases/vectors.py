@@ -19,7 +19,7 @@ def sparse_vector(picture, over):
 
 
 def vector_of(picture, over):
-    """Returns a dense matrix, and its places column after column."""
+    """Returns a dense matrix, and the pairs (row, column) of its elements column after column."""
     matrix = dense_of(picture, over)
     return matrix, sorted(matrix.entries, key=lambda place: place[::-1])
 
@@ -44,7 +44,7 @@ def axpy(factor, sparse, picture, over):
 
 
 def answer(words, over):
-    """Returns what a call on a lane or a sparse vector, and a dense vector, answers, or `None`."""
+    """Returns the answer of a call on a lane or a sparse vector, and a dense vector, or `None`."""
     match words:
         case ["dot", int(index), Picture() as a, Picture() as x]:
             return dot(lane_of(index_of(index), matrix_of(a, over), over), x, over)

@@ -6,11 +6,11 @@ WORD = re.compile(r"\[(?P<picture>[^][]*)\](?P<mark>'?)|(?P<word>[^][\s]+)|(?P<o
 
 
 class Unreadable(Exception):
-    """A row that is not written by the rules, or that this program can't compute."""
+    """A row that violates the notation, or that this program can't compute."""
 
 
 class Refused(Exception):
-    """An error that a call answers: its kind and, where it has one, its message."""
+    """An error that a call returns: its kind and its message, if it has one."""
 
     def __init__(self, kind, message=None):
         self.kind, self.message = kind, message
@@ -18,7 +18,7 @@ class Refused(Exception):
 
 
 class Picture(NamedTuple):
-    """A matrix as a row writes it: what stands in the brackets, and whether `'` follows them."""
+    """A matrix as a row writes it: what is in the brackets, and whether `'` follows them."""
 
     text: str
     is_transposed: bool = False

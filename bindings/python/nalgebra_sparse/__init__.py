@@ -1,24 +1,25 @@
 """Exact sparse matrices over the integers modulo 2^64, by the proved static library `sparse_c`.
 
-The functions take and return SciPy matrices, `csr_matrix` and `csc_matrix` or `csr_array` and `csc_array`. The result has
-the class of the first operand, and values are `int64`. Sums and products wrap. What is proved of the calls is said in
-`bindings/c/nalgebra_sparse.h`; this module is only tested.
+The functions take and return SciPy matrices, `csr_matrix` and `csc_matrix` or `csr_array` and `csc_array`. The result
+has the class of the first operand, and values are `int64`. Sums and products wrap. `bindings/c/nalgebra_sparse.h` says
+what is proved about the calls; this module is only tested.
 
 Operands with other dtypes of integers that fit in `int64`, or that are not contiguous, are copied once. No other thread
-may change an operand during a call. Otherwise several threads may call at once, and a call does not hold Python's lock.
+may change an operand during a call. Otherwise several threads may call at once, since a call does not hold Python's
+lock.
 
-Assembly, sums, products, division, solves and factors are also computed modulo a prime: `modulus` is one of `MODULI`. An
-integer then means its residue, also where it is negative, and the values of a result are from 0 to modulus - 1.
+Assembly, sums, products, division, solves and factors are also computed modulo a prime: `modulus` is one of `MODULI`.
+An integer then means its residue, also if it is negative, and the values of a result are from 0 to modulus - 1.
 
-`Exact` is a matrix that the library owns, with operators and solves: a chain of them tests no array twice, and the operators
+`Exact` is a matrix that the library owns, with operators and solves: its arrays are checked once, and the operators
 copy no operand. Its values are integers modulo 2^64.
 
-Calls on symmetric matrices test that they are, unless `assume_symmetric=True` is given: then they read the entries on and
-above the diagonal alone.
+Calls on symmetric matrices test the symmetry, unless `assume_symmetric=True` is given: then they read the entries on
+and above the diagonal alone.
 
-A refusal is an `Error` or a `MemoryError`, and an argument of the wrong type is a `TypeError`.
+A call that is refused raises an `Error` or a `MemoryError`, and an argument of the wrong type a `TypeError`.
 
-`bindings/python/build` makes the shared library that is loaded here. `NALGEBRA_SPARSE_LIBRARY` names another one.
+`bindings/python/build` builds the shared library that is loaded here. `NALGEBRA_SPARSE_LIBRARY` names another one.
 
 >>> import numpy as np
 >>> import nalgebra_sparse
@@ -74,7 +75,8 @@ MODULI = (2, 3, 5, 7, 11, 13, 101, 65537, 998244353, 1000000007, 230584300921369
 
 
 def _version() -> str:
-    """Returns the text of the file VERSION: beside this file where the package is installed, else the repository's."""
+    """Returns the text of the file VERSION: of the one beside this file if the package is installed, else of the one in
+    the repository."""
     here = os.path.dirname(os.path.abspath(__file__))
     path = os.path.join(here, "VERSION")
     if not os.path.exists(path):
@@ -87,11 +89,12 @@ __version__ = _version()
 
 
 def reuse_memory(most: int = 1 << 30) -> bool:
-    """Lets the process keep up to `most` bytes of freed memory for its next allocations. Returns whether it could be arranged.
+    """Lets the process keep up to `most` bytes of freed memory for its next allocations. Returns whether this could be
+    set.
 
-    By default glibc gives the memory of large arrays back to the system, and each call pays for its pages again: about a
-    third of the time of `assemble_csr` with a million triplets. This sets two limits of malloc (mallopt) for the whole
-    process, so it is never done unasked. Other C libraries ignore it.
+    By default glibc gives the memory of large arrays back to the system, and each call pays for its pages again: about
+    a third of the time of `assemble_csr` with a million triplets. This sets two limits of malloc (mallopt) for the
+    whole process, so it is done only on request. Other C libraries ignore it.
     """
     if not 0 <= _integer("most", most) < 2**31:
         raise Error(f"most must be from 0 to 2^31 - 1, not {most}")

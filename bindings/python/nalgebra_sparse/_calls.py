@@ -26,24 +26,25 @@ def _symbol(name: str) -> Any:
         raise ImportError(f"{message}: run bindings/python/build, or name the shared library in NALGEBRA_SPARSE_LIBRARY") from error
 
 
-# What is passed for an empty array, whose own pointer may be null or not aligned.
+# The pointer that is passed for an empty array, whose own pointer may be null or not aligned.
 _NOWHERE = ctypes.c_uint64()
 
 
 class Handle(ctypes.Structure):
-    """A handle of a matrix that the library owns: null stands for none."""
+    """A handle of a matrix that the library owns: null means none."""
 
     _fields_ = [("matrix", ctypes.c_void_p)]
 
 
 class FactorHandle(ctypes.Structure):
-    """A handle of factors that the library owns: null stands for none."""
+    """A handle of factors that the library owns: null means none."""
 
     _fields_ = [("factors", ctypes.c_void_p)]
 
 
 class Kind(NamedTuple):
-    """A kind of argument: the types of the call's parameters for it, and what makes their values of an argument."""
+    """A kind of argument: the types of the call's parameters for it, and the function that computes their values from
+    an argument."""
 
     types: tuple[Any, ...]
     words: Callable[[Any], tuple[Any, ...]]
@@ -172,7 +173,7 @@ _FUNCTIONS = {name: _declared(name, kinds) for name, kinds in _PARAMETERS.items(
 def call(name: str, *arguments: Any) -> None:
     """Calls a function of the library, and raises its error.
 
-    An argument whose number or kind is not that of the table is a `TypeError`, and nothing is called.
+    If the number of arguments or the kind of one is not that of the table, it raises a `TypeError`, and calls nothing.
     """
     kinds = _PARAMETERS[name]
     if len(arguments) != len(kinds):

@@ -15,7 +15,7 @@ class IndexOutOfBounds(Error):
 
 
 class DuplicateEntry(Error):
-    """The same place is given more than once."""
+    """Two entries have the same row and column."""
 
 
 class Singular(Error):
@@ -23,7 +23,7 @@ class Singular(Error):
 
 
 class UnknownModulus(Error):
-    """The modulus is none of `MODULI`."""
+    """The modulus is not one of `MODULI`."""
 
 
 class TooSmall(Error):
@@ -31,7 +31,7 @@ class TooSmall(Error):
 
 
 class InvalidText(Error):
-    """A text in Matrix Market format has an error, which the message names."""
+    """A text in Matrix Market format has an error, which the message describes."""
 
 
 UNKNOWN_MODULUS = 7
@@ -61,7 +61,8 @@ _REFUSALS: dict[int, tuple[type[Exception], str]] = {
 def error_of(status: int) -> Exception:
     """Returns a new exception for a status other than 0.
 
-    A new one each time: an exception that is raised again keeps the frames of all its tracebacks, and the arrays in them.
+    It is a new one each time, since an exception that is raised again keeps the frames of all its tracebacks, and the
+    arrays in them.
     """
     kind, message = _REFUSALS.get(status, (Error, f"the call ended with status {status}"))
     return kind(message)

@@ -18,20 +18,23 @@ from ._results import empty, matrix_of
 
 
 def _operand(other: Any) -> Optional[Exact]:
-    """Returns the operand of an operator: an `Exact`, that of a SciPy matrix, or None for what is no matrix."""
+    """Returns the operand of an operator as an `Exact`: itself, or the one with the entries of a SciPy matrix; None if
+    it is not a matrix."""
     if sp.issparse(other):
         return Exact.from_scipy(other)
     return other if isinstance(other, Exact) else None
 
 
 class Exact:
-    """A matrix of integers modulo 2^64 that the library owns. It does not change.
+    """A matrix of integers modulo 2^64 that the library owns. It is immutable.
 
-    Its arrays are tested once, when it is made of a SciPy matrix or of triplets. The operators `+`, `-`, `*` by an integer
-    and `@`, and `T`, return new matrices and copy no operand. One operand of `+`, `-` and `@` may be a SciPy matrix by rows
-    or by columns, whose arrays are tested and copied. `solve_lower`, `solve_upper` and `factor` copy the matrix.
+    Its arrays are checked once, when it is created from a SciPy matrix or from triplets. The operators `+`, `-`, `*` by
+    an integer and `@`, and `T`, return new matrices and copy no operand. One operand of `+`, `-` and `@` may be a SciPy
+    matrix by rows or by columns, whose arrays are checked and copied. `solve_lower`, `solve_upper` and `factor` copy
+    the matrix.
 
-    It is freed with the object, and several threads may use it at once. Copies share the matrix, and a pickle has its arrays.
+    The matrix is freed with the object, and several threads may use it at once. Copies share the matrix, and a pickle
+    has its arrays.
 
     >>> import numpy as np, scipy.sparse as sp
     >>> a = Exact.from_scipy(sp.csr_matrix(np.array([[1, 2], [0, 3]])))
@@ -58,7 +61,7 @@ class Exact:
 
     @classmethod
     def _made(cls, name: str, *arguments: Any) -> Exact:
-        """Returns the matrix that a call makes, whose last argument is the handle for it."""
+        """Returns the matrix that a call puts behind the handle which is its last argument."""
         self = object.__new__(cls)
         self._handle, self._lock = Handle(), threading.RLock()
         call(name, *arguments, self._handle)
@@ -93,7 +96,8 @@ class Exact:
 
     @classmethod
     def from_triplets(cls, shape: tuple[int, int], row_indices: Integers, col_indices: Integers, values: Integers) -> Exact:
-        """Returns the matrix of triplets, in which the values at one place are added. A place is kept where its sum is 0.
+        """Returns the matrix of triplets, where values with the same row and column are added. An entry is kept if its
+        sum is 0.
 
         >>> import numpy as np
         >>> a = Exact.from_triplets((2, 2), np.array([0, 0, 1]), np.array([0, 0, 1]), np.array([1, 2, 7]))
@@ -105,7 +109,8 @@ class Exact:
 
     @classmethod
     def from_text(cls, text: bytes) -> Exact:
-        """Returns the matrix of the bytes of a Matrix Market text with integers, in which the values at one place are added.
+        """Returns the matrix of the bytes of a Matrix Market text with integers, where values with the same row and
+        column are added.
 
         >>> a = Exact.from_text(b"%%MatrixMarket matrix coordinate integer symmetric\\n2 2 2\\n1 1 4\\n2 1 -3\\n")
         >>> a.to_scipy().toarray().tolist()
@@ -118,7 +123,7 @@ class Exact:
         return made
 
     def to_text(self) -> bytes:
-        """Returns the bytes of the Matrix Market text of the matrix, with a line for each place, row by row.
+        """Returns the bytes of the Matrix Market text of the matrix, with a line for each entry, row by row.
 
         >>> import numpy as np, scipy.sparse as sp
         >>> print(Exact.from_scipy(sp.csr_array(np.array([[0, 4]]))).to_text().decode(), end="")
@@ -127,7 +132,7 @@ class Exact:
         1 2 1
         1 2 4
         """
-        # A line has at most 63 bytes, and the lines before the entries are at most three.
+        # A line has at most 63 bytes, and there are at most three lines before those of the entries.
         text, length = empty(64 * (self._nnz + 3), np.uint8), ctypes.c_size_t()
         with self._own() as a:
             call("matrix_to_text", a, text, length)
@@ -148,7 +153,7 @@ class Exact:
 
     @property
     def nnz(self) -> int:
-        """The number of places, those with the value 0 too."""
+        """The number of entries, those with the value 0 too."""
         return self._nnz
 
     @property
@@ -214,7 +219,7 @@ class Exact:
 
     def __mul__(self, factor: Any) -> Exact:
         if sp.issparse(factor) or isinstance(factor, Exact):
-            # SciPy would take this object for a number.
+            # Otherwise SciPy would treat this object as a number.
             raise TypeError("`*` takes an integer: the product of two matrices is `@`")
         if isinstance(factor, (bool, np.bool_)) or not isinstance(factor, (int, np.integer)):
             return NotImplemented
@@ -223,7 +228,7 @@ class Exact:
     __rmul__ = __mul__
 
     def add_scaled(self, alpha: int, other: Exact, beta: int) -> Exact:
-        """Returns the sum `alpha * self + beta * other`, on the union of the places.
+        """Returns the sum `alpha * self + beta * other`, on the union of the patterns.
 
         >>> import numpy as np, scipy.sparse as sp
         >>> a = Exact.from_scipy(sp.csr_array(np.array([[1, 2]])))
@@ -268,7 +273,7 @@ class Exact:
     def factor(self, assume_symmetric: bool = False) -> Factorisation:
         """Returns the exact factors L D L^T of the matrix, which must be symmetric.
 
-        A matrix that is not symmetric is an `Error`; the test makes its transpose and a difference. With
+        If the matrix is not symmetric, an `Error` is raised; the test computes its transpose and a difference. With
         `assume_symmetric=True` there is no test, and the factors are those of the symmetric matrix with the entries of
         this one on and above the diagonal.
 

@@ -1,4 +1,4 @@
-"""Factors that the library owns, and what calls over handles share."""
+"""Factors that the library owns, and functions for all calls over handles."""
 from __future__ import annotations
 
 import contextlib
@@ -14,10 +14,11 @@ from ._operands import Integers, dense_of
 
 @contextlib.contextmanager
 def own(name: str, handle: Any, lock: Any) -> Iterator[Any]:
-    """Lends a second handle. A call takes different handles, and each handle is used by one call at a time.
+    """Yields a second handle for the time of a call. The handles of a call must differ, and each handle is used by one
+    call at a time.
 
-    The lock is re-entrant: a signal handler may use the matrix of the code that it interrupts. It runs before a call or
-    behind it, and never during one.
+    The lock is re-entrant: a signal handler may use the matrix of the code that it interrupts. The handler runs before
+    or after a call, and never during one.
     """
     second = type(handle)()
     with lock:
@@ -37,10 +38,11 @@ def solved(name: str, b: Any, rows: int, *arguments: Any) -> Integers:
 
 
 class Factorisation:
-    """The exact factors L D L^T of a symmetric matrix of integers modulo 2^64, which the library owns: `Exact.factor` makes it.
+    """The exact factors L D L^T of a symmetric matrix of integers modulo 2^64, which the library owns: `Exact.factor`
+    returns it.
 
-    It is freed with the object, and several threads may use it at once. Copies share the factors. They are not pickled:
-    pickle the matrix, and factor it again.
+    The factors are freed with the object, and several threads may use them at once. Copies share the factors. They
+    can't be pickled: pickle the matrix, and factor it again.
 
     >>> import numpy as np, scipy.sparse as sp
     >>> from nalgebra_sparse import Exact
@@ -62,7 +64,7 @@ class Factorisation:
 
     @classmethod
     def _made(cls, name: str, operand: Any, size: int) -> Factorisation:
-        """Returns the factors that a call makes of a handle."""
+        """Returns the factors that a call computes from a handle."""
         self = object.__new__(cls)
         self._handle, self._lock, self._size = FactorHandle(), threading.RLock(), size
         call(name, operand, self._handle)

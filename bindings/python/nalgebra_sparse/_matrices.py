@@ -15,7 +15,8 @@ from ._results import empty, filled, matrix_of
 def assemble_csr(
     shape: tuple[int, int], row_indices: Integers, col_indices: Integers, values: Integers, modulus: Optional[int] = None
 ) -> sp.csr_matrix:
-    """Returns the matrix of triplets by rows, in which the values at one place are added. A place is kept where its sum is 0.
+    """Returns the matrix of triplets by rows, where values with the same row and column are added. An entry is kept if
+    its sum is 0.
 
     >>> import numpy as np
     >>> a = assemble_csr((2, 2), np.array([0, 0, 1, 1]), np.array([0, 1, 1, 1]), np.array([1, 2, 2, 1]))
@@ -32,7 +33,8 @@ def assemble_csr(
 def assemble_csc(
     shape: tuple[int, int], row_indices: Integers, col_indices: Integers, values: Integers, modulus: Optional[int] = None
 ) -> sp.csc_matrix:
-    """Returns the matrix of triplets by columns, in which the values at one place are added. A place is kept where its sum is 0.
+    """Returns the matrix of triplets by columns, where values with the same row and column are added. An entry is kept
+    if its sum is 0.
 
     >>> import numpy as np
     >>> a = assemble_csc((2, 3), np.array([0, 1, 0]), np.array([0, 2, 0]), np.array([5, 7, -5]))
@@ -45,7 +47,7 @@ def assemble_csc(
 
 
 def transpose(matrix: Matrix) -> Matrix:
-    """Returns the transpose of a matrix, in the form of the matrix.
+    """Returns the transpose of a matrix, in the same format.
 
     >>> import numpy as np, scipy.sparse as sp
     >>> transpose(sp.csr_matrix(np.array([[1, 2, 0], [0, 0, 3]]))).toarray().tolist()
@@ -57,7 +59,8 @@ def transpose(matrix: Matrix) -> Matrix:
 
 
 def _merged(name: str, modulus: Any, a: Any, b: Any, *factors: int) -> Any:
-    """Calls a sum, and returns it in the form of the operands. The factors of a sum of multiples stand before its operands."""
+    """Calls a sum, and returns it in the format of the operands. In a sum of multiples each scale precedes its
+    operand."""
     x, y = pair_of(a, b)
     if x.shape != y.shape:
         raise Error(f"the shapes {x.shape} and {y.shape} differ")
@@ -75,7 +78,7 @@ def _value(name: str, number: Any) -> int:
 
 
 def add(a: Matrix, b: Matrix, modulus: Optional[int] = None) -> Matrix:
-    """Returns the sum of two matrices in one form, on the union of their places.
+    """Returns the sum of two matrices in the same format, on the union of their patterns.
 
     >>> import numpy as np, scipy.sparse as sp
     >>> a, b = sp.csr_array(np.array([[1, 0], [0, 2]])), sp.csr_array(np.array([[-1, 4], [0, 0]]))
@@ -87,7 +90,7 @@ def add(a: Matrix, b: Matrix, modulus: Optional[int] = None) -> Matrix:
 
 
 def subtract(a: Matrix, b: Matrix, modulus: Optional[int] = None) -> Matrix:
-    """Returns the difference of two matrices in one form, on the union of their places.
+    """Returns the difference of two matrices in the same format, on the union of their patterns.
 
     >>> import numpy as np, scipy.sparse as sp
     >>> a, b = sp.csc_matrix(np.array([[1, 0], [0, 2]])), sp.csc_matrix(np.array([[0, 4], [0, 5]]))
@@ -98,7 +101,7 @@ def subtract(a: Matrix, b: Matrix, modulus: Optional[int] = None) -> Matrix:
 
 
 def add_scaled(alpha: int, a: Matrix, beta: int, b: Matrix, modulus: Optional[int] = None) -> Matrix:
-    """Returns the sum alpha a + beta b of multiples of two matrices in one form, on the union of their places.
+    """Returns the sum alpha a + beta b of multiples of two matrices in the same format, on the union of their patterns.
 
     >>> import numpy as np, scipy.sparse as sp
     >>> a, b = sp.csr_array(np.array([[1, 0], [0, 2]])), sp.csr_array(np.array([[3, 4], [0, 0]]))
@@ -111,7 +114,8 @@ def add_scaled(alpha: int, a: Matrix, beta: int, b: Matrix, modulus: Optional[in
 
 
 def multiply(a: Matrix, b: Matrix, modulus: Optional[int] = None) -> Matrix:
-    """Returns the product of two matrices in one form, with a place wherever they share a middle index.
+    """Returns the product of two matrices in the same format, with an entry (i, j) wherever some k has an entry (i, k)
+    in a and (k, j) in b.
 
     >>> import numpy as np, scipy.sparse as sp
     >>> a = sp.csr_matrix(np.array([[1, 2], [0, 3]]))
@@ -132,14 +136,14 @@ def multiply(a: Matrix, b: Matrix, modulus: Optional[int] = None) -> Matrix:
     return matrix_of(x.kind, parts, (rows, cols))
 
 
-# A product is computed into room for one entry for each multiplication, up to this many. Unused room is never touched,
-# so it takes no memory.
+# Up to this many entries, a product is computed into room for one entry for each multiplication. The rest of the room
+# is never touched, so it takes no memory.
 _MOST_UNCOUNTED = 1 << 24
 
 
 def _product_room(a: Lanes, b: Lanes) -> int:
-    """Returns the number of places for which a product has room at first: that of its multiplications, where that is not large,
-    and none where an index names no row.
+    """Returns the number of entries for which a product has room at first: the number of its multiplications if that is
+    not large, and 0 if an index is out of bounds.
     """
     try:
         room = int(np.diff(b.offsets)[a.indices].sum())
@@ -149,7 +153,8 @@ def _product_room(a: Lanes, b: Lanes) -> int:
 
 
 def multiply_dense(a: Matrix, b: Integers, modulus: Optional[int] = None) -> Integers:
-    """Returns the dense product of a matrix by rows and a NumPy array, a vector or a matrix. The result is stored column by column.
+    """Returns the dense product of a matrix by rows and a NumPy array, a vector or a matrix. The result is stored
+    column by column.
 
     >>> import numpy as np, scipy.sparse as sp
     >>> multiply_dense(sp.csr_matrix(np.array([[1, 2], [0, 3]])), np.array([5, 7])).tolist()
@@ -166,7 +171,7 @@ def multiply_dense(a: Matrix, b: Integers, modulus: Optional[int] = None) -> Int
 
 
 def divide(matrix: Matrix, divisor: int, modulus: Optional[int] = None) -> Matrix:
-    """Returns the matrix with each value times the inverse of an integer, in the form of the matrix.
+    """Returns the matrix with each value times the inverse of an integer, in the same format.
 
     >>> import numpy as np, scipy.sparse as sp
     >>> a = sp.csr_matrix(np.array([[6, 9]]))

@@ -1,4 +1,4 @@
-"""Checks operands."""
+"""Checks of operands."""
 from __future__ import annotations
 
 from typing import Any, NamedTuple, Union
@@ -18,7 +18,7 @@ _CLASSES = {"csr": (sp.csr_array, sp.csr_matrix), "csc": (sp.csc_array, sp.csc_m
 
 
 class Lanes(NamedTuple):
-    """The arrays of a matrix by rows or by columns, and the class of matrices that results are made in."""
+    """The arrays of a matrix by rows or by columns, and the class of matrices for results."""
 
     shape: tuple[int, int]
     offsets: Integers
@@ -44,7 +44,8 @@ def integer(name: str, number: Any) -> int:
 
 
 def flag(name: str, value: Any) -> bool:
-    """Returns a truth value of Python. What only counts as true or false, such as a text or NaN, is refused."""
+    """Returns a boolean of Python. Other values that Python accepts as true or false, such as a text or NaN, are
+    refused."""
     if not isinstance(value, (bool, np.bool_)):
         raise TypeError(f"{name} must be True or False, not {value!r}")
     return bool(value)
@@ -81,7 +82,8 @@ def _vector(name: str, array: Any) -> Integers:
 
 
 def indices_of(name: str, array: Any) -> Integers:
-    """Returns a contiguous array of 64-bit indices: the array itself, or one copy. A negative index becomes one that is out of bounds."""
+    """Returns a contiguous array of 64-bit indices: the array itself, or one copy. A negative index becomes one that is
+    out of bounds."""
     array = _vector(name, array)
     if array.dtype.kind not in "iu":
         raise TypeError(f"{name} must have a dtype of integers, not {array.dtype}")
@@ -110,7 +112,7 @@ def triplets_of(rows: Any, cols: Any, values: Any, name: str = "") -> tuple[Inte
 
 
 def lanes_of(name: str, matrix: Any, *forms: str) -> Lanes:
-    """Returns the arrays of a sparse matrix in one of these forms, which are `csr` and `csc`."""
+    """Returns the arrays of a sparse matrix in one of these formats, which are `csr` and `csc`."""
     if not sp.issparse(matrix) or matrix.format not in forms:
         found = getattr(matrix, "format", type(matrix).__name__)
         calls = " or ".join(f"to{form}()" for form in forms)
@@ -126,7 +128,7 @@ def lanes_of(name: str, matrix: Any, *forms: str) -> Lanes:
 
 
 def pair_of(a: Any, b: Any) -> tuple[Lanes, Lanes]:
-    """Returns the arrays of two matrices in one form."""
+    """Returns the arrays of two matrices in the same format."""
     lanes = lanes_of("a", a, "csr", "csc"), lanes_of("b", b, "csr", "csc")
     if a.format != b.format:
         raise TypeError(f"a and b must have one form, not {a.format} and {b.format}: call b.to{a.format}()")

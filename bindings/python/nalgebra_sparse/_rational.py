@@ -1,8 +1,9 @@
 """Exact rational solutions of symmetric systems of integers.
 
 This is Python over the calls of the library: `factor_symmetric` and `solve_lower` modulo a prime, and `multiply_dense`
-modulo 2^64, are proved; what joins them is tested. A solution is returned only after A x = b was tested in whole numbers, of
-A, x and b as they are given and returned. So a mistake before that test ends in an error, and not in a wrong solution.
+modulo 2^64, are proved; the Python code is tested. A solution is returned only after A x = b was tested over the
+integers, for the given A and b and the returned x. So a mistake before that test leads to an error, and not to a wrong
+solution.
 """
 from __future__ import annotations
 
@@ -25,16 +26,17 @@ _MOST_IN_A_ROW = 2**62
 def solve_rational(matrix: Matrix, b: Integers, modulus: int = 2305843009213693951, assume_symmetric: bool = False) -> Any:
     """Returns the rational X for which A X = b, as an array of `fractions.Fraction` in the shape of b.
 
-    A is a symmetric matrix of integers by columns; they don't wrap here. A matrix that is not symmetric is an `Error`. With
-    `assume_symmetric=True` there is no test, and A has the entries of the matrix on and above the diagonal.
+    A is a symmetric matrix of integers by columns, which don't wrap here. If the matrix is not symmetric, an `Error` is
+    raised. With `assume_symmetric=True` there is no test, and A has the entries of the matrix on and above the
+    diagonal.
 
     The absolute values in a row of A must add up to less than 2^62. A is factored once modulo a prime, an odd one of
-    `MODULI`; each further step adds a digit in base `modulus` to the solution (J. D. Dixon 1982), until fractions with these
-    digits solve the system. A solution was tested in whole numbers, and it is the only one. `Singular` says that A has no
-    factorisation L D L^T modulo this prime; it may have one modulo another.
+    `MODULI`; each further step adds a digit in base `modulus` to the solution (J. D. Dixon 1982), until fractions with
+    these digits solve the system. A solution was tested over the integers, and it is the only one. `Singular` says that
+    A has no factorisation L D L^T modulo this prime; it may have one modulo another.
 
-    Each step costs three solves and one product. As many steps are needed as numerators and denominators have digits, and
-    up to twice as many are made.
+    Each step costs three solves and one product. The number of steps that are needed is the number of digits of
+    numerators and denominators, and up to twice as many are made.
 
     >>> import numpy as np, scipy.sparse as sp
     >>> a = sp.csc_matrix(np.array([[2, 1], [1, 3]]))
@@ -55,7 +57,7 @@ def solve_rational(matrix: Matrix, b: Integers, modulus: int = 23058430092136939
 
 
 def _doubled(most: int) -> Iterator[int]:
-    """Yields 1, 2, 4 and so on below a number, and then the number."""
+    """Yields 1, 2, 4 and so on below a number, and then the number itself."""
     steps = 1
     while steps < most:
         yield steps
@@ -89,9 +91,9 @@ class _System:
     def most_steps(self) -> int:
         """Returns a number of steps that is enough.
 
-        By Cramer's rule and Hadamard's bound, numerators and denominators are at most the product of the rows' lengths, each
-        at least 1, times the length of a right side. Fractions with numerators and denominators up to B are determined
-        modulo any number above 2 B^2.
+        By Cramer's rule and Hadamard's bound, numerators and denominators are at most the product of the rows' lengths,
+        each at least 1, times the length of a right-hand side. Fractions with numerators and denominators up to B are
+        determined modulo any number above 2 B^2.
         """
         bound = math.prod(_length(row) for row in _rows_of(self.rows))
         bound *= max([1, *(_length(column) for column in self.right.reshape((self.cols, self.size)).tolist())])
@@ -107,7 +109,8 @@ class _System:
         return numbers
 
     def _lift(self) -> None:
-        """Adds a digit: the solution of the residual modulo the prime. The next residual is (residual - A digit) / modulus."""
+        """Adds a digit: the solution of the residual modulo the prime. The next residual is (residual - A digit) /
+        modulus."""
         below = solve_lower(self.lower, self.residual, modulus=self.modulus)
         divided = solve_lower(self.diagonal, below, modulus=self.modulus)
         digit = solve_lower(self.lower, divided, transposed=True, modulus=self.modulus)
@@ -118,7 +121,7 @@ class _System:
 
 
 def _solves(matrix: Matrix, solution: Any, b: Integers, assume_symmetric: bool) -> bool:
-    """Says whether A x = b for each column, in whole numbers. A and b are read here as they were given."""
+    """Says whether A x = b for each column, over the integers. A and b are read here as they were given."""
     if solution.shape != b.shape:
         return False
     entries = list(_entries_of(matrix))
@@ -138,7 +141,8 @@ def _over_one_denominator(numbers: list[Fraction]) -> tuple[list[int], int]:
 
 
 def _times(entries: list[list[tuple[int, int]]], x: list[int], mirror: bool) -> list[int]:
-    """Returns the product of a matrix, given by its columns, and x; or of its part on and above the diagonal, mirrored."""
+    """Returns the product of a matrix, given by its columns, and x; or of its part on and above the diagonal,
+    mirrored."""
     sums = [0] * len(entries)
     for j, column in enumerate(entries):
         for i, value in column:
@@ -201,7 +205,8 @@ def _fractions(numbers: list[int], modulus: int) -> Optional[tuple[list[int], in
 
 
 def _fraction(number: int, modulus: int, most: int) -> Optional[tuple[int, int]]:
-    """Returns n and d with n = number d modulo the modulus, |n| <= most and 0 < d <= most, in lowest terms, if there are such.
+    """Returns n and d with n = number d modulo the modulus, |n| <= most and 0 < d <= most, in lowest terms, or None if
+    there are none.
 
     Euclid's algorithm stopped halfway (Wang 1981).
     """
@@ -220,7 +225,7 @@ def _fraction(number: int, modulus: int, most: int) -> Optional[tuple[int, int]]
 
 
 def _shaped(numerators: list[int], denominator: int, shape: tuple[int, ...]) -> Any:
-    """Returns an array of fractions in the shape of the right sides."""
+    """Returns an array of fractions in the shape of the right-hand sides."""
     solution = np.empty(len(numerators), object)
     solution[:] = [Fraction(numerator, denominator) for numerator in numerators]
     return solution.reshape(shape, order="F")

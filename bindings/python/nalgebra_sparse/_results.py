@@ -1,4 +1,4 @@
-"""Makes the arrays and the matrices of results."""
+"""Arrays for results, and the matrices of results."""
 from __future__ import annotations
 
 import ctypes
@@ -12,7 +12,7 @@ from ._operands import Integers
 
 
 def empty(count: int, dtype: Any = np.int64) -> Integers:
-    """Returns an array for a result. An array that no memory can hold is a `MemoryError`."""
+    """Returns an array for a result. Raises a `MemoryError` if it does not fit in memory."""
     try:
         return np.empty(count, dtype)
     except (ValueError, OverflowError) as error:
@@ -20,8 +20,8 @@ def empty(count: int, dtype: Any = np.int64) -> Integers:
 
 
 def with_room(room: int, dtypes: tuple[Any, ...], name: str, *arguments: Any) -> tuple[Integers, ...]:
-    """Calls with an array of `room` elements for each type, and cuts them to the result. Calls once more, with as many elements
-    as the call tells that it needs, if that is too little.
+    """Makes a call with an array of `room` elements for each type, and truncates them to the result. If that is too
+    little, calls once more, with as many elements as the call tells that it needs.
     """
     count = ctypes.c_size_t()
     arrays = [empty(room, dtype) for dtype in dtypes]
@@ -34,14 +34,15 @@ def with_room(room: int, dtypes: tuple[Any, ...], name: str, *arguments: Any) ->
 
 
 def filled(lanes: int, room: int, name: str, *arguments: Any) -> tuple[Integers, Integers, Integers]:
-    """Calls with arrays for `lanes` lanes and `room` places, or as many as are needed, and cuts them to the places of the result."""
+    """Makes a call with arrays for `lanes` lanes and `room` entries, or as many as are needed, and truncates them to
+    the entries of the result."""
     offsets = empty(lanes + 1)
     indices, values = with_room(room, (np.int64, np.int64), name, *arguments, offsets)
     return values, indices, offsets
 
 
 def matrix_of(kind: Any, parts: Any, shape: tuple[int, int]) -> Any:
-    """Returns the matrix of arrays that the library made, which need no test."""
+    """Returns the matrix of arrays that the library wrote, without a check."""
     matrix = kind(parts, shape=shape, copy=False)
     matrix.has_sorted_indices = matrix.has_canonical_format = True
     return matrix

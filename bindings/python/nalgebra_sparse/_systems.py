@@ -23,7 +23,8 @@ def _solved(name: str, modulus: Any, matrix: Any, b: Any, *flags: bool) -> Integ
 
 
 def solve_lower(matrix: Matrix, b: Integers, transposed: bool = False, modulus: Optional[int] = None) -> Integers:
-    """Returns the X for which L X = b, or L^T X = b, where L is the part of a square matrix by columns on and below its diagonal.
+    """Returns the X for which L X = b, or L^T X = b, where L is the part of a square matrix by columns on and below its
+    diagonal.
 
     >>> import numpy as np, scipy.sparse as sp
     >>> l = sp.csc_matrix(np.array([[1, 0], [2, 3]]))
@@ -36,7 +37,8 @@ def solve_lower(matrix: Matrix, b: Integers, transposed: bool = False, modulus: 
 
 
 def require_symmetric(matrix: Matrix, modulus: Optional[int], assume_symmetric: Any) -> None:
-    """Raises an `Error` unless a square matrix by columns is its transpose, modulo 2^64 or modulo a prime, or is to be taken for it."""
+    """Raises an `Error` unless a square matrix by columns equals its transpose, modulo 2^64 or modulo a prime, or is
+    assumed to."""
     assumed = flag("assume_symmetric", assume_symmetric)
     square_of("matrix", matrix)
     if not assumed:
@@ -46,8 +48,9 @@ def require_symmetric(matrix: Matrix, modulus: Optional[int], assume_symmetric: 
 def solve_symmetric(matrix: Matrix, b: Integers, modulus: Optional[int] = None, assume_symmetric: bool = False) -> Integers:
     """Returns the X for which A X = b, where A is a symmetric matrix by columns.
 
-    A matrix that is not symmetric, modulo 2^64 or modulo `modulus`, is an `Error`; the test makes its transpose and a
-    difference. With `assume_symmetric=True` there is no test, and A has the entries of the matrix on and above the diagonal.
+    If the matrix is not symmetric, modulo 2^64 or modulo `modulus`, an `Error` is raised; the test computes its
+    transpose and a difference. With `assume_symmetric=True` there is no test, and A has the entries of the matrix on
+    and above the diagonal.
 
     >>> import numpy as np, scipy.sparse as sp
     >>> a = sp.csc_array(np.array([[2, 1], [1, 3]]))
@@ -64,8 +67,8 @@ _TRIANGLES = {"upper": 0, "lower": 1, "both": 2}
 def fill(matrix: Matrix, triangle: str = "upper") -> tuple[Integers, Integers]:
     """Returns the offsets and the indices by columns of the factor of a symmetric elimination.
 
-    It starts from the places of a square matrix by columns on and above the diagonal ("upper"), on and below it ("lower"),
-    or from all ("both"). The values have no effect.
+    The elimination starts from the entries of a square matrix by columns on and above the diagonal ("upper"), on and
+    below it ("lower"), or from all ("both"). The values have no effect.
 
     >>> import numpy as np, scipy.sparse as sp
     >>> offsets, indices = fill(sp.csc_matrix(np.array([[1, 1, 1], [0, 1, 0], [0, 0, 1]])))
@@ -76,14 +79,14 @@ def fill(matrix: Matrix, triangle: str = "upper") -> tuple[Integers, Integers]:
         raise Error(f"triangle must be one of {', '.join(_TRIANGLES)}, not {triangle!r}")
     size, lanes = square_of("matrix", matrix)
     offsets = empty(size + 1)
-    # Enough if the factor has no entries but the given ones and the diagonal.
+    # Enough if the elimination adds no entries but those of the diagonal.
     room = lanes.indices.size + size
     (indices,) = with_room(room, (np.int64,), "fill", size, _TRIANGLES[triangle], lanes.offsets, lanes.indices, offsets)
     return offsets, indices
 
 
 def _fill_places(size: int, triangle: str, lanes: Lanes) -> int:
-    """Returns how many places the factor has."""
+    """Returns the number of entries of the factor."""
     places = ctypes.c_size_t()
     call("fill_places", size, _TRIANGLES[triangle], lanes.offsets, lanes.indices, places)
     return places.value
@@ -92,11 +95,12 @@ def _fill_places(size: int, triangle: str, lanes: Lanes) -> int:
 def factor_symmetric(matrix: Matrix, modulus: Optional[int] = None, assume_symmetric: bool = False) -> tuple[Matrix, Integers]:
     """Returns the factors L and D of a symmetric matrix A = L D L^T: L by columns, and the diagonal of D as an array.
 
-    A matrix that is not symmetric, modulo 2^64 or modulo `modulus`, is an `Error`; the test makes its transpose and a
-    difference. With `assume_symmetric=True` there is no test, and A has the entries of the matrix on and above the diagonal.
+    If the matrix is not symmetric, modulo 2^64 or modulo `modulus`, an `Error` is raised; the test computes its
+    transpose and a difference. With `assume_symmetric=True` there is no test, and A has the entries of the matrix on
+    and above the diagonal.
 
-    L has ones on its diagonal and exactly the places of `fill` with "upper", also where a value is 0. Each entry of D has
-    an inverse.
+    L has ones on its diagonal and exactly the pattern of `fill` with "upper", also where a value is 0. Each entry of D
+    has an inverse.
 
     >>> import numpy as np, scipy.sparse as sp
     >>> l, d = factor_symmetric(sp.csc_matrix(np.array([[1, 2], [2, 7]])))

@@ -13,9 +13,9 @@ from ._results import empty, with_room
 
 
 def read(text: bytes) -> sp.coo_matrix:
-    """Returns the triplets of the bytes of a Matrix Market text with integers, as a matrix in COO form.
+    """Returns the triplets of the bytes of a Matrix Market text with integers, as a matrix in COO format.
 
-    Repeated places are kept, in the order of the text. A mirrored entry directly follows its own.
+    Repeated entries are kept, in the order of the text. A mirrored entry directly follows its entry.
 
     >>> a = read(b"%%MatrixMarket matrix coordinate integer symmetric\\n2 2 2\\n1 1 4\\n2 1 -3\\n")
     >>> a.row.tolist(), a.col.tolist(), a.data.tolist()
@@ -32,7 +32,8 @@ def read(text: bytes) -> sp.coo_matrix:
 
 
 def write(matrix: Any) -> bytes:
-    """Returns the bytes of the Matrix Market text of a matrix in COO form, with a line for each triplet, in their order.
+    """Returns the bytes of the Matrix Market text of a matrix in COO format, with a line for each triplet, in their
+    order.
 
     >>> import numpy as np, scipy.sparse as sp
     >>> print(write(sp.coo_matrix((np.array([4]), (np.array([0]), np.array([1]))), (1, 2))).decode(), end="")
@@ -45,6 +46,6 @@ def write(matrix: Any) -> bytes:
         raise TypeError("matrix must be a SciPy matrix in COO form: call tocoo()")
     rows, cols = shape_of("matrix.shape", matrix.shape)
     triplets = triplets_of(matrix.row, matrix.col, matrix.data, "matrix")
-    # Enough for a head and for triplets of 8 bytes a number: longer texts are written once more.
+    # Enough for the first lines and for triplets with 8 bytes for each number: for longer texts the call is repeated.
     (text,) = with_room(256 + 27 * triplets[2].size, (np.uint8,), "write", rows, cols, *triplets)
     return text.tobytes()

@@ -1,8 +1,8 @@
 //! The calls of the static library, as `bindings/c/nalgebra_sparse.h` declares them.
 //!
 //! A call reads the arrays behind `*const` and writes those behind `*mut`, each up to the length that follows it, and
-//! no other memory. It keeps no pointer. So it is safe if each pointer is that of a slice that is borrowed, mutably
-//! behind `*mut`, and the length that of the slice: pointers of slices are aligned and not null, also of empty ones.
+//! no other memory. It keeps no pointer. So it is safe if each pointer and length are those of a borrowed slice,
+//! borrowed mutably for `*mut`: pointers of slices are aligned and not null, also those of empty slices.
 
 #[cfg(not(target_pointer_width = "64"))]
 compile_error!("the static library is built for 64 bits");
@@ -401,14 +401,14 @@ extern "C" {
     pub fn nalgebra_sparse_factors_free(f: *mut FactorHandle);
 }
 
-/// `nalgebra_sparse_matrix` of the header: null is the empty handle.
+/// `nalgebra_sparse_matrix` of the header: null means no matrix.
 #[repr(C)]
 #[derive(Debug)]
 pub struct Handle {
     pub matrix: *mut std::ffi::c_void,
 }
 
-/// `nalgebra_sparse_factors` of the header: null is the empty handle.
+/// `nalgebra_sparse_factors` of the header: null means no factors.
 #[repr(C)]
 #[derive(Debug)]
 pub struct FactorHandle {

@@ -16,7 +16,7 @@ pub enum Error {
     DuplicateEntry,
     /// A value that must have an inverse has none.
     Singular,
-    /// The modulus is none of [`MODULI`](crate::MODULI).
+    /// The modulus is not one of [`MODULI`](crate::MODULI).
     UnknownModulus,
     /// A text does not match the grammar, or a number in it is out of range.
     InvalidText,
@@ -24,7 +24,7 @@ pub enum Error {
     InvalidHeader,
     /// The number of entries of a text is not the one of its size line.
     EntryMismatch,
-    /// A text has an entry that is no integer of 64 bits.
+    /// A text has an entry that is not an integer of 64 bits.
     TypeMismatch,
     /// An index of a text is 0.
     ZeroIndex,
@@ -40,7 +40,7 @@ pub enum Error {
     ShapeMismatch,
     /// The matrix is not symmetric. Only the checked calls test this.
     NotSymmetric,
-    /// The library answers with a status that this version of the crate does not know.
+    /// The library returns a status that this version of the crate does not know.
     UnknownStatus(i32),
 }
 
@@ -95,8 +95,8 @@ pub(crate) fn answer(status: i32) -> Result<(), Error> {
         15 => Err(Error::NonSquare),
         16 => Err(Error::Unreadable),
         18 => Err(Error::ShapeMismatch),
-        // A call is made again with the size that it tells, and a `Matrix` is never empty, so 5 and 17 are not among
-        // them.
+        // After 5 a call is repeated with the size that it tells, and the handle of a `Matrix` is never empty, which
+        // is 17.
         _ => Err(Error::UnknownStatus(status)),
     }
 }

@@ -52,7 +52,7 @@ impl Matrix {
     }
 
     /// Returns the exact factors `L D L^T` of the symmetric matrix whose entries on and above the diagonal are those of
-    /// this matrix, which is copied. Entries below the diagonal are ignored: [`Matrix::factor_checked`] tests that
+    /// this matrix, which is copied. Entries below the diagonal have no effect: [`Matrix::factor_checked`] tests that
     /// the matrix is symmetric.
     ///
     /// # Errors
@@ -67,7 +67,7 @@ impl Matrix {
 
 /// The exact factors `L D L^T` of a symmetric matrix over the integers modulo 2^64, which the library owns.
 ///
-/// Clones share them. They may go to another thread; threads that solve at once have a clone each.
+/// Clones share the factors. They may be sent to another thread; threads that solve at the same time need a clone each.
 ///
 /// ```
 /// use nalgebra_sparse_exact::Matrix;
@@ -80,15 +80,15 @@ impl Matrix {
 /// # Ok::<(), nalgebra_sparse_exact::Error>(())
 /// ```
 pub struct Factorisation {
-    // A call takes the pointer out while it runs, and puts it back. It is never null outside this file.
+    // A call replaces the pointer by null while it runs, and restores it. It is never null outside this file.
     handle: UnsafeCell<FactorHandle>,
 }
 
-// SAFETY: `Send` is proved of the handle (crates/c_handles). It is not `Sync`, since a call writes its operand.
+// SAFETY: `Send` is proved for the handle (crates/c_handles). It is not `Sync`, since a call writes its operand.
 unsafe impl Send for Factorisation {}
 
 impl Factorisation {
-    /// Makes factors by a call, which is given an empty handle to fill.
+    /// Returns the factors that a call puts behind the empty handle that it is given.
     fn made(call: impl FnOnce(*mut FactorHandle) -> i32) -> Result<Factorisation, Error> {
         let factors = Factorisation { handle: UnsafeCell::new(FactorHandle { factors: ptr::null_mut() }) };
         answer(call(factors.handle.get()))?;
@@ -119,7 +119,7 @@ impl Factorisation {
     }
 }
 
-/// Makes a second handle of the factors. No array is copied.
+/// Returns a second handle of the factors. No array is copied.
 ///
 /// # Panics
 ///

@@ -15,8 +15,8 @@ pub struct Factors {
 }
 
 /// Returns the factors of the symmetric matrix whose entries on and above the diagonal are those of a square matrix.
-/// The pattern of L is that of [`fill`](crate::fill) with the upper triangle. Entries below the diagonal are ignored:
-/// [`factor_symmetric_checked`](crate::factor_symmetric_checked) tests that the matrix is symmetric.
+/// The pattern of L is that of [`fill`](crate::fill) with the upper triangle. Entries below the diagonal have no
+/// effect: [`factor_symmetric_checked`](crate::factor_symmetric_checked) tests that the matrix is symmetric.
 ///
 /// # Errors
 ///
@@ -51,7 +51,7 @@ pub fn factor_symmetric(a: Columns<'_>) -> Result<Factors, Error> {
 ///
 /// # Errors
 ///
-/// [`Error::UnknownModulus`]; otherwise as [`factor_symmetric`].
+/// [`Error::UnknownModulus`]; otherwise those of [`factor_symmetric`].
 pub fn factor_symmetric_mod(modulus: u64, a: Columns<'_>) -> Result<Factors, Error> {
     // SAFETY: each pointer is that of a slice, with the slice's length after it.
     into_factors(a, |o, x, v, d, places| unsafe {
@@ -63,7 +63,7 @@ pub fn factor_symmetric_mod(modulus: u64, a: Columns<'_>) -> Result<Factors, Err
     })
 }
 
-/// Calls with arrays for the factors of a square matrix by columns.
+/// Makes a call with arrays for the factors of a square matrix by columns.
 fn into_factors(
     a: Columns<'_>,
     mut call: impl FnMut(&mut [usize], &mut [usize], &mut [i64], &mut [i64], &mut usize) -> i32,

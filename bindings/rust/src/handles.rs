@@ -10,9 +10,9 @@ use crate::{calls, Arrays, Error, Rows};
 
 /// A matrix over the integers modulo 2^64 that the library owns.
 ///
-/// Its arrays are checked once, when it is built. Transposes, multiples, sums and products copy no operand; solves with
-/// a triangle and factorisations copy the matrix. Clones share the arrays. It may go to another thread; threads that
-/// use a matrix at once have a clone each.
+/// Its arrays are checked once, when it is created. Transposes, multiples, sums and products copy no operand; solves
+/// with a triangle and factorisations copy the matrix. Clones share the arrays. A matrix may be sent to another thread;
+/// threads that use it at the same time need a clone each.
 ///
 /// ```
 /// use nalgebra_sparse_exact::Matrix;
@@ -23,24 +23,24 @@ use crate::{calls, Arrays, Error, Rows};
 /// # Ok::<(), nalgebra_sparse_exact::Error>(())
 /// ```
 pub struct Matrix {
-    // A call takes the pointer out while it runs, and puts it back. It is never null outside this file.
+    // A call replaces the pointer by null while it runs, and restores it. It is never null outside this file.
     pub(crate) handle: UnsafeCell<Handle>,
 }
 
-// SAFETY: `Send` is proved of the handle (crates/c_handles). `Matrix` is not `Sync`, since a call writes its
+// SAFETY: `Send` is proved for the handle (crates/c_handles). `Matrix` is not `Sync`, since a call writes its
 // operand.
 unsafe impl Send for Matrix {}
 
 impl Matrix {
-    /// Makes a matrix by a call, which is given an empty handle to fill.
+    /// Returns the matrix that a call puts behind the empty handle that it is given.
     fn made(call: impl FnOnce(*mut Handle) -> i32) -> Result<Matrix, Error> {
         let matrix = Matrix { handle: UnsafeCell::new(Handle { matrix: ptr::null_mut() }) };
         answer(call(matrix.handle.get()))?;
         Ok(matrix)
     }
 
-    /// Makes a matrix by a call with two operands. A second operand that is the first one is cloned: a call takes
-    /// different handles.
+    /// Returns the matrix of a call with two operands. If both are the same, the second one is cloned: the handles of a
+    /// call must differ.
     fn combined(&self, other: &Matrix, call: impl FnOnce(*mut Handle, *mut Handle, *mut Handle) -> i32) -> Result<Matrix, Error> {
         if ptr::eq(self, other) {
             let other = other.try_clone()?;
@@ -65,7 +65,8 @@ impl Matrix {
         })
     }
 
-    /// Returns the matrix of triplets. Values with the same row and column are added; an entry whose sum is 0 is kept.
+    /// Returns the matrix of triplets. Values with the same row and column are added, and an entry is kept if its sum
+    /// is 0.
     ///
     /// # Errors
     ///
@@ -107,7 +108,7 @@ impl Matrix {
     ///
     /// [`Error::OutOfMemory`].
     pub fn to_text(&self) -> Result<Vec<u8>, Error> {
-        // A line has at most 63 bytes, and the lines before the entries are at most three.
+        // A line has at most 63 bytes, and there are at most three lines before those of the entries.
         let room = self.nnz()?.checked_add(3).and_then(|lines| lines.checked_mul(64)).ok_or(Error::OutOfMemory)?;
         let (mut text, mut length) = (crate::room::zeros(room)?, 0);
         // SAFETY: each pointer is that of a slice, with the slice's length after it. The handle is as a call left it.
@@ -137,7 +138,7 @@ impl Matrix {
         Ok((rows, cols))
     }
 
-    /// Returns the number of entries, also those with the value 0.
+    /// Returns the number of entries, those with the value 0 too.
     ///
     /// # Errors
     ///
@@ -154,7 +155,7 @@ impl Matrix {
     pub fn to_arrays(&self) -> Result<Arrays, Error> {
         let (rows, cols, places) = self.sizes()?;
         let parts = crate::room::into_parts(rows, places, |o, x, v, count| {
-            // SAFETY: each pointer is that of a slice, with the slice's length after it. The handle is as a call left
+            // SAFETY: each pointer is that of a slice, with the slice's length behind it. The handle is as a call left
             // it.
             unsafe {
                 calls::nalgebra_sparse_matrix_read(
@@ -175,7 +176,7 @@ impl Matrix {
         Matrix::made(|out| unsafe { calls::nalgebra_sparse_matrix_transpose(self.handle.get(), out) })
     }
 
-    /// Returns the matrix times a number, with the same pattern.
+    /// Returns the product of a number and the matrix, with the same pattern.
     ///
     /// # Errors
     ///
@@ -185,7 +186,7 @@ impl Matrix {
         Matrix::made(|out| unsafe { calls::nalgebra_sparse_matrix_scale(factor, self.handle.get(), out) })
     }
 
-    /// Returns the sum `self + b`. Its pattern is the union of both.
+    /// Returns the sum `self + b`, on the union of the patterns.
     ///
     /// # Errors
     ///
@@ -195,7 +196,7 @@ impl Matrix {
         self.combined(b, |a, b, out| unsafe { calls::nalgebra_sparse_matrix_add(a, b, out) })
     }
 
-    /// Returns the difference `self - b`. Its pattern is the union of both.
+    /// Returns the difference `self - b`, on the union of the patterns.
     ///
     /// # Errors
     ///
@@ -205,7 +206,7 @@ impl Matrix {
         self.combined(b, |a, b, out| unsafe { calls::nalgebra_sparse_matrix_subtract(a, b, out) })
     }
 
-    /// Returns the sum `alpha self + beta b`. Its pattern is the union of both.
+    /// Returns the sum `alpha self + beta b`, on the union of the patterns.
     ///
     /// # Errors
     ///
@@ -215,12 +216,13 @@ impl Matrix {
         self.combined(b, |a, b, out| unsafe { calls::nalgebra_sparse_matrix_add_scaled(alpha, a, beta, b, out) })
     }
 
-    /// Returns the product `self * b`, with an entry (i, j) wherever there are entries (i, k) of `self` and (k, j) of
+    /// Returns the product `self * b`, with an entry (i, j) wherever some k has an entry (i, k) in `self` and (k, j) in
     /// `b`.
     ///
     /// # Errors
     ///
-    /// [`Error::OutOfMemory`]; [`Error::ShapeMismatch`] if `self` has not as many columns as `b` has rows.
+    /// [`Error::OutOfMemory`]; [`Error::ShapeMismatch`] if the number of columns of `self` is not the number of rows of
+    /// `b`.
     pub fn multiply(&self, b: &Matrix) -> Result<Matrix, Error> {
         // SAFETY: the handles are different, and no other call uses them.
         self.combined(b, |a, b, out| unsafe { calls::nalgebra_sparse_matrix_multiply(a, b, out) })
@@ -237,7 +239,7 @@ impl Matrix {
     }
 }
 
-/// Makes a second handle of the matrix. No array is copied.
+/// Returns a second handle of the matrix. No array is copied.
 ///
 /// # Panics
 ///

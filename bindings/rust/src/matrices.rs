@@ -1,6 +1,6 @@
 //! Matrices by rows and by columns, borrowed and owned.
 
-/// Offsets, indices and values, as other crates give and take them.
+/// Offsets, indices and values, in the order in which other crates return and take them.
 pub(crate) type Parts = (Vec<usize>, Vec<usize>, Vec<i64>);
 
 /// A matrix by rows: a shape and borrowed arrays, which the calls check.

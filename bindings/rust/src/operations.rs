@@ -3,8 +3,8 @@
 use crate::room::{into_parts, into_values};
 use crate::{calls, Arrays, ColumnArrays, Error, Rows};
 
-/// Returns the matrix of triplets by rows. Values with the same row and column are added; an entry whose sum is 0 is
-/// kept.
+/// Returns the matrix of triplets by rows. Values with the same row and column are added, and an entry is kept if its
+/// sum is 0.
 ///
 /// The lists have the row, the column and the value of each triplet.
 ///
@@ -31,8 +31,8 @@ pub fn assemble_csr(rows: usize, cols: usize, i: &[usize], j: &[usize], values: 
     Ok(Arrays::new((rows, cols), parts))
 }
 
-/// Returns the matrix of triplets by columns. Values with the same row and column are added; an entry whose sum is 0 is
-/// kept.
+/// Returns the matrix of triplets by columns. Values with the same row and column are added, and an entry is kept if
+/// its sum is 0.
 ///
 /// The lists have the row, the column and the value of each triplet.
 ///
@@ -51,8 +51,8 @@ pub fn assemble_csc(rows: usize, cols: usize, i: &[usize], j: &[usize], values: 
     Ok(ColumnArrays::new((rows, cols), parts))
 }
 
-/// Returns the transpose of a matrix by rows, by rows too. [`Rows::transposed`] is the transpose by columns, which
-/// takes no time.
+/// Returns the transpose of a matrix by rows, by rows too. [`Rows::transposed`] returns the transpose by columns
+/// without a copy.
 ///
 /// # Errors
 ///
@@ -70,7 +70,7 @@ pub fn transpose(a: Rows<'_>) -> Result<Arrays, Error> {
     Ok(Arrays::new((a.cols, a.rows), parts))
 }
 
-/// Returns the sum of two matrices by rows with the same shape. Its pattern is the union of theirs.
+/// Returns the sum of two matrices by rows with the same shape, on the union of their patterns.
 ///
 /// # Errors
 ///
@@ -92,7 +92,7 @@ pub fn add(a: Rows<'_>, b: Rows<'_>) -> Result<Arrays, Error> {
     Ok(Arrays::new((a.rows, a.cols), parts))
 }
 
-/// Returns the difference `a - b` of two matrices by rows with the same shape. Its pattern is the union of theirs.
+/// Returns the difference `a - b` of two matrices by rows with the same shape, on the union of their patterns.
 ///
 /// # Errors
 ///
@@ -114,8 +114,8 @@ pub fn subtract(a: Rows<'_>, b: Rows<'_>) -> Result<Arrays, Error> {
     Ok(Arrays::new((a.rows, a.cols), parts))
 }
 
-/// Returns the sum `alpha * a + beta * b` of multiples of two matrices by rows with the same shape. Its pattern is the
-/// union of theirs, also where alpha, beta or a value is 0.
+/// Returns the sum `alpha * a + beta * b` of multiples of two matrices by rows with the same shape, on the union of
+/// their patterns, also where a scale or a value is 0.
 ///
 /// # Errors
 ///
@@ -150,8 +150,8 @@ pub fn add_scaled(alpha: i64, a: Rows<'_>, beta: i64, b: Rows<'_>) -> Result<Arr
     Ok(Arrays::new((a.rows, a.cols), parts))
 }
 
-/// Returns the product of two matrices by rows, the first with as many columns as the second has rows. It has an
-/// entry (i, j) wherever there are entries (i, k) of `a` and (k, j) of `b`.
+/// Returns the product of two matrices by rows, the first with as many columns as the second has rows. It has an entry
+/// (i, j) wherever some k has an entry (i, k) in `a` and (k, j) in `b`.
 ///
 /// # Errors
 ///
@@ -184,18 +184,18 @@ pub fn multiply(a: Rows<'_>, b: Rows<'_>) -> Result<Arrays, Error> {
     Ok(Arrays::new((a.rows, b.cols), parts))
 }
 
-// A product is computed into room for one entry for each multiplication, up to this many. Unused room is never touched,
-// and is given back.
+// Up to this many entries, a product is computed into room for one entry for each multiplication. The rest of the room
+// is never touched, and is released.
 const MOST_UNCOUNTED: usize = 1 << 24;
 
-// Returns the number of entries for which a product has room at first: that of its multiplications, up to
-// `MOST_UNCOUNTED`, and 0 if an index names no row.
+// Returns the number of entries for which a product has room at first: the number of its multiplications if that is not
+// large, and 0 if an index is out of bounds.
 pub(crate) fn product_room(a: Rows<'_>, b: Rows<'_>) -> usize {
     multiplications(a, b).unwrap_or(0).min(MOST_UNCOUNTED)
 }
 
-// Returns the number of multiplications of a product: the lengths of the rows of `b` that the indices of `a` name.
-// `None` if one names no row.
+// Returns the number of multiplications of a product: the sum of the lengths of row k of `b` over the entries (i, k) of
+// `a`. `None` if an index is out of bounds.
 fn multiplications(a: Rows<'_>, b: Rows<'_>) -> Option<usize> {
     a.indices.iter().try_fold(0_usize, |sum, &k| {
         let begin = b.offsets.get(k)?;
@@ -204,8 +204,8 @@ fn multiplications(a: Rows<'_>, b: Rows<'_>) -> Option<usize> {
     })
 }
 
-/// Returns the dense product of a matrix by rows and a dense matrix with `cols` columns, both dense matrices column by
-/// column.
+/// Returns the dense product of a matrix by rows and a dense matrix with `cols` columns. Both dense matrices are stored
+/// column by column.
 ///
 /// # Errors
 ///

@@ -21,7 +21,7 @@ unsafe impl Number for i64 {}
 // SAFETY: as above.
 unsafe impl Number for u8 {}
 
-/// Returns this many zeros. Their pages take no memory before they are written.
+/// Returns this many zeros. Their pages are allocated when they are written.
 pub(crate) fn zeros<T: Number>(count: usize) -> Result<Vec<T>, Error> {
     let layout = Layout::array::<T>(count).map_err(|_| Error::OutOfMemory)?;
     if layout.size() == 0 {
@@ -37,8 +37,8 @@ pub(crate) fn zeros<T: Number>(count: usize) -> Result<Vec<T>, Error> {
     Ok(list.into_vec())
 }
 
-/// Calls with room for this many entries, or triplets, or bytes. If that is too little, calls once more with the room
-/// that the call needs by its own account. Returns how many it wrote, and the arrays, which may be longer.
+/// Makes a call with room for this many entries, or triplets, or bytes. If that is too little, calls once more with
+/// room for as many as the call tells that it needs. Returns how many it wrote, and the arrays, which may be longer.
 pub(crate) fn with_room<A>(
     room: usize,
     arrays: impl Fn(usize) -> Result<A, Error>,
@@ -54,15 +54,15 @@ pub(crate) fn with_room<A>(
     Ok((count, filled))
 }
 
-/// Cuts a list to its first items, and gives back the room that is left.
+/// Truncates a list to its first items, and releases the rest of its memory.
 pub(crate) fn cut<T>(mut list: Vec<T>, count: usize) -> Vec<T> {
     list.truncate(count);
     list.shrink_to_fit();
     list
 }
 
-/// Calls with arrays for a result with this many lanes and room for this many entries, once more if it needs more, and
-/// cuts them to the number of entries.
+/// Makes a call with arrays for a result with this many lanes and room for this many entries, once more if it needs
+/// more, and truncates them to the entries of the result.
 pub(crate) fn into_parts(
     lanes: usize,
     room: usize,
@@ -77,7 +77,7 @@ pub(crate) fn into_parts(
     Ok((offsets, cut(indices, places), cut(values, places)))
 }
 
-/// Calls with an array for the values of a dense matrix.
+/// Makes a call with an array for the values of a dense matrix.
 pub(crate) fn into_values(rows: usize, cols: usize, call: impl FnOnce(&mut [i64]) -> i32) -> Result<Vec<i64>, Error> {
     let mut values = zeros(rows.checked_mul(cols).ok_or(Error::OutOfMemory)?)?;
     answer(call(&mut values))?;
@@ -89,7 +89,7 @@ mod tests {
     use super::into_parts;
     use crate::{calls, multiply, Rows};
 
-    /// With less room than a product needs, the call is made once more, and has the same result.
+    /// With less room than a product needs, the call is repeated, and has the same result.
     #[test]
     fn a_call_is_made_again_with_the_size_that_it_tells() {
         let a = Rows::new((2, 2), (&[0, 2, 3], &[0, 1, 1], &[1, 2, 3]));

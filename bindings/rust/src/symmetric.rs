@@ -1,4 +1,4 @@
-//! Calls on symmetric matrices that test that they are.
+//! Calls on symmetric matrices that test the symmetry.
 
 use crate::systems::check_square;
 use crate::{
@@ -6,8 +6,8 @@ use crate::{
     Columns, Error, Factorisation, Factors, Matrix, Rows,
 };
 
-/// Returns the X of [`solve_symmetric`], for a matrix that is tested to be symmetric. The test makes its transpose and
-/// a difference.
+/// Returns the X of [`solve_symmetric`], for a matrix that is tested to be symmetric. The test computes its transpose
+/// and a difference.
 ///
 /// # Errors
 ///
@@ -60,7 +60,7 @@ pub fn factor_symmetric_mod_checked(modulus: u64, a: Columns<'_>) -> Result<Fact
 }
 
 impl Matrix {
-    /// Returns the factors of [`Matrix::factor`], where the matrix is tested to be symmetric. The test computes its
+    /// Returns the factors of [`Matrix::factor`], for a matrix that is tested to be symmetric. The test computes its
     /// transpose and a difference.
     ///
     /// # Errors

@@ -13,15 +13,15 @@ pub enum System {
     Transposed,
 }
 
-/// Returns the X for which `L X = B` or `L^T X = B`, where L is the lower triangle, with the diagonal, of a square
-/// matrix. B and X have `cols` columns and are stored column by column.
+/// Returns the X for which `L X = B` or `L^T X = B`, where L is the part of a square matrix on and below its diagonal.
+/// B and X have `cols` columns, one after the other.
 ///
 /// # Errors
 ///
 /// [`Error::OutOfMemory`]; [`Error::InvalidStructure`], [`Error::IndexOutOfBounds`] or [`Error::DuplicateEntry`] for
 /// the first fault of the arrays; [`Error::ShapeMismatch`] if the matrix is not square; [`Error::InvalidStructure`] if
-/// B has another number of values; [`Error::Singular`] if there is a column to solve for, and some diagonal entry is
-/// missing or even.
+/// B has another number of values; [`Error::Singular`] if there is a column to solve for, and some entry of the
+/// diagonal is not stored or is even.
 pub fn solve_lower(a: Columns<'_>, system: System, cols: usize, b: &[i64]) -> Result<Vec<i64>, Error> {
     check_square(a)?;
     // SAFETY: each pointer is that of a slice, with the slice's length after it.
@@ -35,8 +35,8 @@ pub fn solve_lower(a: Columns<'_>, system: System, cols: usize, b: &[i64]) -> Re
 }
 
 /// Returns the X for which `A X = B`, where A is the symmetric matrix whose entries on and above the diagonal are those
-/// of a square matrix. B and X have `cols` columns and are stored column by column. Entries below the diagonal are
-/// ignored: [`solve_symmetric_checked`](crate::solve_symmetric_checked) tests that the matrix is symmetric.
+/// of a square matrix. B and X have `cols` columns, one after the other. Entries below the diagonal have no effect:
+/// [`solve_symmetric_checked`](crate::solve_symmetric_checked) tests that the matrix is symmetric.
 ///
 /// # Errors
 ///
@@ -66,8 +66,8 @@ pub enum Triangle {
     Both = 2,
 }
 
-/// Returns the offsets and the indices, by columns, of the factor L of the symmetric matrix that a triangle of a
-/// pattern by columns gives.
+/// Returns the offsets and the indices by columns of the factor of a symmetric elimination, which starts from a
+/// triangle of the pattern by columns.
 ///
 /// # Errors
 ///
@@ -76,7 +76,7 @@ pub enum Triangle {
 pub fn fill(size: usize, triangle: Triangle, offsets: &[usize], indices: &[usize]) -> Result<(Vec<usize>, Vec<usize>), Error> {
     let (o, x) = (offsets, indices);
     let mut to_offsets = zeros(size.checked_add(1).ok_or(Error::OutOfMemory)?)?;
-    // Enough if the factor has no entries but the given ones and the diagonal.
+    // Enough if the elimination adds no entries but those of the diagonal.
     let (places, to_indices) = with_room(x.len().saturating_add(size), zeros, |to_indices, places| {
         // SAFETY: each pointer is that of a slice, with the slice's length after it, or of `places`.
         unsafe {
@@ -89,7 +89,7 @@ pub fn fill(size: usize, triangle: Triangle, offsets: &[usize], indices: &[usize
     Ok((to_offsets, cut(to_indices, places)))
 }
 
-/// Returns the number of entries of this factor.
+/// Returns the number of entries of that factor.
 pub(crate) fn fill_places(size: usize, triangle: Triangle, o: &[usize], x: &[usize]) -> Result<usize, Error> {
     let mut places = 0;
     // SAFETY: each pointer is that of a slice, with the slice's length after it, or of `places`.

@@ -19,7 +19,7 @@ pub struct Triplets {
     pub values: Vec<i64>,
 }
 
-/// Returns the triplets of a text with integers. A mirrored entry directly follows its own.
+/// Returns the triplets of a text with integers. A mirrored entry directly follows its entry.
 ///
 /// # Errors
 ///
@@ -60,7 +60,7 @@ pub fn read(text: &[u8]) -> Result<Triplets, Error> {
 /// [`Error::IndexOutOfBounds`].
 pub fn write(list: &Triplets) -> Result<Vec<u8>, Error> {
     let (i, j, values) = (&list.row_indices, &list.col_indices, &list.values);
-    // Enough for a head and for triplets of 8 bytes a number: longer texts are written once more.
+    // Enough for the first lines and for triplets with 8 bytes for each number: for longer texts the call is repeated.
     let room = values.len().saturating_mul(27).saturating_add(256);
     let (length, text) = with_room(room, zeros, |text, length| {
         // SAFETY: each pointer is that of a slice, with the slice's length after it, or of a number.
