@@ -1,4 +1,4 @@
-//! Offsets and slots of keys, with counts of both widths.
+//! Offsets and destinations of keys, with counts of both widths.
 
 use crate::fixtures::are_equal;
 use sparse_pattern::counting::{counts_to_offsets, key_offsets, next_destination};
