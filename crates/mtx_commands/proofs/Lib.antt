@@ -1,2 +1,4 @@
 mod OneEntryPerLane
 mod Unwritten
+mod Failures
+mod Usage

@@ -1,4 +1,4 @@
--- Patterns with a lane for each index of a list, and the places of a list of triplets.
+-- The pattern of a list of triplets as the product of two patterns with one entry in each lane.
 use Rattle.std.proofs.Common.{◌≡◌, ℕ, ◌+◌, ◌<◌, ◌↔◌, List, All, length, map, slice_index}
 use Rattle.std.proofs.Common.{sym, ap, ◌∙◌, arith}
 use Rattle.std.proofs.lemmas.List.{length-map}
@@ -9,7 +9,7 @@ use Rattle.nalgebra_sparse.specs.Products.{IsProductOf}
 use Rattle.nalgebra_sparse.specs.Coo.{Coo, IsInside}
 use Rattle.mtx_commands.specs.TripletPatterns.{HasTriplet, HasOneEntryPerLane, AreNumbersTo}
 
--- ---- a lane for each index
+-- ---- a pattern whose lane k has one entry, at element k of a list
 
 module _ (n m : ℕ) (offsets indices : List ℕ) (numbers : AreNumbersTo offsets n)
     (size : length indices ≡ n) where
@@ -36,7 +36,7 @@ module _ (n m : ℕ) (offsets indices : List ℕ) (numbers : AreNumbersTo offset
     λ h. record { at = k; in_lane = in_lane k (omega (arith, h.0, size)); index = h.1 },
   )
 
--- ---- triplets by their positions
+-- ---- the entries of the product are the rows and columns of the triplets
 
 module _ {T : Type 0} (m : Coo T) where
   pub rows_inside : IsInside m → All (λ i. i < m.nrows) (map (λ t. t.0) m.triplets)

@@ -1,4 +1,4 @@
--- Why a pattern was not written.
+-- The failure of `write_pattern` agrees with the failed writes.
 use Rattle.std.specs.Prelude.{ℕ, Option}
 use Rattle.std.specs.declared.io.ErrorKind.{ErrorKind}
 use Rattle.sparse_parser.specs.declared.error.MatrixMarketErrorKind.{MatrixMarketErrorKind}
@@ -8,7 +8,7 @@ use Rattle.nalgebra_sparse.specs.Written.{IsRefusedWrite}
 use Rattle.mtx_commands.specs.declared.cli.Failure.TheVariants.{Refused}
 use Rattle.mtx_commands.specs.Writes.{write_fault, IsUnwritten}
 
--- the failure that a refused write becomes has the same cause
+-- `write_fault` of an error of writing is a failure with the same cause
 pub unwritten_write_fault : (kind : MatrixMarketErrorKind) (before after : ℕ) (last : Option ErrorKind)
     → IsRefusedWrite kind before after last
     → IsUnwritten before after last (Refused (write_fault kind))

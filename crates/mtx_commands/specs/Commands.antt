@@ -1,4 +1,4 @@
--- What the words of a command say, and what a command writes.
+-- What the words of a command line ask for, and what a command writes.
 use Rattle.std.specs.Prelude.{◌≡◌, ◌<◌, ◌⊎◌, ℕ, List, [], ◌∷◌, length, codes, Option}
 use Rattle.std.specs.declared.io.ErrorKind.{ErrorKind}
 use Rattle.std.specs.declared.io.ErrorKind.TheVariants as io
@@ -14,7 +14,7 @@ use Rattle.mtx_commands.specs.Fills.{WritesFill}
 use Rattle.mtx_commands.specs.declared.cli.Failure.{Failure}
 use Rattle.mtx_commands.specs.declared.cli.Failure.TheVariants as failure
 
--- over some texts, one for each file, the text of the expression's value was appended
+-- for some texts, one for each file, the text of the expression's value was appended to the output
 pub record IsEvaluated (form : OutputOrder) (expression : List ℕ) (files : ℕ) (old new : Option (List ℕ)) :
     Type 0 where
   pub sources : List (List ℕ)
@@ -23,7 +23,8 @@ pub record IsEvaluated (form : OutputOrder) (expression : List ℕ) (files : ℕ
   pub said : IsSaid (words_of expression) expr
   pub written : Writes form sources expr old new
 
--- the words are this one, an expression and files, and the expression's value was written
+-- the words are the name of the order, an expression and files, and the expression's value was
+-- written
 pub record IsCalculated (form : OutputOrder) (order : List ℕ) (words : List (List ℕ))
     (old new : Option (List ℕ)) : Type 0 where
   pub expression : List ℕ
@@ -32,32 +33,44 @@ pub record IsCalculated (form : OutputOrder) (order : List ℕ) (words : List (L
   pub some : 0 < length paths
   pub evaluated : IsEvaluated form expression (length paths) old new
 
--- the word that names an order
+-- the word for an order of the result
 abbrev pub name_of : OutputOrder → List ℕ
 name_of Rows = codes "rows"
 name_of Cols = codes "cols"
 
--- the word that names a triangle
+-- the word for a triangle
 abbrev pub triangle_name : Triangle → List ℕ
 triangle_name Upper = codes "upper"
 triangle_name Lower = codes "lower"
 triangle_name Both = codes "both"
 
--- the words ask for the fill of this triangle of a file: `fill`, the triangle's name and the file,
--- or `fill` and the file for the upper triangle
+-- the words ask for the fill of this triangle of the matrix in a file: `fill`, the triangle's word
+-- and the file, or `fill` and the file for the upper triangle
 abbrev pub AsksFill : Triangle → List ℕ → List (List ℕ) → Type 0
 AsksFill triangle path words = (words ≡ codes "fill" ∷ (triangle_name triangle ∷ (path ∷ [])))
     ⊎ ((triangle ≡ Upper) × (words ≡ codes "fill" ∷ (path ∷ [])))
 
--- the words ask for the fill of a triangle of a file, and it was written
+-- the words ask for the value of an expression over files
+pub record AsksValue (words : List (List ℕ)) : Type 0 where
+  pub form : OutputOrder
+  pub expression : List ℕ
+  pub paths : List (List ℕ)
+  pub split : words ≡ name_of form ∷ (expression ∷ paths)
+  pub some : 0 < length paths
+
+-- the words are a command: they ask for a value or for a fill
+abbrev pub IsCommand : List (List ℕ) → Type 0
+IsCommand words = AsksValue words
+    ⊎ ((triangle : Triangle) × (path : List ℕ) × AsksFill triangle path words)
+
+-- the words ask for the fill of a triangle of the matrix in a file, and that was written
 pub record IsFilled (words : List (List ℕ)) (old new : Option (List ℕ)) : Type 0 where
   pub triangle : Triangle
   pub path : List ℕ
   pub asked : AsksFill triangle path words
   pub filled : WritesFill triangle old new
 
--- the words are the name of an order and what was calculated, or they ask for a fill, which was
--- written
+-- the words ask for the value of an expression or for a fill, and that was written
 abbrev pub IsAnswered : List (List ℕ) → Option (List ℕ) → Option (List ℕ) → Type 0
 IsAnswered words old new = ((form : OutputOrder) × IsCalculated form (name_of form) words old new)
     ⊎ IsFilled words old new
@@ -68,7 +81,7 @@ status_of failure.Usage = 2
 status_of failure.NotSquare = 1
 status_of (failure.Refused error) = 1
 
--- the failure of arguments that cannot be read, of an error of this kind
+-- the failure for an error of this kind in reading the arguments
 abbrev pub argument_fault : ErrorKind → Failure
 argument_fault io.OutOfMemory = failure.Refused OutOfMemory
 argument_fault kind = failure.Usage

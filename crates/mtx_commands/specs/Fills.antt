@@ -1,5 +1,5 @@
 -- What `mtx fill` writes.
-use Rattle.std.specs.Prelude.{◌≡◌, ℕ, ◌↔◌, List, [], codes, Option, Ok}
+use Rattle.std.specs.Prelude.{◌≡◌, ◌≢◌, ℕ, ◌↔◌, List, [], codes, Option, Ok}
 use Rattle.std.specs.Io.KnownBytes.{Appends}
 use Rattle.nalgebra_sparse.specs.Coo.{Coo}
 use Rattle.nalgebra_sparse.specs.Compressed.{Compressed}
@@ -12,7 +12,8 @@ use Rattle.nalgebra_sparse.specs.Written.{text_of}
 use Rattle.sparse_factor.specs.declared.factorization.Triangle.{Triangle}
 use Rattle.mtx_commands.specs.TripletPatterns.{HasTriplet}
 
--- the pattern, stored by columns, has the shape that some text means, and exactly its places
+-- some text means a list of triplets, and the pattern, which is stored by columns, has the shape of
+-- the list and exactly the rows and columns of its triplets
 pub record IsRead (pattern : Raw) : Type 0 where
   pub text : List ℕ
   pub list : Coo (Unit {0})
@@ -21,13 +22,20 @@ pub record IsRead (pattern : Raw) : Type 0 where
   pub columns : pattern.major_dim ≡ list.ncols
   pub places : (i j : ℕ) → IsEntry pattern j i ↔ HasTriplet list i j
 
+-- some text means a list of triplets of a matrix that is not square
+pub record HasOblong : Type 0 where
+  pub text : List ℕ
+  pub list : Coo (Unit {0})
+  pub meant : Means pattern_scalar text (Ok list)
+  pub oblong : list.nrows ≢ list.ncols
+
 -- the text of a matrix with this pattern and no values was appended, column by column
 pub record WritesPattern (pattern : Raw) (old new : Option (List ℕ)) : Type 0 where
   pub matrix : Compressed (Unit {0})
   pub has : matrix.pattern ≡ pattern
   pub appended : Appends old new (text_of (codes "pattern") (λ x. []) (coo_of_cols matrix))
 
--- the factor of this triangle of a pattern that was read was written
+-- a pattern was read, and the pattern of the factor of this triangle of it was written
 pub record WritesFill (triangle : Triangle) (old new : Option (List ℕ)) : Type 0 where
   pub symbolic : Symbolic
   pub read : IsRead symbolic.input

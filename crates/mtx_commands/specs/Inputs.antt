@@ -1,4 +1,4 @@
--- The errors of the files that a command reads.
+-- The failures of a command whose files cannot be read.
 use Rattle.std.specs.Prelude.{◌≡◌, ◌≤◌, ◌⊎◌, ℕ, List, Err}
 use Rattle.std.specs.declared.io.ErrorKind.{ErrorKind}
 use Rattle.sparse_parser.specs.declared.error.MatrixMarketErrorKind.{MatrixMarketErrorKind}
@@ -11,11 +11,15 @@ use Rattle.sparse_expr.specs.declared.error.ExprError.TheVariants.{Input, OutOfM
 use Rattle.mtx_commands.specs.declared.cli.Failure.{Failure}
 use Rattle.mtx_commands.specs.declared.cli.Failure.TheVariants.{Refused}
 
--- the error of the file with this number, whose matrix cannot be read: a failed allocation blames no
--- file
+-- the error for the file with this number: a failed allocation names no file
 abbrev pub input_fault : ℕ → MatrixMarketErrorKind → ExprError
 input_fault number kind.OutOfMemory = OutOfMemory
 input_fault number fault = Input number fault
+
+-- an allocation failed, or the file with this number could not be opened or read
+abbrev pub IsUnreadAt : ℕ → Failure → Type 0
+IsUnreadAt number failure = (failure ≡ Refused OutOfMemory)
+    ⊎ ((fault : ErrorKind) × (failure ≡ Refused (input_fault number (file_fault fault))))
 
 -- one of this many files could not be opened or read
 pub record HasUnreadable (count : ℕ) (failure : Failure) : Type 0 where
@@ -29,7 +33,7 @@ pub record HasUnreadable (count : ℕ) (failure : Failure) : Type 0 where
 abbrev pub IsUnread : ℕ → Failure → Type 0
 IsUnread count failure = (failure ≡ Refused OutOfMemory) ⊎ HasUnreadable count failure
 
--- the only file could not be opened or read, or its text does not mean the places of a matrix
+-- the only file could not be opened or read, or its text is not that of a matrix
 pub record IsMisread (failure : Failure) : Type 0 where
   pub fault : MatrixMarketErrorKind
   pub is : failure ≡ Refused (input_fault 1 fault)

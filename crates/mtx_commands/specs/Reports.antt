@@ -2,12 +2,12 @@
 use Rattle.std.specs.Prelude.{◌≡◌, ◌⊎◌, ℕ, ◌+◌, List, ◌++◌, codes, Option}
 use Rattle.std.specs.Io.KnownBytes.{Appends}
 
--- the line begins with the program's name, or says how the program is used
+-- the line begins with the program's name, or is about its usage
 abbrev pub IsErrorLine : List ℕ → Type 0
 IsErrorLine line = (rest : List ℕ)
     × ((line ≡ codes "mtx: " ++ rest) ⊎ (line ≡ codes "usage: mtx " ++ rest))
 
--- a text was appended, or a write of it failed, by the failed writes before it and after it
+-- a text was appended, or a write of it failed: the number of failed writes rose by 1
 abbrev pub IsWritten : List ℕ → Option (List ℕ) → Option (List ℕ) → ℕ → ℕ → Type 0
 IsWritten text old new before after = Appends old new text ⊎ (after ≡ before + 1)
 

@@ -1,4 +1,4 @@
-//! From the program's arguments to its exit status.
+//! Runs the command that the arguments of `mtx` give, and returns the program's exit status.
 
 ghost use Rattle.std.specs.Prelude.{◌≡◌, ◌≢◌, ◌≤◌, IfOk, IfErr, IsTrue, Err};
 ghost use Rattle.std.specs.IoError.{error_kind};
@@ -17,11 +17,12 @@ use std::io;
 use std::process::ExitCode;
 use std::rt::Files;
 
-/// Runs the command that the arguments give over the two streams, and returns the exit status.
+/// Runs the command that the arguments give, and returns the exit status. The result is written to `out`, the line of
+/// an error to `err`.
 ///
-/// The first argument is the program's name. An argument that is not UTF-8 is wrong usage; an allocation failure while
-/// the arguments are read is reported as one of the command. At status 0 the output was flushed, and a failed flush is
-/// reported as a failed write. At another status a line was written to `err`, unless a write of it failed.
+/// The first argument is the program's name. An argument that is not UTF-8 is wrong usage. At status 0 the output was
+/// flushed; a failed flush is reported as a failed write. At another status a line was written to `err`, unless a write
+/// of it failed.
 pub fn answer<R, W, E>(
     rt: &R,
     arguments: io::Result<Args>,
@@ -45,7 +46,7 @@ where
     exit_code(run_args(rt, arguments, out, err))
 }
 
-// The exit status as the runtime takes it.
+// Returns an exit status in the type of the runtime.
 fn exit_code(status: u8) -> ExitCode
     ensures { exit_status result ≡ status }
 {
@@ -73,7 +74,7 @@ where
     }
 }
 
-// Runs the command that these words give, and flushes its output at status 0.
+// Runs the command that the arguments after the program's name give. At status 0 the output was flushed.
 fn run_words<R, W, E>(rt: &R, words: &[String], out: &mut Out<W>, err: &mut E) -> u8
 where
     R: Files + AllocGlobal,
@@ -95,7 +96,7 @@ where
     }
 }
 
-// Returns the arguments after the program's name, if they were read.
+// Returns the arguments after the program's name, or why they cannot be read.
 fn given_words(alloc: Global, arguments: io::Result<Args>) -> Result<Vec<String>, Failure>
     ensures refused { IfOk arguments (λ _. IfErr result (λ e. e ≡ Refused OutOfMemory)) }
     ensures unread { IfErr arguments (λ e. result ≡ Err (argument_fault (error_kind e))) }
@@ -117,7 +118,7 @@ fn words_after_name(alloc: Global, arguments: Args) -> Result<Vec<String>, Failu
     Ok(words)
 }
 
-// The failure of arguments that cannot be read.
+// Returns the failure for an error in reading the arguments.
 fn unread_arguments(kind: io::ErrorKind) -> Failure
     ensures { result ≡ argument_fault kind }
 {

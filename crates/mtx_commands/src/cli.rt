@@ -7,10 +7,12 @@ ghost use Rattle.nalgebra_sparse.specs.Run.{Writes};
 ghost use Rattle.sparse_expr.specs.declared.calculator.OutputOrder.{OutputOrder};
 ghost use Rattle.sparse_expr.specs.declared.error.ExprError.TheVariants.{OutOfMemory};
 ghost use Rattle.sparse_factor.specs.declared.factorization.Triangle.{Triangle};
-ghost use Rattle.mtx_commands.specs.Commands.{IsAnswered, IsEvaluated, name_of, triangle_name};
-ghost use Rattle.mtx_commands.specs.Commands.{status_of};
+ghost use Rattle.mtx_commands.specs.Commands.{IsAnswered, IsCommand, IsEvaluated, name_of};
+ghost use Rattle.mtx_commands.specs.Commands.{triangle_name, status_of};
+ghost use Rattle.mtx_commands.specs.Fills.{HasOblong};
 ghost use Rattle.mtx_commands.specs.Reports.{IsErrorLine, IsReported};
-ghost use Rattle.mtx_commands.specs.declared.cli.Failure.TheVariants.{Usage, Refused};
+ghost use Rattle.mtx_commands.specs.Writes.{NamesWrite};
+ghost use Rattle.mtx_commands.specs.declared.cli.Failure.TheVariants.{Usage, NotSquare, Refused};
 
 use crate::fill::fill;
 use crate::inputs::read_all;
@@ -24,16 +26,16 @@ use std::rt::Files;
 /// Why a command fails.
 #[derive(Clone, Copy, Debug)]
 pub enum Failure {
-    /// The words are not a command.
+    /// The arguments are not a command.
     Usage,
     /// The matrix to factor is not square.
     NotSquare,
-    /// The command ended with this error.
+    /// An error of an input, of the expression, of a write or of an allocation.
     Refused(ExprError),
 }
 
 impl Failure {
-    // The exit status.
+    // Returns the exit status: 2 for wrong usage, and otherwise 1.
     fn status(self) -> u8
         ensures { result ≡ status_of self }
     {
@@ -78,8 +80,8 @@ const OUT_OF_MEMORY: &str = "mtx: out of memory\n";
 
 /// Runs a command and returns its exit status.
 ///
-/// The result is written to `out`. At a status other than 0 one line is written to `err`; an error in writing that line
-/// is ignored. All files are read before anything is written.
+/// The status is 2 exactly if the words are not a command. The result is written to `out`. At a status other than 0 one
+/// line is written to `err`; an error in writing that line is ignored. All files are read before anything is written.
 pub fn command<R, W, E>(rt: &R, words: &[&str], out: &mut W, err: &mut E) -> u8
 where
     R: Files + AllocGlobal,
@@ -93,6 +95,7 @@ where
     ensures reported { result ≢ 0 → IsReported (E.accepted err.old) (E.accepted err.new)
         (E.failures err.old) (E.failures err.new) }
     ensures unanswered { result ≡ 2 → W.accepted out.new ≡ W.accepted out.old }
+    ensures usage { (result ≡ 2) ↔ ¬ IsCommand (texts words.now) }
 {
     match run(rt, words, out) {
         Ok(()) => 0,
@@ -100,6 +103,7 @@ where
     }
 }
 
+// Runs a command, without a report of its failure.
 fn run<R, W>(rt: &R, words: &[&str], out: &mut W) -> Result<(), Failure>
 where
     R: Files + AllocGlobal,
@@ -107,6 +111,11 @@ where
     ensures answered { OnOk result
         (IsAnswered (texts words.now) (W.accepted out.old) (W.accepted out.new)) }
     ensures unanswered { IfErr result (λ e. e ≡ Usage → W.accepted out.new ≡ W.accepted out.old) }
+    ensures usage { IfErr result (λ e. e ≡ Usage → ¬ IsCommand (texts words.now)) }
+    ensures proper { IfErr result (λ e. e ≢ Usage → IsCommand (texts words.now)) }
+    ensures not_square { IfErr result (λ e. e ≡ NotSquare → HasOblong) }
+    ensures writes { IfErr result
+        (NamesWrite (W.failures out.old) (W.failures out.new) (W.last out.new)) }
 {
     match words {
         ["fill", path] => fill(rt, Triangle::Upper, path, out),
@@ -122,7 +131,7 @@ where
     }
 }
 
-// The order that a first word names.
+// Returns the order of the result, row by row or column by column, that the first word names.
 fn form_of(word: &str) -> Option<OutputOrder>
     ensures named { IfSome result (λ form. word.now ≡ name_of form) }
     ensures unnamed { result ≡ None → (form : OutputOrder) → word.now ≢ name_of form }
@@ -134,7 +143,7 @@ fn form_of(word: &str) -> Option<OutputOrder>
     }
 }
 
-// The triangle that a word before the file names.
+// Returns the triangle that the word before the file names.
 fn triangle_of(word: &str) -> Option<Triangle>
     ensures named { IfSome result (λ triangle. word.now ≡ triangle_name triangle) }
     ensures unnamed { result ≡ None → (triangle : Triangle) → word.now ≢ triangle_name triangle }
@@ -147,7 +156,8 @@ fn triangle_of(word: &str) -> Option<Triangle>
     }
 }
 
-// Parses the expression, reads the files, and writes the value.
+// Parses the expression, reads the files, and writes the expression's value.
+#[tactic(auto, using(crate::proofs::Failures::write_named_words, crate::proofs::Failures::write_named_files))]
 fn evaluate<R, W>(
     rt: &R,
     form: OutputOrder,
@@ -161,13 +171,17 @@ where
     ensures evaluated { OnOk result
         (IsEvaluated form expression.now (length paths.now) (W.accepted out.old) (W.accepted out.new)) }
     ensures refused { IfErr result (λ e. e ≡ Usage → ⊥) }
+    ensures square { IfErr result (λ e. e ≡ NotSquare → ⊥) }
+    ensures writes { IfErr result
+        (NamesWrite (W.failures out.old) (W.failures out.new) (W.last out.new)) }
 {
     let expr = Expr::from_words(rt.alloc(), expression)?;
     let texts = read_all(rt, paths)?;
     write_value(rt.alloc(), form, &expr, texts, out)
 }
 
-// Writes the value of an expression over the texts of the files, and drops each text once it is loaded.
+// Writes the value of an expression whose inputs are these texts. Each text is dropped once it is parsed.
+#[tactic(auto, using(crate::proofs::Failures::write_named_run))]
 fn write_value<W: Sink>(
     alloc: Global,
     form: OutputOrder,
@@ -178,12 +192,15 @@ fn write_value<W: Sink>(
     ensures written { OnOk result ((read : List (List ℕ)) × (length read ≡ length sources.items)
         × Writes form read expr.now (W.accepted out.old) (W.accepted out.new)) }
     ensures refused { IfErr result (λ e. e ≡ Usage → ⊥) }
+    ensures square { IfErr result (λ e. e ≡ NotSquare → ⊥) }
+    ensures writes { IfErr result
+        (NamesWrite (W.failures out.old) (W.failures out.new) (W.last out.new)) }
 {
     run_owned(alloc, form, expr, sources, out)?;
     Ok(())
 }
 
-/// Returns the texts, borrowed, in order.
+/// Returns the strings as a list of `&str`.
 pub fn views_of(alloc: Global, strings: &[String]) -> Result<Vec<&str>, AllocError>
     ensures one_each { IfOk result (λ views. length views.items ≡ length strings.now) }
     ensures same { IfOk result (λ views. texts views.items ≡ map string_bytes strings.now) }
@@ -208,7 +225,7 @@ where
     }
 }
 
-/// Writes the line of a failure, and returns its status.
+/// Writes the line of a failure, and returns the failure's exit status. An error in writing the line is ignored.
 pub fn report<E: Sink>(alloc: Global, failure: Failure, err: &mut E) -> u8
     ensures status { result ≡ status_of failure }
     ensures reported { IsReported (E.accepted err.old) (E.accepted err.new) (E.failures err.old)
@@ -218,7 +235,7 @@ pub fn report<E: Sink>(alloc: Global, failure: Failure, err: &mut E) -> u8
     failure.status()
 }
 
-// Writes the line of a failure.
+// Writes the line of a failure. An error in writing it is ignored.
 fn write_line<E: Sink>(alloc: Global, failure: Failure, err: &mut E)
     ensures { IsReported (E.accepted err.old) (E.accepted err.new) (E.failures err.old)
         (E.failures err.new) }
@@ -230,7 +247,7 @@ fn write_line<E: Sink>(alloc: Global, failure: Failure, err: &mut E)
     }
 }
 
-// Writes the line of an error.
+// Writes the line of an error, or one that says that an allocation failed if there is no memory for it.
 fn write_error<E: Sink>(alloc: Global, error: ExprError, err: &mut E)
     ensures { IsReported (E.accepted err.old) (E.accepted err.new) (E.failures err.old)
         (E.failures err.new) }
@@ -241,7 +258,7 @@ fn write_error<E: Sink>(alloc: Global, error: ExprError, err: &mut E)
     }
 }
 
-// Writes the text of a line. An error in writing it is ignored.
+// Writes a line. An error in writing it is ignored.
 fn write_message<E: Sink>(text: &str, err: &mut E)
     requires { IsErrorLine text.now }
     ensures { IsReported (E.accepted err.old) (E.accepted err.new) (E.failures err.old)

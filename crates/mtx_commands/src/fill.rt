@@ -1,14 +1,14 @@
-//! The command `mtx fill`.
+//! The command `mtx fill`: the fill of the Cholesky factor of a pattern.
 
 ghost use Rattle.std.specs.Prelude.{◌≡◌, ◌≢◌, ℕ, ◌<◌, ◌↔◌, ◌⊎◌};
 ghost use Rattle.std.specs.Prelude.{All, Err, IfOk, IfErr, OnOk, length};
 ghost use Rattle.nalgebra_sparse.specs.Raw.{IsValid, IsEntry};
 ghost use Rattle.nalgebra_sparse.specs.Symbolic.{IsFactorOf};
-ghost use Rattle.mtx_commands.specs.Fills.{IsRead, WritesPattern, WritesFill};
+ghost use Rattle.mtx_commands.specs.Fills.{IsRead, HasOblong, WritesPattern, WritesFill};
 ghost use Rattle.mtx_commands.specs.TripletPatterns.{HasTriplet, HasOneEntryPerLane, AreNumbersTo};
 ghost use Rattle.sparse_expr.specs.declared.error.ExprError.TheVariants.{OutOfMemory};
 ghost use Rattle.mtx_commands.specs.Inputs.{IsMisread};
-ghost use Rattle.mtx_commands.specs.Writes.{write_fault, IsUnwritten};
+ghost use Rattle.mtx_commands.specs.Writes.{write_fault, IsUnwritten, NamesWrite};
 ghost use Rattle.mtx_commands.specs.declared.cli.Failure.TheVariants.{Usage, NotSquare, Refused};
 
 use crate::cli::Failure;
@@ -22,32 +22,43 @@ use nalgebra_sparse::{CooMatrix, CscMatrix};
 use std::alloc::{AllocError, Global};
 use std::rt::Files;
 
-/// Reads the pattern in a file, and writes the pattern of the Cholesky factor of its triangle by columns.
+/// Reads the pattern of the matrix in a file, and writes the pattern of the Cholesky factor of this triangle of it,
+/// column by column.
+///
+/// # Errors
+///
+/// Returns `NotSquare` if the matrix is not square, and `Refused` if the file cannot be read, a write fails or an
+/// allocation fails.
+#[tactic(auto, using(crate::proofs::Failures::write_named_pattern, crate::proofs::Failures::write_named_unwritten))]
 pub fn fill<R, W>(rt: &R, triangle: Triangle, path: &str, out: &mut W) -> Result<(), Failure>
 where
     R: Files + AllocGlobal,
     W: Sink,
     ensures filled { OnOk result (WritesFill triangle (W.accepted out.old) (W.accepted out.new)) }
     ensures refused { IfErr result (λ e. e ≡ Usage → ⊥) }
+    ensures not_square { IfErr result (λ e. e ≡ NotSquare → HasOblong) }
+    ensures writes { IfErr result
+        (NamesWrite (W.failures out.old) (W.failures out.new) (W.last out.new)) }
 {
     let pattern = read_pattern(rt, path)?;
     let factor = factor_of(rt.alloc(), pattern, triangle)?;
     write_pattern(rt.alloc(), factor.l_pattern(), out)
 }
 
-// Reads the places in a file as a square pattern by columns.
+// Reads the pattern of the matrix in a file, which must be square, by columns.
 fn read_pattern<R: Files + AllocGlobal>(rt: &R, path: &str) -> Result<SparsityPattern, Failure>
     ensures square { IfOk result (λ p. p.major_dim ≡ p.minor_dim) }
     ensures read { IfOk result IsRead }
     ensures refused { IfErr result (λ e. e ≡ Usage → ⊥) }
     ensures unread { IfErr result
         (λ e. (e ≡ Refused OutOfMemory) ⊎ ((e ≡ NotSquare) ⊎ IsMisread e)) }
+    ensures not_square { IfErr result (λ e. e ≡ NotSquare → HasOblong) }
 {
     let places = read_triplets(rt, path)?;
     square_pattern_of(rt.alloc(), &places)
 }
 
-// Returns the pattern by columns of the places of a square list. Of a list that is not square it asks for no memory.
+// Returns the pattern by columns of a list of triplets. If the list is not square, nothing is allocated.
 fn square_pattern_of(alloc: Global, places: &CooMatrix<()>) -> Result<SparsityPattern, Failure>
     ensures columns { IfOk result (λ p. p.major_dim ≡ places.now.ncols) }
     ensures rows { IfOk result (λ p. p.minor_dim ≡ places.now.nrows) }
@@ -55,6 +66,7 @@ fn square_pattern_of(alloc: Global, places: &CooMatrix<()>) -> Result<SparsityPa
     ensures places { IfOk result (λ p. (i j : ℕ) → IsEntry p j i ↔ HasTriplet places.now i j) }
     ensures not_square { places.now.nrows ≢ places.now.ncols → result ≡ Err NotSquare }
     ensures refused { IfErr result (λ e. (e ≡ Refused OutOfMemory) ⊎ (e ≡ NotSquare)) }
+    ensures oblong { IfErr result (λ e. e ≡ NotSquare → places.now.nrows ≢ places.now.ncols) }
 {
     if places.nrows() != places.ncols() {
         return Err(Failure::NotSquare);
@@ -62,7 +74,7 @@ fn square_pattern_of(alloc: Global, places: &CooMatrix<()>) -> Result<SparsityPa
     Ok(pattern_of(alloc, places)?)
 }
 
-// Writes a pattern by columns.
+// Writes a pattern, column by column.
 #[tactic(auto, using(crate::proofs::Unwritten::unwritten_write_fault))]
 fn write_pattern<W: Sink>(
     alloc: Global,
@@ -72,6 +84,7 @@ fn write_pattern<W: Sink>(
     ensures written { OnOk result
         (WritesPattern pattern.now (W.accepted out.old) (W.accepted out.new)) }
     ensures refused { IfErr result (λ e. e ≡ Usage → ⊥) }
+    ensures square { IfErr result (λ e. e ≡ NotSquare → ⊥) }
     ensures unwritten { IfErr result
         (IsUnwritten (W.failures out.old) (W.failures out.new) (W.last out.new)) }
 {
@@ -82,10 +95,10 @@ fn write_pattern<W: Sink>(
     }
 }
 
-// Returns the pattern by columns of the places of a list, each once.
+// Returns the pattern by columns of a list of triplets, without duplicates.
 //
-// It is the product of two patterns with a lane for each triplet: that of the columns, transposed, and that of the
-// rows.
+// Let C and R be the patterns whose row k has one entry, the column and the row of triplet k. The result is the
+// pattern of the product of C transposed and R.
 fn pattern_of(alloc: Global, places: &CooMatrix<()>) -> Result<SparsityPattern, AllocError>
     ensures columns { IfOk result (λ p. p.major_dim ≡ places.now.ncols) }
     ensures rows { IfOk result (λ p. p.minor_dim ≡ places.now.nrows) }
@@ -99,7 +112,7 @@ fn pattern_of(alloc: Global, places: &CooMatrix<()>) -> Result<SparsityPattern, 
     Ok(pattern)
 }
 
-// Returns a pattern with a lane for each index.
+// Returns the pattern whose lane k has one entry, at minor index `indices[k]`.
 fn one_entry_per_lane(
     alloc: Global,
     indices: &[usize],
@@ -133,7 +146,7 @@ fn numbers_to(alloc: Global, last: usize) -> Result<Vec<usize>, AllocError>
     Ok(numbers)
 }
 
-// Returns the factor of a triangle of a square pattern.
+// Returns the symbolic Cholesky factor of a triangle of a square pattern.
 fn factor_of(
     alloc: Global,
     pattern: SparsityPattern,
@@ -142,12 +155,12 @@ fn factor_of(
     requires { pattern.major_dim ≡ pattern.minor_dim }
     ensures input { IfOk result (λ s. s.input ≡ pattern) }
     ensures factor { IfOk result (IsFactorOf triangle) }
-    ensures refused { IfErr result (λ e. e ≡ Usage → ⊥) }
+    ensures refused { IfErr result (λ e. e ≡ Refused OutOfMemory) }
 {
     Ok(CscSymbolicCholesky::factor_triangle(alloc, pattern, triangle)?)
 }
 
-// Returns the matrix of a pattern by columns, without values.
+// Returns the matrix with this pattern by columns, whose values are `()`.
 fn matrix_of(alloc: Global, pattern: &SparsityPattern) -> Result<CscMatrix<()>, AllocError>
     ensures { IfOk result (λ m. m.pattern ≡ pattern.now) }
 {
@@ -156,7 +169,7 @@ fn matrix_of(alloc: Global, pattern: &SparsityPattern) -> Result<CscMatrix<()>, 
     Ok(CscMatrix::from_pattern_and_values_unchecked(pattern, nothing))
 }
 
-// The error of a write that failed.
+// Returns the error for a write or an allocation that failed.
 fn unwritten(kind: MatrixMarketErrorKind) -> ExprError
     ensures { result ≡ write_fault kind }
 {

@@ -1,13 +1,13 @@
-//! The files that a command reads.
+//! Reads the files of a command.
 
-ghost use Rattle.std.specs.Prelude.{◌≡◌, ℕ, List, Ok, IfOk, IfErr, IsErrAnd, length};
+ghost use Rattle.std.specs.Prelude.{◌≡◌, ℕ, ◌+◌, List, Ok, OnOk, IfOk, IfErr, IsErrAnd, length};
 ghost use Rattle.std.specs.IoError.{error_kind};
 ghost use Rattle.nalgebra_sparse.specs.Files.{file_fault};
 ghost use Rattle.nalgebra_sparse.specs.Errors.{kind_of};
 ghost use Rattle.nalgebra_sparse.specs.Meaning.{Means, values_of};
 ghost use Rattle.nalgebra_sparse.specs.ScalarTypes.{pattern_scalar};
-ghost use Rattle.mtx_commands.specs.Inputs.{input_fault, IsUnread, IsMisread};
-ghost use Rattle.mtx_commands.specs.declared.cli.Failure.TheVariants.{Usage, Refused};
+ghost use Rattle.mtx_commands.specs.Inputs.{input_fault, IsUnread, IsUnreadAt, IsMisread};
+ghost use Rattle.mtx_commands.specs.declared.cli.Failure.TheVariants.{Usage, NotSquare, Refused};
 
 use crate::cli::Failure;
 use nalgebra_sparse::CooMatrix;
@@ -18,20 +18,40 @@ use nalgebra_sparse::io::{
 use std::rt::Files;
 use std::{fs, io};
 
-/// Reads the files in order.
+/// Returns the texts of the files, in order.
+///
+/// # Errors
+///
+/// Returns `Refused` with an `Input` for the first file that cannot be read; its number is counted from 1. Otherwise
+/// fails only if an allocation fails.
 pub fn read_all<R: Files + AllocGlobal>(rt: &R, paths: &[&str]) -> Result<Vec<String>, Failure>
     ensures one_each { IfOk result (λ texts. length texts.items ≡ length paths.now) }
     ensures refused { IfErr result (λ e. e ≡ Usage → ⊥) }
+    ensures square { IfErr result (λ e. e ≡ NotSquare → ⊥) }
     ensures unread { IfErr result (IsUnread (length paths.now)) }
 {
     let mut texts = Vec::with_capacity(rt.alloc(), paths.len())?;
-    for (index, path) in paths.iter().enumerate() {
-        texts.push(text_of(index + 1, fs::read_to_string(rt, *path))?)?;
+    for path in paths {
+        push_text(rt, path, &mut texts)?;
     }
     Ok(texts)
 }
 
-// The text of the file with this number, if the file was read.
+// Reads the next file and appends its text. The number of the file is the number of texts before it, plus 1.
+fn push_text<R>(rt: &R, path: &str, texts: &mut Vec<String>) -> Result<(), Failure>
+where
+    R: Files + AllocGlobal,
+    ensures more { OnOk result (length texts.new.items ≡ length texts.old.items + 1) }
+    ensures refused { IfErr result (λ e. e ≡ Usage → ⊥) }
+    ensures square { IfErr result (λ e. e ≡ NotSquare → ⊥) }
+    ensures unread { IfErr result (IsUnreadAt (length texts.old.items + 1)) }
+{
+    let text = text_of(texts.len() + 1, fs::read_to_string(rt, path))?;
+    texts.push(text)?;
+    Ok(())
+}
+
+// Returns the text that was read, or the failure for the file with this number.
 fn text_of(number: usize, read: io::Result<String>) -> Result<String, Failure>
     ensures text { IfOk result (λ text. read ≡ Ok text) }
     ensures unread { IfErr result (λ failure. IsErrAnd read
@@ -43,7 +63,7 @@ fn text_of(number: usize, read: io::Result<String>) -> Result<String, Failure>
     }
 }
 
-// The error of a file that cannot be opened or read, whose number is counted from 1.
+// Returns the error for the file with this number, counted from 1, which cannot be opened or read.
 fn unreadable(number: usize, kind: io::ErrorKind) -> ExprError
     ensures { result ≡ input_fault number (file_fault kind) }
 {
@@ -53,7 +73,7 @@ fn unreadable(number: usize, kind: io::ErrorKind) -> ExprError
     }
 }
 
-/// Reads the places in the only file.
+/// Returns the list of triplets of the matrix in the command's only file, whose values are `()`.
 pub fn read_triplets<R: Files + AllocGlobal>(rt: &R, path: &str) -> Result<CooMatrix<()>, Failure>
     ensures read { IfOk result
         (λ m. (text : List ℕ) × Means pattern_scalar text (Ok (values_of (λ x. x) m))) }
@@ -62,7 +82,7 @@ pub fn read_triplets<R: Files + AllocGlobal>(rt: &R, path: &str) -> Result<CooMa
     places_of(load_coo_from_matrix_market_file(rt, path))
 }
 
-// The places in the only file, if they were read.
+// Returns the list that was read, or the failure for the only file.
 fn places_of(read: Result<CooMatrix<()>, MatrixMarketError>) -> Result<CooMatrix<()>, Failure>
     ensures places { IfOk result (λ places. read ≡ Ok places) }
     ensures unread { IfErr result (λ failure. IsErrAnd read
@@ -74,7 +94,7 @@ fn places_of(read: Result<CooMatrix<()>, MatrixMarketError>) -> Result<CooMatrix
     }
 }
 
-// The error of a file whose matrix cannot be read, and whose number is counted from 1.
+// Returns the error for the file with this number, counted from 1, which does not hold such a matrix.
 fn unread(number: usize, kind: MatrixMarketErrorKind) -> ExprError
     ensures { result ≡ input_fault number kind }
 {

@@ -1,4 +1,4 @@
-//! The commands of the program `mtx`, from its arguments to its exit status.
+//! The commands of the program `mtx`: its arguments, its files, its output and its exit status.
 #![tactic(auto)]
 
 mod arguments;

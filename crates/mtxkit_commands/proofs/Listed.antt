@@ -1,4 +1,4 @@
--- Lists with other values: their places, and values that are not zero.
+-- Lists whose values are replaced: their rows and columns, and nonzero values.
 use Rattle.std.proofs.Common.{◌≡◌, ℕ, zero, suc, ℤ, pos, All, List, []}
 use Rattle.std.proofs.Common.{◌∷◌, length, map, refl, sym, ap, ◌∙◌, arith}
 use Rattle.sparse_algebra.specs.Algebra.{CommRing}
@@ -18,7 +18,7 @@ module _ (R : CommRing) {T : Type 0} (f : T → R.Carrier) where
   unfolding element_of times_one
   element_of-zero = refl
 
-  -- integers that mean values that are not zero are not zero
+  -- integers of nonzero ring elements are not zero
   pub integers-nonzero : (ts : List (ℕ × ℕ × T)) (zs : List ℤ)
       → map (element_of R) zs ≡ map f (map (λ t. t.2) ts)
       → All (λ t. f t.2 ≡ R.zero → ⊥) ts → All (λ z. z ≡ pos 0 → ⊥) zs

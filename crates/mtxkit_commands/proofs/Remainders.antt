@@ -1,4 +1,4 @@
--- Integers and their remainders mean the same elements of a ring of residues.
+-- An integer and its remainder have the same residue.
 use Rattle.std.proofs.Common.{◌≡◌, ◌⊎◌, ℕ, suc, ℤ, pos, negsuc, ◌+◌, ◌-◌, ◌<◌, ◌%◌, ap, sym}
 use Rattle.std.proofs.Common.{◌∙◌, inl, inr, arith, refl, unsigned_abs}
 use Rattle.std.specs.Int.{int_rem_euclid}
@@ -9,7 +9,7 @@ use Rattle.sparse_algebra.specs.Integers.{element_of}
 use Rattle.sparse_algebra.proofs.Integers.{times_one-residue}
 
 module _ (m : ℕ) (some : 0 < m) where
-  -- the negative of a remainder and one
+  -- the remainder of the negative of n + 1
   negated : (n r : ℕ) → n % m ≡ r → r < m → (r + 1 < m) ⊎ (r + 1 ≡ m)
       → (m - 1 - r) % m ≡ (m - suc n % m) % m
   negated n r e lt (inl below) =

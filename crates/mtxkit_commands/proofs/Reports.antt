@@ -1,8 +1,8 @@
--- Lines of errors that were written.
+-- A line of an error was written.
 use Rattle.std.proofs.Common.{ℕ, List, Option, Result, Ok, Err, IfOk, IfErr, refl, inl, inr, codes}
 use Rattle.mtxkit_commands.specs.Names.{IsErrorLine, IsReported, IsWritten}
 
--- the line of an error was made and written, or no memory was left for it
+-- the line of the error was written, or the one that says that an allocation failed
 pub reported : {S E : Type 0} (text : S → List ℕ) (made : Result S E) (path : Option (List ℕ))
     (old new : Option (List ℕ)) (before after : ℕ)
     → IfOk made (λ line. IsErrorLine path (text line))

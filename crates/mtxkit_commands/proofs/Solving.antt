@@ -1,4 +1,4 @@
--- Systems whose matrices are given by scalars and by integers that mean them.
+-- A system over ring elements is solved or tested exactly if that over their integers is.
 use Rattle.std.proofs.Common.{◌≡◌, ◌⊎◌, ◌↔◌, ℕ, ℤ, Bool, Option, inl, inr, Ok}
 use Rattle.std.proofs.Common.{Err, Result, subst, refl, sym, ap, ◌∙◌}
 use Rattle.std.proofs.lemmas.Bool.{cases_eq}
@@ -18,7 +18,7 @@ use Rattle.mtxkit_commands.specs.SystemErrors.{system_fault}
 use Rattle.mtxkit_commands.specs.Systems.{plain_of_integers, IsSolved, IsTested}
 use Rattle.mtxkit_commands.specs.Systems.{IsSolvedBy, IsTestedBy}
 
--- ---- shapes that fit, or do not
+-- ---- shapes fit or do not fit
 
 either_system : {S T : Type 0} (a : Coo S) (b : Coo T) → IsSystem a b ⊎ (IsSystem a b → ⊥)
 either_system a b = elim (cases_eq a.ncols a.nrows) [
@@ -43,7 +43,7 @@ either_equation a x b = elim (cases_eq a.ncols x.nrows) [
 ]
 
 module _ {X : Type 0} where
-  -- a call that says exactly when the shapes do not fit
+  -- the result is `Shapes` exactly if the shapes do not fit
   abbrev pub SaysShapes : Result X SystemError → Type 0 → Type 0
   SaysShapes result Fits = (result ≡ Err system.Shapes) ↔ (Fits → ⊥)
 
@@ -67,7 +67,7 @@ module _ {X : Type 0} where
         fits_at (Ok y) (IsEquation a x b) (either_equation a x b) says (λ e. cc)
 
 module _ (R : CommRing) where
-  -- a product keeps its values where its matrices are replaced by the same ones
+  -- the values of a product do not change if its operands are replaced by equal ones
   pub product-same : (a a' x x' b b' : Plain R) → a ≡ a' → x ≡ x' → b ≡ b'
       → HasSameValues R b.rows b.cols (plain_product R a x) b
       → HasSameValues R b'.rows b'.cols (plain_product R a' x') b'
@@ -143,7 +143,7 @@ module _ (R : CommRing) where
       untested system.NoFactors says (inr e) = absurd (cc)
       untested system.OutOfMemory says only = tt
 
--- ---- what holds in the ring that a modulus names, by the modulus
+-- ---- from the ring of a modulus to the modulus
 
 pub solved_by : (m : Option ℕ) (a b : Coo ℤ) (solved : Result (Coo ℤ) Failure)
     → IsSolved (ring_of m) (ring_value m) (reduced_by m) a b solved → IsSolvedBy m a b solved

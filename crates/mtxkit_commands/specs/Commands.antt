@@ -1,4 +1,4 @@
--- What commands write.
+-- What commands write, and why they fail.
 use Rattle.std.specs.Prelude.{◌≡◌, ◌⊎◌, ◌+◌, ◌<◌, ℕ, List, ◌∷◌, Option, Some, Ok}
 use Rattle.std.specs.Prelude.{Bool, true, false}
 use Rattle.std.specs.declared.io.Error.{Error}
@@ -31,50 +31,50 @@ use Rattle.mtxkit_commands.specs.declared.commands.Target.TheVariants.{Bitmap, B
 use Rattle.mtxkit_commands.specs.declared.commands.Values.{Values}
 use Rattle.mtxkit_commands.specs.declared.commands.Values.TheVariants.{Integers, Pattern}
 
--- the text of a picture of the pattern of a text's matrix
+-- the picture of the pattern of a text's matrix, in the format of the target
 abbrev pub ShowsPicture : Target → List ℕ → ℕ → List ℕ → Type 0
 ShowsPicture Blocks text size written = ShowsBlocks text size written
 ShowsPicture target text size written = ShowsBitmap text size written
 
--- the text of a text's matrix with these values
+-- the text of a text's matrix, with or without its values
 abbrev pub WritesValues : Values → List ℕ → List ℕ → Type 0
 WritesValues Integers text written = WritesIntegers text written
 WritesValues Pattern text written = WritesPattern text written
 
--- the only file has this path and some text, of which this holds
+-- the only file was read; it has this path, and `Holds` holds of its text
 abbrev pub ReadsOne : List ℕ → (List ℕ → Type 0) → List Reading → List Reading → Type 0
 ReadsOne file Holds old new = (text : List ℕ) × (new ≡ (file, Ok text) ∷ old) × Holds text
 
--- the same for two files, in this order
+-- the same for two files, which were read in this order
 abbrev pub ReadsTwo : List ℕ → List ℕ → (List ℕ → List ℕ → Type 0) → List Reading → List Reading
     → Type 0
 ReadsTwo a b Holds old new = (first second : List ℕ)
     × (new ≡ (b, Ok second) ∷ (a, Ok first) ∷ old) × Holds first second
 
--- the same for three
+-- the same for three files
 abbrev pub ReadsThree : List ℕ → List ℕ → List ℕ → (List ℕ → List ℕ → List ℕ → Type 0)
     → List Reading → List Reading → Type 0
 ReadsThree a x b Holds old new = (first second third : List ℕ)
     × (new ≡ (b, Ok third) ∷ (x, Ok second) ∷ (a, Ok first) ∷ old) × Holds first second third
 
--- the text of integers that the text of the file becomes, each number times 10 ^ scale
+-- the text of the file with each number multiplied by 10 ^ scale, as a text of integers
 abbrev pub IsScaleAnswer : ℕ → List ℕ → List Reading → List Reading → List ℕ → Type 0
 IsScaleAnswer scale file old new written =
     ReadsOne file (λ text. IsScaledText scale text written) old new
 
--- the text of X, of the texts of A and B
+-- the text of X, for the texts of A and B
 abbrev pub IsSolveAnswer : Option ℕ → List ℕ → List ℕ → List Reading → List Reading → List ℕ
     → Type 0
 IsSolveAnswer modulus a b old new written =
     ReadsTwo a b (λ first second. WritesSolution modulus first second written) old new
 
--- the line that A X = B, of the texts of A, X and B
+-- the line that says that A X = B, for the texts of A, X and B
 abbrev pub IsCheckAnswer : Option ℕ → List ℕ → List ℕ → List ℕ → List Reading → List Reading
     → List ℕ → Type 0
 IsCheckAnswer modulus a x b old new written =
     ReadsThree a x b (λ first second third. SaysProduct modulus first second third written) old new
 
--- the answer of a command, which read its files in order and nothing else
+-- the command read its files in order and no other file, and `written` is what it writes for these
 abbrev pub IsAnswer : Command → List Reading → List Reading → List ℕ → Type 0
 IsAnswer (Info file) old new written =
     ReadsOne file.now (λ text. WritesInfo text written) old new
@@ -89,35 +89,35 @@ IsAnswer (Solve modulus a b) old new written = IsSolveAnswer modulus a.now b.now
 IsAnswer (Check modulus a x b) old new written =
     IsCheckAnswer modulus a.now x.now b.now old new written
 
--- why a text's matrix is not written with these values
+-- why the text of a text's matrix is not written
 abbrev pub IsFieldFailureOf : Values → List ℕ → Failure → Type 0
 IsFieldFailureOf Integers text failure = IsValuesFailure 1 text failure
 IsFieldFailureOf Pattern text failure = IsLoadFailure 1 text failure
 
--- the only file cannot be read, or its text is at fault
+-- the only file cannot be read, or its text has a fault for which `IsFault` holds
 abbrev pub FailsOne : List ℕ → (List ℕ → Failure → Type 0) → List Reading → List Reading → Failure
     → Type 0
 FailsOne file IsFault old new failure =
     IsUnread 1 file old new failure ⊎ ReadsOne file (λ text. IsFault text failure) old new
 
--- the second file cannot be read, and the first one was
+-- the first file was read, and the second one cannot be read
 abbrev pub IsSecondUnread : List ℕ → List ℕ → List Reading → List Reading → Failure → Type 0
 IsSecondUnread a b old new failure =
     (first : List ℕ) × IsUnread 2 b ((a, Ok first) ∷ old) new failure
 
--- the third file cannot be read, and the first two were
+-- the first two files were read, and the third one cannot be read
 abbrev pub IsThirdUnread : List ℕ → List ℕ → List ℕ → List Reading → List Reading → Failure
     → Type 0
 IsThirdUnread a x b old new failure = (first second : List ℕ)
     × IsUnread 3 b ((x, Ok second) ∷ (a, Ok first) ∷ old) new failure
 
--- one of the files of A and B cannot be read, or their texts are at fault
+-- why `solve` fails: one of the files of A and B cannot be read, or the system of their texts is not solved
 abbrev pub IsUnsolved : Option ℕ → List ℕ → List ℕ → List Reading → List Reading → Failure → Type 0
 IsUnsolved modulus a b old new failure = IsUnread 1 a old new failure
     ⊎ (IsSecondUnread a b old new failure
     ⊎ ReadsTwo a b (λ first second. IsSolveFailure modulus first second failure) old new)
 
--- one of the files of A, X and B cannot be read, or their texts are at fault
+-- why `check` fails: one of the files of A, X and B cannot be read, or their texts do not confirm that A X = B
 abbrev pub IsUnchecked : Option ℕ → List ℕ → List ℕ → List ℕ → List Reading → List Reading → Failure
     → Type 0
 IsUnchecked modulus a x b old new failure = IsUnread 1 a old new failure
@@ -125,8 +125,8 @@ IsUnchecked modulus a x b old new failure = IsUnread 1 a old new failure
     ⊎ ReadsThree a x b (λ first second third. IsCheckFailure modulus first second third failure)
     old new))
 
--- why a command has no answer: one of its files, counted from 1, is not read, and those before it
--- were; or the texts of its files are at fault
+-- why a command fails before it writes: a file cannot be read after those before it were, or the texts of the files
+-- have a fault
 abbrev pub IsFailure : Command → List Reading → List Reading → Failure → Type 0
 IsFailure (Info file) old new failure = FailsOne file.now IsInfoFailure old new failure
 IsFailure (Spy file size target) old new failure =
@@ -140,55 +140,55 @@ IsFailure (Solve modulus a b) old new failure = IsUnsolved modulus a.now b.now o
 IsFailure (Check modulus a x b) old new failure =
     IsUnchecked modulus a.now x.now b.now old new failure
 
--- the text of the file is not scaled, and this is why
+-- the numbers of the file's text are not scaled, for this reason
 abbrev pub IsUnscaled : ℕ → List ℕ → List Reading → List Reading → ScaleError → Type 0
 IsUnscaled scale file old new error =
     ReadsOne file (λ text. IsScaleFailure scale text error) old new
 
--- the command scales numbers, and the text of its file is not scaled
+-- the command is `integer`, and the numbers of its file's text are not scaled, for this reason
 abbrev pub IsUnscaledBy : Command → List Reading → List Reading → ScaleError → Type 0
 IsUnscaledBy (Integer file scale) old new error = IsUnscaled scale file.now old new error
 IsUnscaledBy command old new error = ⊥
 
--- why a command has no answer
+-- the same for all errors of commands
 abbrev pub HasNoAnswer : Command → List Reading → List Reading → CommandError → Type 0
 HasNoAnswer command old new (Failed failure) = IsFailure command old new failure
 HasNoAnswer command old new (Unscaled error) = IsUnscaledBy command old new error
 
--- the same of the command that scales numbers
+-- the same for `integer`
 abbrev pub IsScaleError : ℕ → List ℕ → List Reading → List Reading → CommandError → Type 0
 IsScaleError scale file old new (Failed failure) =
     FailsOne file (λ text f. f ≡ OutOfMemory) old new failure
 IsScaleError scale file old new (Unscaled error) = IsUnscaled scale file old new error
 
--- the picture is written to a file
+-- the target is a file
 abbrev pub is_file : Target → Bool
 is_file Bitmap = false
 is_file Blocks = false
 is_file (File path) = true
 
--- the answer is a picture that is written to a file
+-- the result is written to a file
 abbrev pub is_saved : Command → Bool
 is_saved (Spy file size target) = is_file target
 is_saved command = false
 
--- one more write to the output failed than before, the last one, and this is its kind
+-- a write to the output failed, the last one, and the failure has its kind; by the numbers of failed writes before and
+-- after
 abbrev pub IsUnwritten : ℕ → ℕ → Option ErrorKind → Failure → Type 0
 IsUnwritten before after last failure =
     (kind : ErrorKind) × (failure ≡ Write kind) × (after ≡ before + 1) × (last ≡ Some kind)
 
--- the file of the answer was not made or written
+-- the output file was not created or not written
 abbrev pub IsUnsaved : Failure → Type 0
 IsUnsaved failure = (error : Error) × (failure ≡ Unsaved error)
 
--- a command fails where no write to the output failed: it has no answer, or names a file for the
--- answer, which was not made or written
+-- why a command fails though no write to the output failed: it fails before it writes, or its output file was not
+-- created or not written
 abbrev pub IsUnanswered : Command → List Reading → List Reading → Failure → Type 0
 IsUnanswered command old new failure =
     IsFailure command old new failure ⊎ ((is_saved command ≡ true) × IsUnsaved failure)
 
--- why a command fails, by the writes to the output that failed before it and after it, and the kind
--- of the last one
+-- why a command fails; by the numbers of failed writes to the output before and after, and the kind of the last one
 abbrev pub CanFail : Command → List Reading → List Reading → ℕ → ℕ → Option ErrorKind
     → CommandError → Type 0
 CanFail command old new before after last (Failed failure) =
@@ -207,7 +207,7 @@ abbrev pub IsSized : Command → Type 0
 IsSized (Spy file size target) = 0 < size
 IsSized command = Unit {0}
 
--- nothing was appended where the answer went to a file, and otherwise the answer
+-- nothing was appended to the output if the result is written to a file, and otherwise the result
 abbrev pub IsDelivered : Bool → Command → List Reading → List Reading → Option (List ℕ)
     → Option (List ℕ) → Type 0
 IsDelivered true command before after old new = new ≡ old

@@ -1,4 +1,4 @@
--- The files that a command reads, and the failures of those that cannot be read.
+-- The files that a command reads, and the failures for files that cannot be read.
 use Rattle.std.specs.Prelude.{◌≡◌, ℕ, List, ◌∷◌, Result, Ok, Err, String, string_bytes}
 use Rattle.std.specs.IoError.{error_kind}
 use Rattle.std.specs.declared.io.Error.{Error}
@@ -11,26 +11,25 @@ use Rattle.mtxkit_texts.specs.declared.failure.Failure.TheVariants.{Unread, OutO
 abbrev pub Reading : Type 0
 Reading = List ℕ × Result (List ℕ) Error
 
--- the path of a file, and what reading it gave
+-- the path of a file, and its text or the error of reading it
 abbrev pub reading_of : {A : Type 0} → List ℕ → Result (String A) Error → Reading
 reading_of path (Ok text) = (path, Ok (string_bytes text))
 reading_of path (Err error) = (path, Err error)
 
--- the failure of the file with this number for an error of this kind
+-- the failure for the file with this number: a failed allocation names no file
 abbrev pub unread_fault : ErrorKind → ℕ → Error → Failure
 unread_fault io.OutOfMemory number error = OutOfMemory
 unread_fault kind number error = Unread number error
 
--- the failure of the file with this number, which cannot be opened or read
+-- the same, by the kind of the error
 abbrev pub input_fault : ℕ → Error → Failure
 input_fault number error = unread_fault (error_kind error) number error
 
--- the next file that was read has this path and this text
+-- the next file was read; it has this path and this text
 abbrev pub IsRead : List ℕ → List Reading → List Reading → List ℕ → Type 0
 IsRead path old new text = new ≡ (path, Ok text) ∷ old
 
--- the next file that was read has this path, it could not be opened or read, and the failure names
--- its number unless an allocation failed
+-- the next file has this path and could not be read, and the failure is the one for its number
 abbrev pub IsUnread : ℕ → List ℕ → List Reading → List Reading → Failure → Type 0
 IsUnread number path old new failure = (error : Error)
     × (new ≡ (path, Err error) ∷ old) × (failure ≡ input_fault number error)

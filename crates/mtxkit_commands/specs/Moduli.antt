@@ -1,4 +1,4 @@
--- The moduli that a system is solved for.
+-- The moduli for which the program solves systems.
 use Rattle.std.specs.Prelude.{◌≢◌, ℕ, List, [], ◌∷◌, Option, Some, None}
 
 abbrev pub moduli : List ℕ

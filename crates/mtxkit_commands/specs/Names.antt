@@ -64,12 +64,12 @@ abbrev pub error_file : Command → CommandError → Option (List ℕ)
 error_file command (Failed failure) = fault_file command failure
 error_file command (Unscaled error) = Some (first_file command)
 
--- the name of a file before what is said of it
+-- the path of a file before the message, if there is one
 abbrev pub name_text : Option (List ℕ) → List ℕ
 name_text (Some path) = path
 name_text None = []
 
--- the line begins with the program's name, and then with that of the file, if one is at fault
+-- the line begins with the program's name and the path of the file, if there is one
 abbrev pub IsErrorLine : Option (List ℕ) → List ℕ → Type 0
 IsErrorLine path line =
     (rest : List ℕ) × (line ≡ (codes "mtxkit: " ++ name_text path) ++ rest)
@@ -78,7 +78,7 @@ IsErrorLine path line =
 abbrev pub IsMemoryLine : List ℕ → Type 0
 IsMemoryLine line = line ≡ codes "mtxkit: out of memory\n"
 
--- a text was appended, or a write of it failed, by the failed writes before it and after it
+-- a text was appended, or a write of it failed: the number of failed writes rose by 1
 abbrev pub IsWritten : List ℕ → Option (List ℕ) → Option (List ℕ) → ℕ → ℕ → Type 0
 IsWritten text old new before after = Appends old new text ⊎ (after ≡ before + 1)
 

@@ -8,15 +8,15 @@ use Rattle.sparse_algebra.specs.declared.scalar.residues.Mod.{Mod}
 use Rattle.sparse_algebra.specs.declared.scalar.wrapping.W64.{W64}
 use Rattle.mtxkit_texts.specs.Loaded.{ring64, value64}
 
--- the remainder of an integer by m, which is not negative
+-- the remainder of an integer by m, from 0 to m - 1
 abbrev pub remainder : ℕ → ℤ → ℕ
 remainder m z = unsigned_abs (int_rem_euclid z (pos m))
 
--- the integer of 64 bits that is z modulo 2 ^ 64
+-- the signed integer of 64 bits that is congruent to z modulo 2 ^ 64
 abbrev pub reduced64 : ℤ → ℤ
 reduced64 z = int_wrap w64 z
 
--- the least integer that is z modulo M and not negative
+-- the least integer that is congruent to z modulo M and not negative
 abbrev pub reduced_modulo : ℕ → ℤ → ℤ
 reduced_modulo m z = int_rem_euclid z (pos (modulus m))
 

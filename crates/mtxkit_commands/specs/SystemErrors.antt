@@ -1,4 +1,4 @@
--- The failures of commands whose systems have errors.
+-- The failures for errors of solving and testing.
 use Rattle.mtxkit_matrices.specs.declared.systems.SystemError.{SystemError}
 use Rattle.mtxkit_matrices.specs.declared.systems.SystemError.TheVariants as system
 use Rattle.mtxkit_texts.specs.declared.failure.Failure.{Failure}

@@ -1,4 +1,4 @@
--- Systems over lists of integers.
+-- Systems whose matrices are lists of integers.
 use Rattle.std.specs.Prelude.{◌≡◌, ◌⊎◌, ◌↔◌, ℕ, ℤ, pos, List, All, IsTrue, Bool, codes, map, Option}
 use Rattle.std.specs.Prelude.{Result, Ok, Err}
 use Rattle.std.specs.Fmt.{signed_decimal}
@@ -22,18 +22,18 @@ use Rattle.mtxkit_texts.specs.declared.failure.Failure.TheVariants.{OutOfMemory}
 use Rattle.mtxkit_commands.specs.Moduli.{IsUnlisted}
 use Rattle.mtxkit_commands.specs.Rings.{ring_of, reduced_by, ring_value}
 
--- ---- lists of integers, each of which means an element of a ring: that many times one
+-- ---- lists of integers, each of which represents a ring element: the integer times one
 
 module _ (R : CommRing) where
   abbrev pub plain_of_integers : Coo ℤ → Plain R
   plain_of_integers list = plain_of_coo R (element_of R) list
 
-  -- A X has the values of B
+  -- A X has the values of B in the ring
   abbrev pub IsProduct : Coo ℤ → Coo ℤ → Coo ℤ → Type 0
   IsProduct a x b = HasSameValues R b.nrows b.ncols
       (plain_product R (plain_of_integers a) (plain_of_integers x)) (plain_of_integers b)
 
-  -- A X = B; X stands column by column, without zeros and repeats, and each value is a reduced one
+  -- A X = B; X is ordered column by column, without zeros and duplicates, and its values are reduced
   pub record Solves (reduced : ℤ → ℤ) (a x b : Coo ℤ) : Type 0 where
     pub system : IsSystem a b
     pub rows : x.nrows ≡ a.ncols
@@ -43,8 +43,7 @@ module _ (R : CommRing) where
     pub nonzero : All (λ z. z ≡ pos 0 → ⊥) (map (λ t. t.2) x.triplets)
     pub values : All (λ z. reduced z ≡ z) (map (λ t. t.2) x.triplets)
 
-  -- why there is no solution: the shapes do not fit; or they do, and A is not symmetric, or has no
-  -- factorisation
+  -- why the system is not solved: the shapes do not fit; or they fit, and A is not symmetric or has no factorisation
   abbrev pub IsUnsolved : {T : Type 0} → (T → R.Carrier) → Coo ℤ → Coo ℤ → Failure → Type 0
   IsUnsolved g a b Shapes = IsSystem a b → ⊥
   IsUnsolved g a b NotSymmetric = IsSystem a b × (¬ IsSymmetricMatrix R (plain_of_integers a))
@@ -57,21 +56,21 @@ module _ (R : CommRing) where
   IsSolved g reduced a b (Ok x) = Solves reduced a x b
   IsSolved g reduced a b (Err failure) = IsUnsolved g a b failure
 
-  -- why a solution is not confirmed: the shapes do not fit; or they do, and A X is not B
+  -- why a solution is not confirmed: the shapes do not fit; or they fit, and A X differs from B
   abbrev pub IsUntested : Coo ℤ → Coo ℤ → Coo ℤ → Failure → Type 0
   IsUntested a x b Shapes = IsEquation a x b → ⊥
   IsUntested a x b NotSolution = IsEquation a x b × (¬ IsProduct a x b)
   IsUntested a x b OutOfMemory = Unit {0}
   IsUntested a x b failure = ⊥
 
-  -- the answer says whether A X = B
+  -- the result says whether A X = B
   abbrev pub IsTested : Coo ℤ → Coo ℤ → Coo ℤ → Result Bool Failure → Type 0
   IsTested a x b (Ok same) = IsEquation a x b × (IsTrue same ↔ IsProduct a x b)
   IsTested a x b (Err failure) = IsUntested a x b failure
 
 -- ---- by the modulus that a command gives, if any
 
--- why there is no solution: the modulus is not listed; or it is, and there is none in its ring
+-- why the system is not solved: the modulus is not listed; or it is, and the system is not solved in its ring
 abbrev pub IsUnsolvedBy : Option ℕ → Coo ℤ → Coo ℤ → Failure → Type 0
 IsUnsolvedBy m a b Modulus = IsUnlisted m
 IsUnsolvedBy m a b failure = IsUnsolved (ring_of m) (ring_value m) a b failure
@@ -80,7 +79,7 @@ abbrev pub IsSolvedBy : Option ℕ → Coo ℤ → Coo ℤ → Result (Coo ℤ) 
 IsSolvedBy m a b (Ok x) = Solves (ring_of m) (reduced_by m) a x b
 IsSolvedBy m a b (Err failure) = IsUnsolvedBy m a b failure
 
--- why a solution is not confirmed: the same
+-- why a solution is not confirmed: the modulus is not listed; or it is, and the solution is not confirmed in its ring
 abbrev pub IsUntestedBy : Option ℕ → Coo ℤ → Coo ℤ → Coo ℤ → Failure → Type 0
 IsUntestedBy m a x b Modulus = IsUnlisted m
 IsUntestedBy m a x b failure = IsUntested (ring_of m) a x b failure
@@ -92,21 +91,21 @@ IsTestedBy m a x b (Err failure) = IsUntestedBy m a x b failure
 
 -- ---- texts
 
--- the text with this number means an error, read as integers
+-- the text with this number has an error, read as integers
 abbrev pub IsNoList : ℕ → List ℕ → Failure → Type 0
 IsNoList number text failure = IsRefused (signed_scalar w128) number text failure
 
--- the second text means an error, and the first one a list
+-- the second text has an error, and the first one means a list
 abbrev pub IsSecondNoList : List ℕ → List ℕ → Failure → Type 0
 IsSecondNoList first second failure =
     (list : Coo ℤ) × MeansIntegers first list × IsNoList 2 second failure
 
--- the third text means an error, and the first two lists
+-- the third text has an error, and the first two mean lists
 abbrev pub IsThirdNoList : List ℕ → List ℕ → List ℕ → Failure → Type 0
 IsThirdNoList first second third failure = (one two : Coo ℤ)
     × MeansIntegers first one × MeansIntegers second two × IsNoList 3 third failure
 
--- the text of a matrix X for which A X = B, of the matrices that two texts mean
+-- the text of a matrix X for which A X = B, where the two texts mean A and B
 pub record WritesSolution (m : Option ℕ) (first second written : List ℕ) : Type 0 where
   pub a : Coo ℤ
   pub x : Coo ℤ
@@ -116,7 +115,7 @@ pub record WritesSolution (m : Option ℕ) (first second written : List ℕ) : T
   pub solves : Solves (ring_of m) (reduced_by m) a x b
   pub is : written ≡ text_of (codes "integer") signed_decimal x
 
--- the matrices that two texts mean have no solution
+-- the system of the matrices that the two texts mean is not solved
 pub record HasNoSolution (m : Option ℕ) (first second : List ℕ) (failure : Failure) : Type 0 where
   pub a : Coo ℤ
   pub b : Coo ℤ
@@ -124,24 +123,25 @@ pub record HasNoSolution (m : Option ℕ) (first second : List ℕ) (failure : F
   pub second_means : MeansIntegers second b
   pub why : IsUnsolvedBy m a b failure
 
--- an allocation failed, a text means no list and those before it do, or there is no solution
+-- why `solve_text` fails: an allocation failed, a text has an error and those before it have none, or the system is not
+-- solved
 abbrev pub IsSolveFailure : Option ℕ → List ℕ → List ℕ → Failure → Type 0
 IsSolveFailure m first second failure =
     (failure ≡ OutOfMemory) ⊎ (IsNoList 1 first failure ⊎ (IsSecondNoList first second failure
     ⊎ HasNoSolution m first second failure))
 
--- of the matrices that three texts mean, A X = B
+-- the three texts mean A, X and B, and A X = B
 abbrev pub MeansProduct : Option ℕ → List ℕ → List ℕ → List ℕ → Type 0
 MeansProduct m first second third = (a x b : Coo ℤ)
     × MeansIntegers first a × MeansIntegers second x × MeansIntegers third b
     × IsEquation a x b × IsProduct (ring_of m) a x b
 
--- the line that says that A X = B, which is so
+-- the line that says that A X = B, and A X = B
 abbrev pub SaysProduct : Option ℕ → List ℕ → List ℕ → List ℕ → List ℕ → Type 0
 SaysProduct m first second third written =
     MeansProduct m first second third × (written ≡ codes "A X = B\n")
 
--- the matrices that three texts mean are no equation
+-- the solution of the matrices that the three texts mean is not confirmed
 pub record IsNoEquation (m : Option ℕ) (first second third : List ℕ) (failure : Failure)
     : Type 0 where
   pub a : Coo ℤ
@@ -152,7 +152,8 @@ pub record IsNoEquation (m : Option ℕ) (first second third : List ℕ) (failur
   pub third_means : MeansIntegers third b
   pub why : IsUntestedBy m a x b failure
 
--- an allocation failed, a text means no list and those before it do, or A X = B is not so
+-- why `check_text` fails: an allocation failed, a text has an error and those before it have none, or the solution is
+-- not confirmed
 abbrev pub IsCheckFailure : Option ℕ → List ℕ → List ℕ → List ℕ → Failure → Type 0
 IsCheckFailure m first second third failure =
     (failure ≡ OutOfMemory) ⊎ (IsNoList 1 first failure ⊎ (IsSecondNoList first second failure

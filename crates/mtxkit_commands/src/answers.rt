@@ -1,4 +1,4 @@
-//! The answers of commands over the texts of their files.
+//! Computes what commands write, from the texts of their files.
 
 ghost use Rattle.std.specs.Prelude.{◌<◌, ℕ, Option, IfOk, IfErr, string_bytes};
 ghost use Rattle.mtxkit_texts.specs.Loaded.{IsLoadFailure};
@@ -16,7 +16,7 @@ use mtxkit_texts::{
 };
 use std::alloc::Global;
 
-/// Reads the files of a command in order, up to one that cannot be read, and returns the answer.
+/// Reads the files of a command in order, up to the first that cannot be read, and returns what the command writes.
 ///
 /// The size of a picture must not be 0.
 pub fn answer_of<T: Texts>(
@@ -57,7 +57,8 @@ pub fn answer_of<T: Texts>(
     }
 }
 
-// Reads the files of A and B, and returns the text of the matrix X for which A X = B.
+// Reads the files of A and B, and returns the text of the matrix X for which A X = B. These are the files 1 and 2 of
+// the command.
 fn solution_of<T: Texts>(
     alloc: Global,
     texts: &mut T,
@@ -75,7 +76,8 @@ fn solution_of<T: Texts>(
     solve_text(alloc, modulus, first.as_str(), second.as_str())
 }
 
-// Reads the files of A, X and B, and returns the line that says that A X = B.
+// Reads the files of A, X and B, and returns the line that says that A X = B. These are the files 1, 2 and 3 of the
+// command.
 fn check_of<T: Texts>(
     alloc: Global,
     texts: &mut T,
@@ -101,7 +103,7 @@ fn check_of<T: Texts>(
     )
 }
 
-// Returns the text of the picture of a text's pattern.
+// Returns the picture of a text's pattern, in the form for this target.
 fn picture(alloc: Global, size: usize, target: Target<'_>, text: &str) -> Result<String, Failure>
     requires { 0 < size }
     ensures shown { IfOk result
@@ -115,7 +117,7 @@ fn picture(alloc: Global, size: usize, target: Target<'_>, text: &str) -> Result
     }
 }
 
-// Returns the text of a text's matrix with these values.
+// Returns the text of a text's matrix, with or without its values.
 fn rewritten(alloc: Global, values: Values, text: &str) -> Result<String, Failure>
     ensures written { IfOk result
         (λ written. WritesValues values text.now (string_bytes written)) }

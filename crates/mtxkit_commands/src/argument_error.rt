@@ -1,4 +1,4 @@
-//! The errors of arguments that cannot be read.
+//! Errors in reading the program's arguments.
 
 ghost use Rattle.std.specs.Prelude.{◌≡◌, None};
 ghost use Rattle.mtxkit_commands.specs.Arguments.{argument_status};
@@ -8,10 +8,10 @@ use crate::failure_lines::write_message;
 use sparse_io::Sink;
 use std::alloc::{AllocError, AllocFailed};
 
-/// Why arguments cannot be read.
+/// An error in reading the program's arguments.
 #[derive(Clone, Copy, Debug)]
 pub enum ArgumentError {
-    /// One of them is not UTF-8.
+    /// An argument is not UTF-8.
     NotText,
     /// An allocation failed.
     OutOfMemory,
@@ -28,7 +28,7 @@ impl ArgumentError {
         self.status()
     }
 
-    // The line.
+    // Returns the line of the error.
     fn line(self) -> &'static str
         ensures { IsErrorLine None result.now }
     {
@@ -38,7 +38,7 @@ impl ArgumentError {
         }
     }
 
-    // The exit status: that of wrong usage where an argument is no text.
+    // Returns the exit status; that of an argument that is not UTF-8 is the one of wrong usage.
     fn status(self) -> u8
         ensures { result ≡ argument_status self }
     {

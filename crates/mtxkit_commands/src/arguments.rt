@@ -1,4 +1,4 @@
-//! From the program's arguments to its exit status.
+//! Runs the command that the arguments of `mtxkit` give, and returns the program's exit status.
 
 ghost use Rattle.clap.specs.Values.{kind_of};
 ghost use Rattle.clap.specs.declared.error.kind.ErrorKind.TheVariants as words;
@@ -22,12 +22,12 @@ use std::io;
 use std::process::ExitCode;
 use std::rt::Files;
 
-/// Runs the command that the arguments give over the streams, and returns the exit status.
+/// Runs the command that the arguments give, and returns the exit status. The file `-` is read from `stdin`.
 ///
-/// The first argument is the program's name. An argument that is not UTF-8 is wrong usage; an allocation failure while
-/// the arguments are read is reported as one of the command. Help is written to `out`. At status 0 the output was
-/// flushed, and a failed flush is reported as a failed write. At another status a line was written to `err`, unless a
-/// write of it failed. The screen shows the progress of reading large files.
+/// The first argument is the program's name. An argument that is not UTF-8 is wrong usage. The result and help are
+/// written to `out`. At status 0 the output was flushed; a failed flush is reported as a failed write. At another
+/// status a line was written to `err`, unless a write of it failed. The screen shows the progress of reading large
+/// files.
 pub fn answer<R, I, W, E, S>(
     rt: &R,
     arguments: io::Result<Args>,
@@ -57,7 +57,7 @@ where
     exit_code(run_args(rt, arguments, &mut texts, out, err))
 }
 
-// The exit status as the runtime takes it.
+// Returns an exit status in the type of the runtime.
 fn exit_code(status: u8) -> ExitCode
     ensures { exit_status result ≡ status }
 {
@@ -93,7 +93,7 @@ where
     }
 }
 
-// Runs the command that these words give, and flushes its output at status 0.
+// Runs the command that the arguments give. At status 0 the output was flushed.
 fn run_flushed<R, T, W, E>(
     rt: &R,
     words: &[String],
@@ -120,7 +120,7 @@ where
     }
 }
 
-// Runs the command that these words give.
+// Runs the command that the arguments give, without a flush of the output.
 fn run_words<R, T, W, E>(rt: &R, words: &[String], texts: &mut T, out: &mut W, err: &mut E) -> u8
 where
     R: Files + AllocGlobal,
@@ -142,7 +142,8 @@ where
     }
 }
 
-// Writes what `clap` answers: help to `out`, with status 0, and a mistake to `err`.
+// Writes the message of an error of `clap`, and returns the exit status: help is written to `out`, with status 0, and a
+// mistake in the arguments to `err`, with status 2.
 fn explain<W: Sink, E: Sink>(alloc: Global, error: &clap::Error, out: &mut W, err: &mut E) -> u8
     ensures status { result ≤ 2 }
     ensures memory { kind_of error.now ≡ words.OutOfMemory → result ≡ 1 }
@@ -173,7 +174,7 @@ fn explain<W: Sink, E: Sink>(alloc: Global, error: &clap::Error, out: &mut W, er
     }
 }
 
-// Returns the arguments, if they were read.
+// Returns the arguments, or why they cannot be read.
 fn given_words(alloc: Global, arguments: io::Result<Args>) -> Result<Vec<String>, ArgumentError>
     ensures refused { IfOk arguments (λ _. IfErr result (λ e. e ≡ OutOfMemory)) }
     ensures unread { IfErr arguments (λ e. result ≡ Err (argument_fault (error_kind e))) }
@@ -195,7 +196,7 @@ fn listed(alloc: Global, arguments: Args) -> Result<Vec<String>, ArgumentError>
     Ok(words)
 }
 
-// The error of arguments that cannot be read.
+// Returns the error for an error in reading the arguments.
 fn unread_arguments(kind: io::ErrorKind) -> ArgumentError
     ensures { result ≡ argument_fault kind }
 {

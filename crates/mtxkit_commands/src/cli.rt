@@ -23,7 +23,7 @@ use std::{fs, io};
 
 /// Runs a command and returns its exit status. The size of a picture must not be 0.
 ///
-/// The answer is written to `out`, or to the file that the command names. At a status other than 0 one line is written
+/// The result is written to `out`, or to the file that the command names. At a status other than 0 one line is written
 /// to `err`; an error in writing that line is ignored. All files are read before anything is written.
 pub fn run<R, T, W, E>(rt: &R, command: Command<'_>, texts: &mut T, out: &mut W, err: &mut E) -> u8
 where
@@ -53,7 +53,7 @@ where
     }
 }
 
-// Writes the line of the error of a command, and returns the error's status.
+// Writes the line of a command's error, and returns the error's exit status. An error in writing the line is ignored.
 fn report_error<E: Sink>(
     alloc: Global,
     command: Command<'_>,
@@ -72,7 +72,7 @@ fn report_error<E: Sink>(
     }
 }
 
-// Runs a command.
+// Runs a command, without a report of its error.
 fn try_run<R, T, W>(
     rt: &R,
     command: Command<'_>,
@@ -106,7 +106,7 @@ fn save<R: Files>(rt: &R, path: &str, text: &[u8]) -> Result<(), Failure>
     saved(fs::write(rt, path, text))
 }
 
-// Returns the failure of a file that was not made or written, if it was not.
+// Returns the failure for an error in creating or writing the file, if there was one.
 fn saved(written: io::Result<()>) -> Result<(), Failure>
     ensures saved { IfOk written (λ _. IsOk result) }
     ensures unsaved { IfErr written (λ error. result ≡ Err (Unsaved error)) }
@@ -117,7 +117,7 @@ fn saved(written: io::Result<()>) -> Result<(), Failure>
     }
 }
 
-// Writes the text.
+// Writes the text to the output.
 fn write_text<W: Sink>(out: &mut W, text: &[u8]) -> Result<(), Failure>
     ensures written { OnOk result (Appends (W.accepted out.old) (W.accepted out.new) text.now) }
     ensures unfailed { OnOk result (W.failures out.new ≡ W.failures out.old) }

@@ -1,4 +1,4 @@
-//! The errors of commands.
+//! Why a command fails: the errors of all commands.
 
 use mtxkit_matrices::ScaleError;
 use mtxkit_texts::Failure;
@@ -6,9 +6,9 @@ use mtxkit_texts::Failure;
 /// Why a command fails.
 #[derive(Clone, Copy, Debug)]
 pub enum CommandError {
-    /// For this reason.
+    /// A failure that several commands have.
     Failed(Failure),
-    /// The numbers of its only file are not scaled.
+    /// The numbers of the file of `mtxkit integer` are not scaled.
     Unscaled(ScaleError),
 }
 

@@ -1,4 +1,4 @@
-//! The command line of the program: its commands with their words, and the help of each.
+//! The command line of `mtxkit`, as `clap` needs it: the commands with their arguments, and the help of each.
 
 use clap::{Arg, ArgAction, value_parser};
 use std::alloc::{AllocError, Global};
@@ -6,7 +6,7 @@ use std::alloc::{AllocError, Global};
 // The text of the file VERSION, as .ci/check_copies tests.
 const VERSION: &str = "0.1.0";
 
-// The moduli that a system is solved for.
+// The moduli for which the program solves systems.
 const MODULI: [&str; 11] = [
     "2",
     "3",
@@ -27,17 +27,17 @@ const MATRIX_FILE: &str = "A Matrix Market file, or - for standard input";
 
 const DECIMAL_FILE: &str = "A real or integer Matrix Market file, or - for standard input";
 
-// A command, with its words in the order of its usage.
+// A command, and its arguments in the order of the usage line.
 struct Usage {
     name: &'static str,
     about: &'static str,
     words: &'static [Word],
 }
 
-// A word of a command.
+// An argument of a command.
 #[derive(Clone, Copy)]
 enum Word {
-    // A file that has to be named, and what it holds.
+    // A required file: its name in the usage line, and its help.
     File(&'static str, &'static str),
     Field,
     Modulus,
@@ -113,7 +113,7 @@ pub(crate) fn command_line<'a>(alloc: Global) -> Result<clap::Command<'a>, Alloc
     Ok(line)
 }
 
-// Returns the command line of a command.
+// Returns a command as `clap` needs it.
 fn command_used<'a>(alloc: Global, usage: &Usage) -> Result<clap::Command<'a>, AllocError> {
     let mut command = clap::Command::new(alloc, usage.name).about(usage.about);
     for word in usage.words {
@@ -122,7 +122,7 @@ fn command_used<'a>(alloc: Global, usage: &Usage) -> Result<clap::Command<'a>, A
     Ok(command)
 }
 
-// Returns a word as `clap` takes it.
+// Returns an argument as `clap` needs it.
 fn argument<'a>(alloc: Global, word: Word) -> Result<Arg<'a>, AllocError> {
     match word {
         Word::File(name, help) => Ok(file_word(alloc, name, help)),
@@ -135,7 +135,7 @@ fn argument<'a>(alloc: Global, word: Word) -> Result<Arg<'a>, AllocError> {
     }
 }
 
-// A word that has to be there.
+// Returns a required argument.
 fn file_word<'a>(alloc: Global, name: &'a str, help: &'a str) -> Arg<'a> {
     Arg::new(alloc, name)
         .required(true)

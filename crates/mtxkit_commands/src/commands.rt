@@ -1,4 +1,4 @@
-//! The commands, as the words of a command line give them.
+//! The commands of `mtxkit` and their arguments.
 
 ghost use Rattle.std.specs.Prelude.{◌≡◌, is_some};
 ghost use Rattle.std.specs.Option.{option_map};
@@ -8,43 +8,43 @@ ghost use Rattle.mtxkit_commands.specs.Names.{target_file, saved_file, fault_fil
 
 use mtxkit_texts::Failure;
 
-/// A command. Its files are named by paths, and `-` is standard input.
+/// A command. Its files are given by their paths, and `-` is standard input.
 #[derive(Clone, Copy, Debug)]
 pub enum Command<'a> {
-    /// Facts about a matrix.
+    /// `info`: writes facts about a matrix.
     Info {
         /// The file.
         file: &'a str,
     },
-    /// A picture of a pattern, whose sides have at most `size` cells.
+    /// `spy`: writes a picture of a pattern, whose sides have at most `size` cells.
     Spy {
         /// The file.
         file: &'a str,
         /// The largest number of cells of a side.
         size: usize,
-        /// What the picture becomes.
+        /// The format of the picture, and the file that it is written to.
         target: Target<'a>,
     },
-    /// A matrix written with other values.
+    /// `field`: writes a matrix with another field.
     Field {
         /// The file.
         file: &'a str,
-        /// The values.
+        /// Whether the values are written.
         values: Values,
     },
-    /// A text of decimal numbers as one of integers.
+    /// `integer`: writes a text of decimal numbers with integers.
     Integer {
         /// The file.
         file: &'a str,
-        /// The power of ten that the numbers are multiplied by.
+        /// K, where the numbers are multiplied by 10^K.
         scale: u32,
     },
-    /// A symmetric text expanded, or the lower triangle of a symmetric matrix.
+    /// `symmetric`: expands a text with a symmetry, or writes the lower triangle of a symmetric matrix.
     Symmetric {
         /// The file.
         file: &'a str,
     },
-    /// The matrix X for which A X = B.
+    /// `solve`: writes the matrix X for which A X = B.
     Solve {
         /// The modulus; without one the integers are those modulo 2^64.
         modulus: Option<u64>,
@@ -53,7 +53,7 @@ pub enum Command<'a> {
         /// The file of B.
         b: &'a str,
     },
-    /// Whether A X = B.
+    /// `check`: says whether A X = B.
     Check {
         /// The modulus; without one the integers are those modulo 2^64.
         modulus: Option<u64>,
@@ -67,7 +67,7 @@ pub enum Command<'a> {
 }
 
 impl<'a> Command<'a> {
-    // Returns the path of the file that the answer is written to, if the command names one.
+    // Returns the path of the output file, if the command names one.
     pub(crate) fn path(self) -> Option<&'a str>
         ensures saved { is_some result ≡ is_saved self.entry }
         ensures path { option_map (λ path. path.now) result ≡ saved_file self.entry }
@@ -143,19 +143,19 @@ impl<'a> Command<'a> {
     }
 }
 
-/// What a picture becomes.
+/// The format of a picture, and where it is written to.
 #[derive(Clone, Copy, Debug)]
 pub enum Target<'a> {
-    /// The text of a portable bitmap.
+    /// A portable bitmap, on the output.
     Bitmap,
-    /// Lines of block characters.
+    /// Lines of block characters, on the output.
     Blocks,
-    /// A file that holds a portable bitmap.
+    /// A portable bitmap, in the file with this path.
     File(&'a str),
 }
 
 impl<'a> Target<'a> {
-    // Returns the path of the file, if the picture is written to one.
+    // Returns the path of the output file, if there is one.
     fn path(self) -> Option<&'a str>
         ensures saved { is_some result ≡ is_file self.entry }
         ensures path { option_map (λ path. path.now) result ≡ target_file self.entry }
@@ -167,11 +167,11 @@ impl<'a> Target<'a> {
     }
 }
 
-/// What the places of a matrix are written with.
+/// Whether a matrix is written with its values.
 #[derive(Clone, Copy, Debug)]
 pub enum Values {
-    /// Their integers; one at each place of a pattern.
+    /// With integers; the values of a pattern are 1.
     Integers,
-    /// Nothing.
+    /// Without values, as a pattern.
     Pattern,
 }

@@ -1,4 +1,4 @@
-//! The lines of errors.
+//! Writes the lines of errors.
 
 ghost use Rattle.std.specs.Prelude.{◌≡◌, ◌++◌, IfOk, IfErr, OnOk, codes, string_bytes};
 ghost use Rattle.std.specs.Option.{option_map};
@@ -13,7 +13,8 @@ use std::io::ErrorKind;
 
 const OUT_OF_MEMORY: &str = "mtxkit: out of memory\n";
 
-/// Writes the line of a failure, which names this file, and returns the failure's status.
+/// Writes the line of a failure, which names this file, and returns the failure's exit status. An error in writing the
+/// line is ignored.
 pub fn report<E: Sink>(alloc: Global, file: Option<&str>, failure: Failure, err: &mut E) -> u8
     ensures status { result ≡ status_of failure }
     ensures reported { IsReported (option_map (λ path. path.now) file.entry) (E.accepted err.old)
@@ -23,7 +24,8 @@ pub fn report<E: Sink>(alloc: Global, file: Option<&str>, failure: Failure, err:
     failure.status()
 }
 
-/// Writes this line, or, where no memory was left for it, the line that says so. An error in writing it is ignored.
+/// Writes this line, or one that says that an allocation failed if there was no memory for it. An error in writing is
+/// ignored.
 pub(crate) fn write_line<E: Sink>(line: Result<String, AllocError>, err: &mut E)
     ensures line { IfOk line (λ text. IsWritten (string_bytes text) (E.accepted err.old)
         (E.accepted err.new) (E.failures err.old) (E.failures err.new)) }
@@ -47,7 +49,8 @@ pub(crate) fn write_message<E: Sink>(text: &[u8], err: &mut E)
     }
 }
 
-/// Returns the line of a failure: the program, the file and the number of its line, as far as they are known, and why.
+/// Returns the line of a failure: the program, the file and the number of its line, as far as they are known, and the
+/// message.
 ///
 /// Fails only if an allocation fails.
 pub fn failure_line(
@@ -85,12 +88,12 @@ fn push_name(line: &mut String, file: Option<&str>) -> Result<(), AllocError>
     }
 }
 
-// Why a write to the output failed.
+// The message for a failed write to the output.
 #[derive(Clone, Copy)]
 struct Reason(ErrorKind);
 
 impl Display for Reason {
-    // The system has no kind for an output that is closed.
+    // An output that is closed has the kind `Uncategorized`.
     fn fmt<W: Write>(&self, f: &mut Formatter<W>) -> fmt::Result {
         match self.0 {
             ErrorKind::BrokenPipe => f.write_str("broken pipe; its reader has closed it"),

@@ -1,4 +1,4 @@
-//! The texts that a command reads.
+//! Reads the files of a command.
 
 ghost use Rattle.std.specs.Prelude.{◌≡◌, ◌∷◌, List, Ok, Err, IfOk, IfErr, string_bytes};
 ghost use Rattle.mtxkit_commands.specs.Inputs.{input_fault, IsRead, IsUnread};
@@ -9,11 +9,11 @@ use std::fs::{File, OpenFile};
 use std::io;
 use std::rt::Files;
 
-/// What reads texts. Contracts see which files were read, in which order, and what each gave.
+/// Reads files. Contracts see which files were read, in which order, and the text or the error of each.
 pub trait Texts {
     ghost use Rattle.mtxkit_commands.specs.Inputs.{Reading};
 
-    // The files that were read so far, the last one first.
+    // The files that were read so far and their texts or errors, the last one first.
     ghost readings: { Self → List Reading };
 
     /// Reads the file with this path.
@@ -24,7 +24,7 @@ pub trait Texts {
             ≡ (path.now, Err error) ∷ readings self.old) };
 }
 
-/// Files, and standard input under the path `-`. The record of what was read has no bytes.
+/// The files of the system; the path `-` is standard input. The record of the files that were read occupies no memory.
 #[derive(Drop)]
 pub struct Inputs<'a, R, I, W> {
     rt: &'a R,
@@ -34,7 +34,7 @@ pub struct Inputs<'a, R, I, W> {
 }
 
 impl<'a, R, I, W> Inputs<'a, R, I, W> {
-    /// Returns the files of `rt`, none of which was read. The screen shows the progress of reading them.
+    /// Returns the files of `rt`, of which none was read. The screen shows the progress of reading.
     pub fn new(rt: &'a R, stdin: &'a mut I, screen: &'a mut Screen<W>) -> Inputs<'a, R, I, W> {
         Inputs {
             rt,
@@ -61,7 +61,8 @@ where
     }
 }
 
-// Returns the text of the file with this path, or of standard input. No contract says what a file holds.
+// Returns the text of the file with this path, or that of standard input if the path is `-`. No contract says what a
+// file contains.
 fn content_of<R, I, W>(
     rt: &R,
     stdin: &mut I,
@@ -81,7 +82,7 @@ where
     read_shown(rt.alloc(), file, path, size, screen)
 }
 
-// Returns the number of bytes of an open file, or 0 if the system does not say it.
+// Returns the number of bytes of an open file, or 0 if it is not known.
 fn file_size<F: OpenFile>(file: &F) -> u64 {
     match file.metadata() {
         Ok(metadata) => metadata.len(),
@@ -107,7 +108,7 @@ pub fn read_text<T: Texts>(texts: &mut T, number: usize, path: &str) -> Result<S
     }
 }
 
-// The failure of a file that cannot be opened or read.
+// Returns the failure for the file with this number, which cannot be opened or read.
 fn unreadable(number: usize, error: io::Error) -> Failure
     ensures { result ≡ input_fault number error }
 {

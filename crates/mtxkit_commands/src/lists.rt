@@ -1,4 +1,4 @@
-//! Lists of integers, and of the elements that they mean in a ring.
+//! Turns lists of integers into lists of ring elements, and back.
 
 ghost use Rattle.std.specs.Prelude.{◌≡◌, pos, All, IfOk, map};
 ghost use Rattle.sparse_coo_dense.specs.CooPlain.{plain_of_coo};
@@ -11,7 +11,7 @@ use mtxkit_texts::with_values;
 use sparse_coo_dense::coo::CooMatrix;
 use std::alloc::{AllocError, Global};
 
-/// Returns the list of the elements that integers mean.
+/// Returns the list whose values are the ring elements of these integers.
 pub fn elements_of<T: Residues>(
     alloc: Global,
     list: &CooMatrix<i128>,
@@ -23,7 +23,7 @@ pub fn elements_of<T: Residues>(
     with_values(alloc, list, elements)
 }
 
-/// Returns the list of the reduced integers that mean elements.
+/// Returns the list whose values are the reduced integers of these ring elements.
 pub fn integers_of<T: Residues>(
     alloc: Global,
     list: &CooMatrix<T>,
@@ -42,7 +42,7 @@ pub fn integers_of<T: Residues>(
     with_values(alloc, list, integers)
 }
 
-// Returns the element that each integer means.
+// Returns the ring element of each integer.
 fn each_element<T: Residues>(alloc: Global, integers: &[i128]) -> Result<Vec<T>, AllocError>
     ensures { IfOk result
         (λ elements. map T.value elements.items ≡ map (element_of T.ring) integers.now) }
@@ -54,7 +54,7 @@ fn each_element<T: Residues>(alloc: Global, integers: &[i128]) -> Result<Vec<T>,
     Ok(elements)
 }
 
-// Returns the reduced integer that means each element.
+// Returns the reduced integer of each ring element.
 fn each_integer<T: Residues>(alloc: Global, elements: &[T]) -> Result<Vec<i128>, AllocError>
     ensures meant { IfOk result
         (λ integers. map (element_of T.ring) integers.items ≡ map T.value elements.now) }

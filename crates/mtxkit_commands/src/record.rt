@@ -18,14 +18,14 @@ impl Model for Record {
 }
 
 impl Record {
-    /// Returns the record of no file.
+    /// Returns an empty record.
     pub fn new() -> Record
         ensures { result.readings ≡ [] }
     {
         Record {}
     }
 
-    /// Returns this record and what reading the file with this path gave.
+    /// Returns this record with one more file: its path, and the text or the error that reading it returned.
     pub fn with(&self, _path: &[u8], _read: &io::Result<String>) -> Record
         ensures { result.readings ≡ reading_of _path.now _read.now ∷ self.now.readings }
     {

@@ -1,4 +1,4 @@
-//! Rings of residues of the integers.
+//! Rings of residues, the integers modulo a number.
 
 ghost use Rattle.std.specs.Prelude.{◌≡◌, ◌<◌, ◌≤◌, ◌^◌, ℤ};
 ghost use Rattle.sparse_algebra.specs.Moduli.{modulus};
@@ -7,16 +7,16 @@ ghost use Rattle.mtxkit_commands.specs.Rings.{remainder, reduced64, reduced_modu
 
 use sparse_algebra::scalar::{Mod, Units, W64};
 
-/// A ring of residues of the integers.
+/// A ring of residues.
 pub trait Residues: Units {
-    // The integer that is shown for all that mean the same element.
+    // The integer that is written for all integers with the same residue.
     ghost reduced: { ℤ → ℤ };
 
-    /// Returns the element that an integer means: that many times one.
+    /// Returns the residue of an integer: the integer times one.
     fn of_integer(number: i128) -> Self
         ensures { Self.value result ≡ element_of Self.ring number };
 
-    /// Returns the reduced integer that means the element.
+    /// Returns the reduced integer of the residue.
     fn integer(self) -> i128
         ensures meant { element_of Self.ring result ≡ Self.value self }
         ensures reduced { reduced result ≡ result };
@@ -57,7 +57,7 @@ fn modulus<const M: u64>() -> u128
     if M == 0 { 1 } else { M as u128 }
 }
 
-// Returns the remainder of an integer, which is not negative.
+// Returns the remainder of an integer, from 0 to `modulus` - 1.
 fn remainder(number: i128, modulus: u128) -> u64
     requires some { 0 < modulus }
     requires small { modulus ≤ 2 ^ 64 }

@@ -1,4 +1,4 @@
-//! The answer of the command that scales decimal numbers, and the lines of its errors.
+//! The command `mtxkit integer`, which scales decimal numbers, and the lines of its errors.
 
 ghost use Rattle.std.specs.Prelude.{◌≡◌, IfOk, IfErr, Some, string_bytes};
 ghost use Rattle.mtxkit_commands.specs.Commands.{IsScaleAnswer, IsScaleError};
@@ -12,7 +12,7 @@ use mtxkit_texts::Failure;
 use sparse_io::Sink;
 use std::alloc::{AllocError, Global};
 
-/// Reads the file, and returns the text of integers that its text of decimal numbers becomes, each times 10^scale.
+/// Reads the file, and returns its text with each number multiplied by `10^scale`, as a text of integers.
 pub(crate) fn scaled_of<T: Texts>(
     alloc: Global,
     texts: &mut T,
@@ -32,7 +32,8 @@ pub(crate) fn scaled_of<T: Texts>(
     }
 }
 
-/// Writes the line of a file whose numbers are not scaled, and returns the status.
+/// Writes the line for a file whose numbers are not scaled, and returns the exit status. An error in writing the line
+/// is ignored.
 pub(crate) fn report_unscaled<E: Sink>(
     alloc: Global,
     file: &str,
@@ -47,7 +48,8 @@ pub(crate) fn report_unscaled<E: Sink>(
     1
 }
 
-// Returns the line of such a file: the program, the file, the number of its line, if one is at fault, and why.
+// Returns the line for a file whose numbers are not scaled: the program, the file, the number of the line with the
+// fault, if there is one, and the message.
 fn unscaled_line(alloc: Global, file: &str, error: ScaleError) -> Result<String, AllocError>
     ensures { IfOk result (λ line. IsErrorLine (Some file.now) (string_bytes line)) }
 {

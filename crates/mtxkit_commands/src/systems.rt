@@ -1,4 +1,4 @@
-//! Systems of matrices that texts mean.
+//! The commands `mtxkit solve` and `mtxkit check` on the texts of their files.
 
 ghost use Rattle.std.specs.Prelude.{◌≡◌, ◌⊎◌, IfOk, IfErr, IsTrue, codes, string_bytes};
 ghost use Rattle.mtxkit_commands.specs.Systems.{IsSolved, IsTested, IsSolvedBy, IsTestedBy};
@@ -17,16 +17,16 @@ use sparse_coo_dense::coo::CooMatrix;
 use sparse_io::save_to_matrix_market_str;
 use std::alloc::Global;
 
-/// Returns the text of the matrix X for which A X = B, where A and B are the matrices that two texts mean and A is
-/// symmetric. X is written column by column and each column from the top, without its zeros.
+/// Returns the text of the matrix X for which A X = B. The texts `a` and `b` are those of the symmetric matrix A and of
+/// B. X is written column by column and each column from the top, without its zeros.
 ///
-/// The integers are taken modulo a number, or modulo 2^64 if none is given.
+/// The matrices are over the integers modulo `modulus`, or modulo 2^64 if there is none.
 ///
 /// # Errors
 ///
-/// Returns `Input` or `NotSupported` if a text does not mean a matrix of integers, `Modulus` if the modulus is none of
-/// those that the program is built for, `Shapes` if A is not square or B has another number of rows, `NotSymmetric` if A
-/// is not symmetric, and `NoFactors` if A has no factorisation L D L^T. Otherwise fails only if an allocation fails.
+/// Returns `Input` or `NotSupported` if a text is not that of a matrix of integers, `Modulus` if the program is not built
+/// for the modulus, `Shapes` if A is not square or B has a different number of rows, `NotSymmetric` if A is not
+/// symmetric, and `NoFactors` if A has no factorisation L D L^T. Otherwise fails only if an allocation fails.
 pub fn solve_text(alloc: Global, modulus: Option<u64>, a: &str, b: &str) -> Result<String, Failure>
     ensures written { IfOk result
         (λ written. WritesSolution modulus a.now b.now (string_bytes written)) }
@@ -40,15 +40,15 @@ pub fn solve_text(alloc: Global, modulus: Option<u64>, a: &str, b: &str) -> Resu
     }
 }
 
-/// Returns a line that says that A X = B, where A, X and B are the matrices that three texts mean.
+/// Returns a line that says that A X = B. The texts `a`, `x` and `b` are those of A, X and B.
 ///
-/// The integers are taken modulo a number, or modulo 2^64 if none is given.
+/// The matrices are over the integers modulo `modulus`, or modulo 2^64 if there is none.
 ///
 /// # Errors
 ///
-/// Returns `Input` or `NotSupported` if a text does not mean a matrix of integers, `Modulus` if the modulus is none of
-/// those that the program is built for, `Shapes` if the shapes do not fit, and `NotSolution` if A X is another matrix.
-/// Otherwise fails only if an allocation fails.
+/// Returns `Input` or `NotSupported` if a text is not that of a matrix of integers, `Modulus` if the program is not built
+/// for the modulus, `Shapes` if the shapes do not fit, and `NotSolution` if A X differs from B. Otherwise fails only if
+/// an allocation fails.
 pub fn check_text(
     alloc: Global,
     modulus: Option<u64>,
@@ -69,7 +69,7 @@ pub fn check_text(
     }
 }
 
-// Returns the line that says that A X = B, if it is so.
+// Returns the line that says that A X = B, or `NotSolution`.
 fn said(alloc: Global, yes: bool) -> Result<String, Failure>
     ensures line { IfOk result
         (λ line. IsTrue yes × (string_bytes line ≡ codes "A X = B\n")) }
@@ -169,7 +169,7 @@ fn is_solution_in<T: Residues>(
     }
 }
 
-// Returns the failure of a command whose system has this error.
+// Returns the failure for an error of solving or testing.
 fn system_fault(error: SystemError) -> Failure
     ensures { result ≡ system_fault error }
 {

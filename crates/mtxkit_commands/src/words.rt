@@ -1,4 +1,4 @@
-//! The words of a command line.
+//! Parses the arguments of the program.
 
 ghost use Rattle.std.specs.Prelude.{◌<◌, IfOk, IfSome};
 ghost use Rattle.mtxkit_commands.specs.Commands.{IsSized};
@@ -8,14 +8,14 @@ use crate::commands::{Command, Target, Values};
 use clap::{ArgMatches, Error};
 use std::alloc::Global;
 
-/// Returns the command that the words of a command line ask for. The first word is the program's name. The size of a
-/// picture is not 0.
+/// Returns the command that the arguments give. The first argument is the program's name. The size of a picture is not
+/// 0.
 ///
-/// Returns `None` if a word that `clap` lets through is none of the command's.
+/// Returns `None` if `clap` accepts an argument that the command does not have.
 ///
 /// # Errors
 ///
-/// Returns what `clap` answers to other words, and to a request for help.
+/// Returns the error of `clap` for other arguments and for a request for help.
 pub fn parse<'a>(alloc: Global, words: &'a [String]) -> Result<Option<Command<'a>>, Error>
     ensures { IfOk result (λ parsed. IfSome parsed IsSized) }
 {
@@ -24,7 +24,7 @@ pub fn parse<'a>(alloc: Global, words: &'a [String]) -> Result<Option<Command<'a
     Ok(command_of(&matches))
 }
 
-// Returns the command that was matched.
+// Returns the command that `clap` matched.
 fn command_of<'a>(matches: &ArgMatches<'a>) -> Option<Command<'a>>
     ensures { IfSome result IsSized }
 {
@@ -65,7 +65,7 @@ fn target_of<'a>(words: &ArgMatches<'a>) -> Target<'a> {
     }
 }
 
-// The size that was given, if it is not 0, or one that fits a terminal or a page.
+// Returns the size that was given, if it is not 0, or else one that fits a terminal or a page.
 fn size_of(given: Option<usize>, target: Target<'_>) -> usize
     ensures { 0 < result }
 {

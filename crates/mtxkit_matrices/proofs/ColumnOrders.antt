@@ -1,4 +1,4 @@
--- The triplets of a dense matrix stand column by column, whichever of them are kept.
+-- The triplets of a dense matrix that pass a test are ordered column by column.
 use Rattle.std.proofs.Common.{◌≡◌, ℕ, zero, suc, ◌<◌, inl, inr, refl}
 use Rattle.std.proofs.Common.{arith, All, cond, subst, sym, ap, ◌∙◌}
 use Rattle.std.proofs.Common.{Bool, true, false, List, [], ◌∷◌, ◌++◌, map, not}
@@ -11,7 +11,7 @@ use Rattle.sparse_algebra.specs.Plain.{below}
 use Rattle.sparse_convert.proofs.DenseLanes.{all_below}
 use Rattle.mtxkit_matrices.specs.Orders.{coordinates_of, IsBefore, IsByColumns}
 
--- ---- triplets that are kept
+-- ---- triplets that pass a test
 
 module _ {T : Type 0} (keep : ℕ × ℕ × T → Bool) where
   all-kept : (P : ℕ × ℕ → Type 0) (ts : List (ℕ × ℕ × T)) → All P (coordinates_of ts)
@@ -50,7 +50,7 @@ places-append : {T : Type 0} (ts us : List (ℕ × ℕ × T))
 places-append [] us = refl
 places-append (t ∷ ts) us = ap (λ ps. (t.0, t.1) ∷ ps) (places-append ts us)
 
--- the places (i, j) of some rows, which increase
+-- the pairs (i, j) for these rows i
 abbrev in_column : ℕ → List ℕ → List (ℕ × ℕ)
 in_column j is = map {B = ℕ × ℕ} (λ i. (i, j)) is
 
@@ -77,7 +77,7 @@ rows-by_columns j (suc n) =
     (λ i lt. one-after (IsBefore (i, j)) (n, j) (inr (refl, lt))) (below n) (all_below n))))
 
 module _ {T : Type 0} (value : ℕ → ℕ → T) where
-  -- the triplets of a column of n rows, and those of m columns
+  -- the triplets of a column of n rows
   abbrev column : ℕ → ℕ → List (ℕ × ℕ × T)
   column n j = map {B = ℕ × ℕ × T} (λ i. (i, j, value i j)) (below n)
 
@@ -120,7 +120,7 @@ module _ {T : Type 0} (value : ℕ → ℕ → T) where
       (All-weaker (λ i. i < n) (λ i. IsBefore p (i, m)) (λ i row. inl lt) (below n) (all_below n)))
       (coordinates_of (columns n (below m))) (columns-below n m)))
 
--- ---- values that are not zero
+-- ---- nonzero values
 
 module _ {T : Type 0} (E : T → T → Bool) (z : T) where
   pub kept-differ : (P : T → Type 0) → ((v : T) → P v → E v z ≡ true) → (ts : List (ℕ × ℕ × T))

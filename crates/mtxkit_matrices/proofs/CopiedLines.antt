@@ -24,7 +24,7 @@ use Rattle.mtxkit_matrices.specs.InnerScaleFailures.{AreContent}
 use Rattle.mtxkit_matrices.specs.ScaledTexts.{IsSized}
 use Rattle.mtxkit_matrices.specs.InnerRewriting.{IsStep, IsCopied, IsLineWritten}
 
--- whether the first word begins a comment
+-- a line whose first word begins a comment is a comment
 pub is_commented : (line : List ℕ) {word : List ℕ} {words : List (List ℕ)} {t : Bool}
     → words_of line ≡ word ∷ words → t ≡ eqb (get_or word 0 0) 37 → t ≡ true
     → is_content (words_of line) ≡ false
@@ -42,7 +42,7 @@ pub are_content : (line : List ℕ) {word : List ℕ} {words : List (List ℕ)} 
     → AreContent (words_of line)
 are_content line e f g = record { some = λ n. cc; content = is_contained line e f g }
 
--- a line whose sizes are read is a size line, and the sizes are its
+-- a line that is read as a size line is one, with these sizes
 module _ (h : Header) (words : List (List ℕ)) (o : Option (Result Size Cause))
     (s : option_map (λ x. size_numbers x) o ≡ size_at h words) where
   sized_from : (r : Result Size Cause) → o ≡ Some r
@@ -54,13 +54,13 @@ module _ (h : Header) (words : List (List ℕ)) (o : Option (Result Size Cause))
       → (is_size words ≡ true) × IsSized h words
   sized size e = let k = sized_from (Ok size) e in (k.0, (_, sym k.1))
 
-  -- a line whose sizes are refused
+  -- a size line that is invalid below the header
   pub unsized : (cause : Cause) (fault : LineFault) → o ≡ Some (Err cause)
       → IsFaultOfKind (kind_of_cause cause) fault → IsSizesFault h words fault
   unsized cause fault e is =
       let k = sized_from (Err cause) e in inr (kind_of_cause cause, k.0, sym k.1, is)
 
-  -- a line without sizes
+  -- a line that is not a size line
   pub no_size : o ≡ None → IsSizesFault h words faults.Size
   no_size e = inl (size_none h words (sym (ap (option_map (λ x. size_numbers x)) e) ∙ s), refl)
 
@@ -70,7 +70,7 @@ comment_step scale Head words n c = absurd (n refl)
 comment_step scale (Sizes h) words n c = inl (inr c, refl, refl)
 comment_step scale (Entries h) words n c = inl (inr c, refl, refl)
 
--- what is known where a copy of the line was appended
+-- a copy of the line was appended, if the call returned `Ok`
 pub copied : (line old new : List ℕ) (stage at : Stage) → IsOneLine line
     → ((scale : ℕ) → IsStep scale stage (words_of line) at (words_of line))
     → (r : Result Stage ScaleError) → IfOk r (λ s. s ≡ at) → IfOk r (λ s. new ≡ old ++ line)

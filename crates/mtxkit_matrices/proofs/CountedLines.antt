@@ -1,4 +1,4 @@
--- The lines of a text, counted as they are read.
+-- The lines of a text are counted while they are read.
 use Rattle.std.proofs.Common.{◌≡◌, ℕ, ◌+◌, List, [], ◌∷◌, ◌++◌, length, refl, sym, ap, ◌∙◌}
 use Rattle.std.proofs.Common.{arith, inl, inr, append_assoc, append-nil, length-append}
 use Rattle.sparse_parser.specs.Grammar.{AreLines}
@@ -23,7 +23,7 @@ no_lines (line ∷ lines) (plain, inr (end, rest, is, e, others)) =
     omega (arith, length-append line (end ++ rest), length-append end rest))
 
 module _ {rest line others : List ℕ} (c : IsCut rest line others) where
-  -- the front line, and the lines behind it
+  -- the first line, and the lines below it
   pub AreLines-first_line : (next : List ℕ) (behind : List (List ℕ)) → IsEnded others next
       → AreLines next behind → AreLines rest (line ∷ behind)
   AreLines-first_line next behind (inl (o, n)) h =
@@ -33,7 +33,7 @@ module _ {rest line others : List ℕ} (c : IsCut rest line others) where
   AreLines-first_line next behind (inr (end, is, o)) h =
       (cut_plain c, inr (end, next, is, sym (cut_whole c) ∙ rw o refl, h))
 
-  -- the line of this number
+  -- the text has a line with this number
   pub has_line : {scale : ℕ} {text : List ℕ} {stage : Stage} {number : ℕ} {old : List ℕ}
       → (t : IsTextWritten scale text stage number rest old) → (n : ℕ) → n ≡ number
       → (P : List (List ℕ) → List (List ℕ) → Type 0) → P t.before (words_of line)

@@ -1,4 +1,4 @@
--- Values of numbers, by their magnitudes.
+-- The value of a decimal number from its magnitude and sign.
 use Rattle.std.proofs.Common.{◌≡◌, ℕ, ℤ, zero, suc, ◌+◌, ◌^◌, ◌<◌, ◌≤◌, Bool, true, false, not}
 use Rattle.std.proofs.Common.{Option, List, Result, Ok, Err, length, length-drop, refl}
 use Rattle.std.proofs.Common.{arith}
@@ -45,7 +45,7 @@ fits_unsigned true zero f = omega arith
 fits_unsigned true (suc m) f = let s = f.sfits in omega arith
 fits_unsigned false m f = let s = f.sfits in omega arith
 
--- what was found of the parts of a number, and of its magnitude
+-- the parts of a word, and the magnitude that was computed of these
 pub record IsFound (scale : ℕ) (word mantissa exponent : List ℕ) (behind : ℕ) (negative : Bool)
     (size part : Option ℕ) (zeros : ℕ) (r : Result ℕ Misfit) : Type 0 where
   pub mantissa_is : mantissa ≡ mantissa_of word
@@ -64,7 +64,7 @@ module _ {scale : ℕ} {word mantissa exponent : List ℕ} {behind : ℕ} {negat
   abbrev IsOf : ℕ → Type 0
   IsOf m = IsMagnitude (number_of_digits mantissa) behind scale negative f.power.magnitude m
 
-  -- the same of the word
+  -- the number of places that the value loses, by the parts of the word
   loss : places_behind (mantissa_of word) + below_zero (power_of (exponent_of word))
       ≡ behind + down negative f.power.magnitude
   loss = rw (← f.mantissa_is, ← f.exponent_is, ← f.behind_is, f.power.power, below-signed) refl

@@ -1,4 +1,4 @@
--- The places that a loop over the entries of a pattern has left.
+-- The entries of a pattern that a loop has not visited yet.
 use Rattle.std.proofs.Common.{◌≡◌, ℕ, zero, suc, ◌⊎◌, inl, inr, List, [], ◌∷◌, ◌↔◌, subst, sym}
 use Rattle.std.proofs.Common.{ap, length, refl, arith}
 use Rattle.std.specs.List.{Contains}
@@ -11,7 +11,7 @@ Contains-tail x xs y (k, lt, e) = (suc k, omega (arith, lt), e)
 Contains-head : {X : Type 0} (x : X) (xs : List X) → Contains (x ∷ xs) x
 Contains-head x xs = (zero, omega arith, refl)
 
--- what is left are places, and each other place is done
+-- the rest are entries of the pattern, and `Done` holds of every other entry
 pub record IsPartlyVisited (p : Raw) (rest : List (ℕ × ℕ)) (Done : ℕ → ℕ → Type 0) : Type 0 where
   pub places : (i j : ℕ) → Contains rest (i, j) → IsEntry p i j
   pub done : (i j : ℕ) → IsEntry p i j → Contains rest (i, j) ⊎ Done i j

@@ -16,7 +16,7 @@ use Rattle.sparse_parser.proofs.WrittenWords.{test_plain}
 use Rattle.mtxkit_matrices.specs.ScaledTexts.{is_decimal, with_integers}
 use Rattle.mtxkit_matrices.specs.InnerRewriting.{IsHead}
 
--- a line that is tested, at the format and the symmetry of an arm
+-- a literal header line is one with its format and symmetry
 pub head_at : {format : Format} {symmetry : Symmetry} (f : Format) (s : Symmetry) (line : List ℕ)
     → list_all (λ b. not (is_line_end b)) line ≡ true
     → header_of (words_of line) ≡ Some (record { format = f; field = Integer; symmetry = s })
@@ -28,7 +28,7 @@ head_at f s line plain says allowed e g =
 -- ---- which headers of decimal numbers are allowed
 
 module _ (h : Header) (d : is_decimal h.field ≡ true) where
-  -- those that are allowed with integers
+  -- if the header is allowed with the field `integer`, it is allowed
   pub decimal_allowed : is_allowed (with_integers h) ≡ true → is_allowed h ≡ true
   decimal_allowed a = by h.format h.field h.symmetry refl refl refl
     where
@@ -53,7 +53,7 @@ module _ (h : Header) (d : is_decimal h.field ≡ true) where
       by f Complex s e k l = absurd (let x : is_decimal h.field ≡ false = ap is_decimal k in cc)
       by f Pattern s e k l = absurd (let x : is_decimal h.field ≡ false = ap is_decimal k in cc)
 
-  -- no hermitian one
+  -- a header with the symmetry `hermitian` is not allowed
   pub hermitian_refused : h.symmetry ≡ Hermitian → is_allowed h ≡ false
   hermitian_refused l = by h.format h.field refl refl
     where

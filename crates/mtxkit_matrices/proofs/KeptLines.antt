@@ -1,4 +1,4 @@
--- The lines that are written stay in their places, and those that are passed over as they are.
+-- There is a written line for each line, and blank lines and comments are unchanged.
 use Rattle.std.proofs.Common.{◌≡◌, ℕ, List, [], ◌∷◌, ◌++◌, refl, ap, subst, ◌∙◌}
 use Rattle.std.proofs.Common.{inl, inr, append_assoc}
 use Rattle.std.specs.List.{AllByRecursion}
@@ -18,7 +18,7 @@ use Rattle.mtxkit_matrices.proofs.LineLists.{some_header}
 pub blank_words : (line : List ℕ) → words_of line ≡ [] → AreBlanks line
 blank_words line e = subst (AreWords line) e (words_are line)
 
--- the words of a line that is passed over
+-- the words of a blank line or a comment
 pub passed_words : (line : List ℕ) → IsBlankOrComment line → AreBlankOrComment (words_of line)
 passed_words line (inl blanks) = inl (blank_line line blanks)
 passed_words line (inr (before, rest, blanks, e)) =
@@ -29,7 +29,7 @@ blanks_more : (lines : List (List ℕ)) (line : List ℕ) → AllByRecursion Are
 blanks_more [] line h b = (b, tt)
 blanks_more (first ∷ lines) line h b = (h.0, blanks_more lines line h.1 b)
 
--- ---- one line more
+-- ---- after one more line
 
 same_more : (lines written : List (List ℕ)) (line wrote : List ℕ) → AreKept lines written
     → (IsBlankOrComment line → wrote ≡ line) → AreKept (lines ++ (line ∷ [])) (written ++ (wrote ∷ []))

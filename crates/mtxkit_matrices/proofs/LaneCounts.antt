@@ -1,4 +1,4 @@
--- Counts of lanes, by parts of a range of sizes.
+-- The counts of a histogram of lanes add up to the number of lanes.
 use Rattle.std.proofs.Common.{◌≡◌, ℕ, zero, suc, ◌+◌, ◌*◌, ◌/◌, ◌<◌, ◌≤◌, ◌&&◌, Bool, true, false}
 use Rattle.std.proofs.Common.{nat_le, nat_lt, inl, inr, refl, arith}
 use Rattle.std.proofs.Common.{List, [], ◌∷◌, ◌++◌, length, slice_index, sum, sym, ap, ◌∙◌}
@@ -10,7 +10,7 @@ use Rattle.std.proofs.Math.Nat.{lt-mul-div-succ}
 use Rattle.sparse_pattern.specs.Raw.{Raw}
 use Rattle.mtxkit_matrices.specs.Lanes.{count_below, has_size_in, size_of}
 
--- one, if the size is in the range
+-- 1 if the size is in the range, and otherwise 0
 abbrev one : ℕ → ℕ → ℕ → ℕ
 one from to size = if nat_le from size && nat_lt size to then 1 else 0
 
@@ -57,7 +57,7 @@ one_more a b n e f = omega (arith, e, f)
 sum_is : (a b c d : ℕ) → a ≡ c → b ≡ d → a + b ≡ c + d
 sum_is a b c d e f = omega (arith, e, f)
 
--- one more count at the end of a list
+-- the first k + 1 elements after a push
 pub each_push : (xs : List ℕ) (x k : ℕ) (f : ℕ → ℕ) → length xs ≡ k
     → ((b : ℕ) → b < k → slice_index xs b ≡ f b) → x ≡ f k
     → (b : ℕ) → b < k + 1 → slice_index (xs ++ x ∷ []) b ≡ f b
@@ -92,7 +92,7 @@ module _ (p : Raw) where
       one_more _ _ n (counts_all n to (λ k lt. small k (omega (arith, lt))))
       (one_in 0 to (size_of p n) (omega arith) (small n (omega arith)))
 
-  -- the lines of a histogram have room for each lane
+  -- the ten lines of a histogram cover each lane
   pub lines_all : (n longest : ℕ) → ((k : ℕ) → k < n → size_of p k ≤ longest)
       → count_below n (has_size_in p 0 (10 * (longest / 10 + 1))) ≡ n
   lines_all n longest bound = counts_all n (10 * (longest / 10 + 1))

@@ -1,4 +1,4 @@
--- A text is cut behind its front line, and read on behind the line's end.
+-- A text is split after its first line, and read on after that line's end.
 use Rattle.std.proofs.Common.{◌≡◌, ℕ, ◌+◌, ◌<◌, Bool, true, false, eqb, List, [], ◌∷◌}
 use Rattle.std.proofs.Common.{◌++◌, length, get_or, drop, refl, ap, ◌∙◌, arith, inl, inr}
 use Rattle.std.proofs.Common.{length-append}
@@ -21,7 +21,7 @@ some_end end rest (inl e) = rw e (omega arith)
 some_end end rest (inr (inl e)) = rw e (omega arith)
 some_end end rest (inr (inr e)) = rw e.0 (omega arith)
 
--- one byte, which is not a CR before an LF
+-- a line end of one byte: not a CR that an LF follows
 pub ended_one : (text rest : List ℕ) → 0 < length text → ends_line text ≡ true → rest ≡ drop 1 text
     → ¬ ((get_or text 0 0 ≡ 13) × (get_or rest 0 0 ≡ 10)) → IsEnded text rest
 ended_one [] rest lt e r apart = absurd (omega arith)
@@ -36,7 +36,7 @@ ended_one (b ∷ text) rest lt e r apart = by (eqb b 10) refl
         let is = other e f in
         inr (13 ∷ [], inr (inr (refl, λ k. apart (is, k))), rw (is, r) refl)
 
--- a CR before an LF
+-- the line end CR LF
 pub ended_two : (text rest next : List ℕ) → get_or text 0 0 ≡ 13 → rest ≡ drop 1 text
     → get_or rest 0 0 ≡ 10 → next ≡ drop 1 rest → IsEnded text next
 ended_two text rest next cr r lf n = inr (
@@ -46,7 +46,7 @@ ended_two text rest next cr r lf n = inr (
       ∙ rw (← r, n) (ap (λ (x : List ℕ). 13 ∷ x) (some_byte 10 rest (omega arith) lf)),
 )
 
--- some text after a line end
+-- a text that is empty or begins with a line end has a text after it
 pub some_next : (others : List ℕ) → ends_line others ≡ true → (next : List ℕ) × IsEnded others next
 some_next [] e = ([], inl (refl, refl))
 some_next (b ∷ text) e = by (eqb b 13) (eqb (get_or text 0 0) 10) refl refl
@@ -60,7 +60,7 @@ some_next (b ∷ text) e = by (eqb b 13) (eqb (get_or text 0 0) 10) refl refl
     by false lf f g =
         (text, ended_one (b ∷ text) text (omega arith) e refl (λ p. eqb-false _ _ f p.0))
 
--- a line end adds no line, and is left out
+-- a line end at the beginning does not change the lines that are not blank
 pub ended_same : (others next : List ℕ) → IsEnded others next → written_of others ≡ written_of next
 ended_same others next (inl (o, n)) = rw (o, n) refl
 ended_same others next (inr (end, inl e, o)) = rw (o, e) (written_of-end 10 next refl)
@@ -68,7 +68,7 @@ ended_same others next (inr (end, inr (inl e), o)) =
     rw (o, e) (written_of-end 13 (10 ∷ next) refl ∙ written_of-end 10 next refl)
 ended_same others next (inr (end, inr (inr e), o)) = rw (o, e.0) (written_of-end 13 next refl)
 
--- ---- the front line
+-- ---- the first line
 
 stopped_end : (text : List ℕ) → IsStopped is_within_line text → ends_line text ≡ true
 stopped_end [] h = refl

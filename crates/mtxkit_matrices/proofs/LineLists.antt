@@ -1,4 +1,4 @@
--- Lists of lines, as they grow by one.
+-- Lists of lines that grow by one line.
 use Rattle.std.proofs.Common.{◌≡◌, ℕ, Bool, true, List, [], ◌∷◌, ◌++◌, Some, refl, inl, inr}
 use Rattle.std.proofs.Common.{append-nil}
 use Rattle.std.specs.Prelude.{filter}
@@ -15,7 +15,7 @@ use Rattle.sparse_parser.proofs.LineShapes.{entry_nil}
 use Rattle.mtxkit_matrices.specs.ScaledTexts.{IsScaledEntry, AreScaled}
 use Rattle.mtxkit_matrices.specs.InnerRewriting.{AreBlankOrComment}
 
--- the words of a line, unless it is blank
+-- the list with the words of a line, or the empty list if the line is blank
 abbrev pub ones : List (List ℕ) → List (List (List ℕ))
 ones [] = []
 ones (word ∷ words) = (word ∷ words) ∷ []
@@ -32,7 +32,7 @@ pub ones-some : (words : List (List ℕ)) → ¬ (words ≡ []) → ones words �
 ones-some [] n = absurd (n refl)
 ones-some (word ∷ words) n = refl
 
--- a line that is blank or a comment adds no contents
+-- a blank line or a comment adds no contents
 pub nothing-more : (xs : List (List (List ℕ))) (words : List (List ℕ)) → AreBlankOrComment words
     → filter is_content (xs ++ ones words) ≡ filter is_content xs
 nothing-more xs words s = rw (filter-append is_content xs (ones words), none words s)

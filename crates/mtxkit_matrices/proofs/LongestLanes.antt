@@ -1,4 +1,4 @@
--- The greatest number of places of a lane.
+-- The number of entries of the longest lane.
 use Rattle.std.proofs.Common.{◌≡◌, ℕ, zero, suc, ◌<◌, ◌≤◌, ◌⊎◌, inl, inr, refl, subst, arith}
 use Rattle.std.specs.Prelude.{max}
 use Rattle.std.proofs.lemmas.Bool.{cases_lt}
@@ -15,7 +15,7 @@ module _ (p : Raw) where
         rw here (omega arith)
   ]
 
-  -- some lane below n has as many places, unless all are empty
+  -- a lane below n has `size` entries, or `size` is 0
   abbrev pub IsReached : ℕ → ℕ → Type 0
   IsReached n size = (size ≡ 0) ⊎ ((k : ℕ) × (k < n) × (size_of p k ≡ size))
 

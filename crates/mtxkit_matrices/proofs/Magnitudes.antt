@@ -1,4 +1,4 @@
--- Numbers times powers of ten.
+-- Natural numbers times powers of ten.
 use Rattle.std.proofs.Common.{◌≡◌, ◌≢◌, ℕ, ◌+◌, ◌-◌, ◌*◌, ◌^◌, ◌<◌, ◌≤◌, Bool, true, false, not}
 use Rattle.std.proofs.Common.{Option, Result, Ok, Err, refl, sym, ap, ◌∙◌, arith}
 use Rattle.std.specs.Prelude.{IfOk, IfErr, MatchResult}
@@ -16,19 +16,19 @@ tens k =
     let p = pow-le-pow_right {n = 10} (omega arith) {i = 0} {j = k} (omega arith) in
     omega arith
 
--- a part with zeros, and with more of them
+-- a part followed by zeros, and by more zeros
 zeros_more : (v zeros more total : ℕ) → v * 10 ^ zeros ≡ total
     → v * 10 ^ (zeros + more) ≡ total * 10 ^ more
 zeros_more v zeros more total e =
     rw (pow-add 10 zeros more, ← mul_assoc v (10 ^ zeros) (10 ^ more), e) refl
 
--- v * 10 ^ d is total times 10 ^ (gain - loss), without a division
+-- v * 10 ^ d is total * 10 ^ (gain - loss), stated without a division
 is_exact : (v zeros gain loss d total : ℕ) → v * 10 ^ zeros ≡ total → zeros + gain ≡ d + loss
     → (v * 10 ^ d) * 10 ^ loss ≡ total * 10 ^ gain
 is_exact v zeros gain loss d total e same = mul_assoc v (10 ^ d) (10 ^ loss)
     ∙ rw (← pow-add 10 d loss, ← same) (zeros_more v zeros gain total e)
 
--- a number that doesn't end in zero is no multiple of ten
+-- a number that does not end in 0, times a negative power of ten, is not an integer
 is_fraction : (v zeros gain loss total m : ℕ) → v * 10 ^ zeros ≡ total
     → ((tenth : ℕ) → v ≡ tenth * 10 → v ≡ 0) → v ≢ 0 → zeros + gain < loss
     → m * 10 ^ loss ≡ total * 10 ^ gain → ⊥
@@ -41,7 +41,7 @@ is_fraction v zeros gain loss total m e trimmed some lt f =
     parts : loss ≡ (rest + 1) + (zeros + gain)
     parts = omega arith
 
-    -- both sides without 10 ^ (zeros + gain)
+    -- the equation divided by 10 ^ (zeros + gain)
     cancelled : v ≡ m * 10 ^ (rest + 1)
     cancelled = eq_of_mul-eq-mul_right (10 ^ (zeros + gain)) (tens (zeros + gain)) v
         (m * 10 ^ (rest + 1))
@@ -52,7 +52,7 @@ is_fraction v zeros gain loss total m e trimmed some lt f =
     more : m * 10 ^ (rest + 1) ≡ (m * 10 ^ rest) * 10
     more = rw (pow_more 10 rest, ← mul_assoc m (10 ^ rest) 10) refl
 
--- many zeros make a number large, as does a part that is large
+-- a nonzero number followed by 128 or more zeros exceeds 128 bits
 is_wide : (v d : ℕ) → v ≢ 0 → 128 ≤ d → ¬ (v * 10 ^ d < 2 ^ 128)
 is_wide v d some le small =
     let p = pow-le-pow_right {n = 10} (omega arith) {i = 128} {j = d} le in
@@ -62,7 +62,7 @@ is_wide v d some le small =
 pub is_wide_part : (v d : ℕ) → ¬ (v < 2 ^ 128) → ¬ (v * 10 ^ d < 2 ^ 128)
 is_wide_part v d large small = let m = mul-le-mul_left v (tens d) in large (omega arith)
 
--- ---- what the function answers
+-- ---- the result of `shifted`
 
 up-not : (negative : Bool) (size : ℕ) → up (not negative) size ≡ down negative size
 up-not true size = refl
@@ -109,7 +109,7 @@ module _ {total : ℕ} {part : Option ℕ} {zeros : ℕ} (t : IsTrimmed total pa
     no_raised (Ok m) h = tt
     no_raised (Err why) h = rw h.0 (t.value * 10 ^ d, exact, h.1)
 
--- a power past 64 bits
+-- a power of ten whose exponent exceeds 64 bits
 pub no_extreme : {total : ℕ} {part : Option ℕ} {zeros : ℕ} (t : IsTrimmed total part zeros)
     (behind scale : ℕ) (negative : Bool) (size : ℕ) → t.value ≢ 0 → zeros < 2 ^ 63
     → behind < 2 ^ 63 → scale < 2 ^ 32 → ¬ (size < 2 ^ 64)

@@ -1,4 +1,4 @@
--- Cells that are marked.
+-- The cells that the loop of `mark` makes black.
 use Rattle.std.proofs.Common.{◌≡◌, ℕ, ◌+◌, ◌*◌, ◌/◌, ◌%◌, ◌<◌, ◌⊎◌, inl, inr, Bool}
 use Rattle.std.proofs.Common.{true, false, List, length}
 use Rattle.std.proofs.Common.{slice_index_or, slice_set, sym, ap, ◌∙◌, subst}
@@ -8,14 +8,14 @@ use Rattle.std.proofs.lemmas.Nat.{div-mul-add, mod-mul-add}
 use Rattle.sparse_pattern.specs.Raw.{Raw}
 use Rattle.mtxkit_matrices.specs.Pictures.{cell_of, HasEntryIn, IsMarked}
 
--- the cell of the pair (i, j), if there is one, is marked
+-- the cell in which (i, j) lies, if there is one, is black
 abbrev pub IsCellMarked : Raw → ℕ → ℕ → List Bool → ℕ → ℕ → Type 0
 IsCellMarked p height width cells i j =
     cell_of p.major_dim height i < height → cell_of p.minor_dim width j < width
     → slice_index_or cells (cell_of p.major_dim height i * width + cell_of p.minor_dim width j) false
     ≡ true
 
--- ---- one more mark
+-- ---- after one more cell
 
 pub set_here : (cells : List Bool) (k q : ℕ) → q ≡ k → k < length cells
     → slice_index_or (slice_set cells k true) q false ≡ true
@@ -36,7 +36,7 @@ marked_cases cells k q e = elim (cases_eq q k) [
   | inr apart ↦ inr (sym (get_or-set_other cells k q true false apart) ∙ e)
 ]
 
--- ---- the row and the column of a position
+-- ---- the row and the column of a cell's number
 
 pub HasEntryIn-from_marked : (p : Raw) (height width r c : ℕ) → c < width
     → IsMarked p height width (r * width + c) → HasEntryIn p height width r c

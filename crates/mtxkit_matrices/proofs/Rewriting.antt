@@ -1,4 +1,4 @@
--- How a text is written again, line by line.
+-- A text is written again line by line.
 use Rattle.std.proofs.Common.{◌≡◌, ℕ, ◌+◌, List, [], ◌∷◌, ◌++◌, length, map, refl, sym, ap, subst}
 use Rattle.std.proofs.Common.{◌∙◌, arith, inl, inr, append_assoc, append-nil, length-append}
 use Rattle.std.specs.Prelude.{filter}
@@ -20,7 +20,7 @@ use Rattle.mtxkit_matrices.proofs.KeptLines.{kept_more}
 use Rattle.mtxkit_matrices.proofs.LineLists.{ones, ones-some, nothing-more, one-more}
 use Rattle.mtxkit_matrices.proofs.LineLists.{all_more, scaled_more, some_header, some_size, some_entry}
 
--- ---- one line more
+-- ---- after one more line
 
 below_more : {h : Header} {read wrote others more : List (List (List ℕ))}
     → AreBelow h read wrote others more → (a b : List (List (List ℕ)))
@@ -117,7 +117,7 @@ module _ (scale : ℕ) (next : Stage) (read wrote : List (List (List ℕ)))
 
 -- ---- the text
 
--- the words of one line more
+-- the words of the lines, after one more line
 lines_more : (lines : List (List ℕ)) (line : List ℕ)
     → written_lines (lines ++ (line ∷ [])) ≡ written_lines lines ++ ones (words_of line)
 lines_more lines line = ap (filter is_some_line) (map-append words_of lines (line ∷ []))
@@ -174,7 +174,7 @@ module _ (scale : ℕ) (text : List ℕ) where
       whole more = ap (λ (x : List ℕ). (x ++ (10 ∷ [])) ++ more) w.appended
           ∙ regroup old w.written more
 
--- ---- where the whole text was read
+-- ---- after the last line
 
 module _ {scale : ℕ} {text : List ℕ} {stage : Stage} {number : ℕ} {rest written : List ℕ}
     (t : IsTextWritten scale text stage number rest written) (empty : length rest ≡ 0) where

@@ -1,4 +1,4 @@
--- The failures of lines are failures of their text.
+-- If the next line is refused, its text is refused at this line.
 use Rattle.std.proofs.Common.{◌≡◌, ℕ, List, ◌++◌, [], ◌∷◌, length, get_or, eqb, Result}
 use Rattle.std.proofs.Common.{true, refl, subst, inl, inr}
 use Rattle.std.specs.Prelude.{IfErr, filter}
@@ -44,7 +44,7 @@ module _ (scale number : ℕ) where
       (h.0, record { places = places; value = value; words_are = w; is = i; not = h.1 })
   value_failed format words places value w i e h = absurd h
 
-  -- where memory is refused, nothing is said of the line
+  -- if an allocation failed, nothing is stated about the line
   pub memory_failed : {T : Type 0} (format : Format) (words : List (List ℕ))
       (r : Result T ScaleError) → IfErr r (λ e. e ≡ errors.OutOfMemory)
       → IfErr r (IsEntryFailure scale format number words)
@@ -151,7 +151,7 @@ module _ {rest line others : List ℕ} (c : IsCut rest line others) where
     text_failed (Entries header) t e (inl m) = rw m tt
     text_failed (Entries header) t e (inr (a, h)) = entry_failed header t e a h
 
--- the text ends before its sizes
+-- the text ends before its size line
 module _ {scale : ℕ} {text : List ℕ} {number : ℕ} {rest written : List ℕ} (empty : length rest ≡ 0)
   where
     pub ends_blank : IsTextWritten scale text Head number rest written → EndsEarly text

@@ -1,4 +1,4 @@
--- Symmetric systems: what solves the system of the factors solves that of the matrix.
+-- A solution of the system with the factors is one of the system with the matrix.
 use Rattle.std.proofs.Common.{◌≡◌, ℕ, ◌<◌, inl, inr, max, ap, sym}
 use Rattle.std.proofs.Common.{◌∙◌, arith}
 use Rattle.std.proofs.lemmas.Bool.{cases_lt}
@@ -13,7 +13,7 @@ use Rattle.sparse_dense_ops.specs.Solutions.{HasSameValues}
 use Rattle.mtxkit_matrices.specs.Systems.{HasNoFactorisation}
 
 module _ (R : CommRing) where
-  -- the values are symmetric at the pairs below n
+  -- a.value i j and a.value j i agree for i, j < n
   abbrev pub IsSymmetricBelow : ℕ → Plain R → Type 0
   IsSymmetricBelow n a = (i j : ℕ) → i < n → j < n → a.value i j ≡ a.value j i
 
@@ -39,7 +39,7 @@ module _ (R : CommRing) where
       ∙ ap (λ s. sum_below R s (λ k. R.mul (f.value i k) (x.value k j))) (sym same)
       ∙ ap (λ (p : Plain R). p.value i j) solved
 
-  -- a product depends on the values of its right factor alone
+  -- a product depends only on the values of its right operand
   pub solution_same : (a x y b : Plain R) (n m : ℕ) → ((i j : ℕ) → y.value i j ≡ x.value i j)
       → HasSameValues R n m (plain_product R a x) b → HasSameValues R n m (plain_product R a y) b
   solution_same a x y b n m same solved i j row col =

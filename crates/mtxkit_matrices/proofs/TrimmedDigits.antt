@@ -1,4 +1,4 @@
--- The digits of a mantissa, read one by one: a part that does not end in zero, and zeros behind it.
+-- The digits of a mantissa, read one by one: a part that does not end in 0, followed by zeros.
 use Rattle.std.proofs.Common.{◌≡◌, ◌≢◌, ℕ, ◌+◌, ◌-◌, ◌*◌, ◌^◌, ◌≤◌, ◌<◌, true, false, List, length}
 use Rattle.std.proofs.Common.{get_or, drop, Option, Some, None, refl, sym, ap, ◌∙◌, arith}
 use Rattle.std.specs.Prelude.{filter}
@@ -12,11 +12,11 @@ use Rattle.std.proofs.Math.Nat.{pow-le-pow_right, mul-le-mul_left, mul_assoc}
 use Rattle.sparse_parser.proofs.Digits.{digit_value-digit, digit_small}
 use Rattle.mtxkit_matrices.specs.InnerDigits.{AreRead}
 
--- a number with one more zero
+-- a number followed by one more zero
 more_zeros : (n k total : ℕ) → n * 10 ^ k ≡ total → n * 10 ^ (k + 1) ≡ total * 10
 more_zeros n k total e = rw (pow_more 10 k, ← mul_assoc n (10 ^ k) 10, e) refl
 
--- ---- one byte more
+-- ---- after one more byte
 
 pub read_none : (text : List ℕ) → AreRead text 0 (Some 0) 0
 read_none text = record {
@@ -93,7 +93,7 @@ module _ {text : List ℕ} {i : ℕ} {part : Option ℕ} {zeros : ℕ} (h : AreR
         few = omega arith;
       }
 
--- ---- parts with zeros behind them
+-- ---- parts followed by zeros
 
 pub raised_next : (n k total : ℕ) → total ≡ n * 10 ^ k → total * 10 ≡ n * 10 ^ (k + 1)
 raised_next n k total e = sym (more_zeros n k total (sym e))

@@ -29,7 +29,7 @@ use Rattle.mtxkit_matrices.specs.InnerRewriting.{IsCoordinateLine, IsArrayLine}
 number_is_text : (z : ℤ) → FitsSigned w128 z → IsText (signed_decimal z)
 number_is_text z f = integer_text (signed_decimal z) (number_text w128 z f).spelled
 
--- the text of an integer of 128 bits means it
+-- the decimal text of an integer of 128 bits means this integer
 pub integer-means : (z : ℤ) → FitsSigned w128 z → integer_of (signed_decimal z) ≡ Ok z
 unfolding integer_of
 integer-means z f =
@@ -68,7 +68,7 @@ scaled_word : (scale : ℕ) (value : List ℕ) (z : ℤ) → IsScaled scale valu
     → IsScaledWord scale value (signed_decimal z)
 scaled_word scale value z s f = record { number = z; scaled = s; means = integer-means z f }
 
--- two indices and the text of a scaled value
+-- a data line in coordinate format
 pub coordinate_line : {scale : ℕ} (h : Header) (line : List ℕ) {old new : List ℕ}
     → h.format ≡ Coordinate → is_content (words_of line) ≡ true
     → IsCoordinateLine scale (words_of line) old new
@@ -96,7 +96,7 @@ coordinate_line h line f content l =
       );
     }
 
--- the text of a scaled value
+-- a data line in array format
 pub array_line : {scale : ℕ} (h : Header) (line : List ℕ) {old new : List ℕ}
     → h.format ≡ Array → is_content (words_of line) ≡ true
     → IsArrayLine scale (words_of line) old new

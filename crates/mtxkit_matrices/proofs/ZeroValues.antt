@@ -39,7 +39,7 @@ module _ (R : CommRing) {T : Type 0} (f : T → R.Carrier) (z : T) (m : Compress
 
 -- ---- differences
 
--- the value is zero at each pair outside the shape
+-- the value at each pair outside the shape is zero
 abbrev pub IsZeroOutside : (R : CommRing) → ℕ → ℕ → Plain R → Type 0
 IsZeroOutside R n m a = (i j : ℕ) → (n ≤ i) ⊎ (m ≤ j) → a.value i j ≡ R.zero
 

@@ -1,4 +1,4 @@
--- The exact values of the numbers of texts.
+-- The exact value of a decimal number.
 use Rattle.std.specs.Prelude.{◌≡◌, ℕ, ℤ, pos, negsuc, suc, ◌+◌, ◌*◌, ◌^◌, not}
 use Rattle.std.specs.Prelude.{if◌then◌else◌, List, length, drop, filter}
 use Rattle.std.specs.Char.{is_ascii_digit}
@@ -13,27 +13,27 @@ use Rattle.mtxkit_matrices.specs.declared.decimals.number.Misfit.TheVariants.{Fr
 
 -- ---- the parts of a number
 
--- the digits and the point
+-- the digits and the point, without a sign
 abbrev pub mantissa_of : List ℕ → List ℕ
 mantissa_of word = leading (λ b. not (is_exponent_letter b)) (without_leading_sign word)
 
--- the letter and the power of ten, or nothing
+-- the letter and the exponent, or nothing
 abbrev pub exponent_of : List ℕ → List ℕ
 exponent_of word = after (λ b. not (is_exponent_letter b)) (without_leading_sign word)
 
--- the number of all digits, without the point
+-- the number that the digits give without the point
 abbrev pub number_of_digits : List ℕ → ℕ
 number_of_digits mantissa = digits_value 10 (filter is_ascii_digit mantissa)
 
--- how many digits are behind the point
+-- the number of digits after the point
 abbrev pub places_behind : List ℕ → ℕ
 places_behind mantissa = length (drop 1 (after (λ b. not (is_point b)) mantissa))
 
--- the power of ten, which is 0 where there is no exponent
+-- the exponent of ten, which is 0 if none is given
 abbrev pub power_of : List ℕ → ℤ
 power_of exponent = signed_digits_value 10 (drop 1 exponent)
 
--- ---- a power as two natural numbers, of which one is 0
+-- ---- an exponent as two natural numbers, one of which is 0
 
 abbrev pub above_zero : ℤ → ℕ
 above_zero (pos n) = n
@@ -45,7 +45,7 @@ below_zero (negsuc n) = suc n
 
 -- ---- values
 
--- z is the value of the number, times 10 ^ scale
+-- z is the value of the word times 10 ^ scale
 pub record IsScaled (scale : ℕ) (word : List ℕ) (z : ℤ) : Type 0 where
   pub magnitude : ℕ
   pub sign : z ≡ (if starts_with_minus word then neg_ℤ (pos magnitude) else pos magnitude)
@@ -54,7 +54,7 @@ pub record IsScaled (scale : ℕ) (word : List ℕ) (z : ℤ) : Type 0 where
       ≡ number_of_digits (mantissa_of word)
       * 10 ^ (scale + above_zero (power_of (exponent_of word)))
 
--- no integer is the value, or one that does not fit in 128 bits
+-- the scaled value is not an integer, or an integer that does not fit in 128 bits
 abbrev pub IsMisfit : Misfit → ℕ → List ℕ → Type 0
 IsMisfit Fraction scale word = (z : ℤ) → IsScaled scale word z → ⊥
 IsMisfit Range scale word = (z : ℤ) × IsScaled scale word z × (FitsSigned w128 z → ⊥)

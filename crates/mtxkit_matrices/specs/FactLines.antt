@@ -1,4 +1,4 @@
--- The lines of facts about a matrix.
+-- The lines of `mtxkit info` about a matrix.
 use Rattle.std.specs.Prelude.{ℕ, ◌+◌, ◌-◌, ◌*◌, ◌/◌, ◌==◌, Bool, true, false, if◌then◌else◌, max}
 use Rattle.std.specs.Prelude.{List, [], ◌∷◌, ◌++◌, codes, length, replicate, slice_index}
 use Rattle.std.specs.Fmt.{decimal}
@@ -34,28 +34,28 @@ symmetry_lines s = line (codes "symmetric pattern") (answer s.has_symmetric_patt
 
 -- ---- the histogram
 
--- a blank and so many marks; nothing for no mark
+-- a blank and n marks, or nothing if n is 0
 abbrev pub marks : ℕ → List ℕ
 marks n = if n == 0 then [] else 32 ∷ replicate n 35
 
--- 40 marks for all rows
+-- the bar for `count` of `nrows` rows, of which 40 marks stand for all
 abbrev pub bar : ℕ → ℕ → List ℕ
 bar count nrows = marks (count * 40 / max nrows 1)
 
--- how many rows have `from` to `to` places, with a bar for their share of all rows
+-- the line for the rows with `from` to `to` entries: their number, and a bar for their share
 unfoldable pub bar_line : ℕ → ℕ → ℕ → ℕ → List ℕ
 bar_line from to count nrows =
     codes "  " ++ (decimal from ++ (codes " to " ++ (decimal to ++ (codes ": "
     ++ (decimal count ++ (bar count nrows ++ codes "\n"))))))
 
--- a line for each count: that of line b is of the rows with at least b times `width` places and
--- fewer than b + 1 times `width`
+-- a line for each count; count b is that of the rows with at least b * `width` and fewer than
+-- (b + 1) * `width` entries
 abbrev pub bar_lines : ℕ → List ℕ → ℕ → List ℕ
 bar_lines width counts nrows =
     flat_map (λ b. bar_line (b * width) ((b + 1) * width - 1) (slice_index counts b) nrows)
     (below (length counts))
 
--- what stands above those lines
+-- the title of the histogram
 unfoldable pub bar_title : List ℕ
 bar_title = codes "rows by their places:\n"
 

@@ -8,7 +8,7 @@ use Rattle.mtxkit_matrices.specs.Shapes.{IsBandwidth, IsSymmetricPattern}
 use Rattle.mtxkit_matrices.specs.Values.{IsSymmetricMatrix}
 use Rattle.mtxkit_matrices.specs.declared.facts.info.Info.{Info}
 
--- the facts are those of the matrix by rows, some of whose values are zero
+-- the facts are those of the CSR matrix; `is_zero` is the test for zeros among its stored values
 pub record AreFacts {T : Type 0} (R : CommRing) (f : T → R.Carrier) (is_zero : T → Bool)
     (m : Compressed T) (s : Info) : Type 0 where
   pub places : s.places ≡ length m.pattern.indices

@@ -1,4 +1,4 @@
--- Powers of ten, and numbers times powers of ten.
+-- Exponents of ten, and numbers times powers of ten.
 use Rattle.std.specs.Prelude.{◌≡◌, ℕ, ℤ, pos, ◌+◌, ◌*◌, ◌^◌, ◌<◌, Bool, true, false, Option, List}
 use Rattle.std.specs.Prelude.{if◌then◌else◌}
 use Rattle.std.specs.Option.{SomeIff}
@@ -7,7 +7,7 @@ use Rattle.mtxkit_matrices.specs.Decimals.{power_of}
 use Rattle.mtxkit_matrices.specs.declared.decimals.number.Misfit.{Misfit}
 use Rattle.mtxkit_matrices.specs.declared.decimals.number.Misfit.TheVariants.{Fraction, Range}
 
--- a number with a sign
+-- the number with this sign and magnitude
 abbrev pub signed : Bool → ℕ → ℤ
 signed is_negative magnitude = if is_negative then neg_ℤ (pos magnitude) else pos magnitude
 
@@ -30,14 +30,15 @@ abbrev pub IsMagnitude : ℕ → ℕ → ℕ → Bool → ℕ → ℕ → Type 0
 IsMagnitude total behind scale is_negative size m =
     m * 10 ^ (behind + down is_negative size) ≡ total * 10 ^ (scale + up is_negative size)
 
--- there is no such number, or one that does not fit in 128 bits
+-- no such number exists, or none that fits in 128 bits
 abbrev pub HasNoMagnitude : Misfit → ℕ → ℕ → ℕ → Bool → ℕ → Type 0
 HasNoMagnitude Fraction total behind scale is_negative size =
     (m : ℕ) → IsMagnitude total behind scale is_negative size m → ⊥
 HasNoMagnitude Range total behind scale is_negative size =
     (m : ℕ) × IsMagnitude total behind scale is_negative size m × (m < 2 ^ 128 → ⊥)
 
--- what an extreme power of ten makes of a number other than zero
+-- the misfit of a nonzero number times a power of ten whose exponent exceeds 64 bits, by the sign of
+-- the exponent
 abbrev pub extreme : Bool → Misfit
 extreme true = Fraction
 extreme false = Range

@@ -1,4 +1,4 @@
--- How far a text is written again, line by line.
+-- A text that is written again line by line: what holds after some of its lines.
 use Rattle.std.specs.Prelude.{◌≡◌, ◌⊎◌, ℕ, ℤ, ◌+◌, true, false, List, [], ◌∷◌, ◌++◌, length}
 use Rattle.std.specs.Prelude.{Some, filter}
 use Rattle.std.specs.Fmt.{signed_decimal}
@@ -23,7 +23,8 @@ use Rattle.mtxkit_matrices.specs.declared.decimals.stage.Stage.TheVariants.{Head
 abbrev pub AreBlankOrComment : List (List ℕ) → Type 0
 AreBlankOrComment words = (words ≡ []) ⊎ (is_content words ≡ false)
 
--- a line with these words is written as one with those, and the next is at this stage
+-- at this stage a line with the words `words` is written as one with the words `written`, and the
+-- next line is at stage `next`
 abbrev pub IsStep : ℕ → Stage → List (List ℕ) → Stage → List (List ℕ) → Type 0
 IsStep scale Head words next written =
     ((words ≡ []) × (written ≡ []) × (next ≡ Head))
@@ -40,7 +41,7 @@ IsStep scale (Entries h) words next written =
     × (is_entry words ≡ true) × (is_entry written ≡ true)
     × IsScaledEntry scale h.format words written)
 
--- the first line and the others below it, in the text and as they are written
+-- `others` are the contents below the header in the lines read, and `more` those in the lines written
 pub record AreBelow (h : Header) (read wrote others more : List (List (List ℕ))) : Type 0 where
   pub head : List (List ℕ)
   pub head' : List (List ℕ)
@@ -51,7 +52,7 @@ pub record AreBelow (h : Header) (read wrote others more : List (List (List ℕ)
   pub field : is_decimal h.field ≡ true
   pub allowed : is_allowed h ≡ true
 
--- the sizes and the data lines so far
+-- the contents below the header are the size line and data lines, and the written ones are scaled
 pub record AreEntries (scale : ℕ) (h : Header) (contents contents' : List (List (List ℕ))) : Type
     0 where
   pub size : List (List ℕ)
@@ -65,7 +66,7 @@ pub record AreEntries (scale : ℕ) (h : Header) (contents contents' : List (Lis
   pub listed' : list_all is_entry entries ≡ true
   pub values : AreScaled scale h.format lines entries
 
--- these lines that are not blank were read, and those were written
+-- at this stage the lines `read`, without blank lines, are written as the lines `wrote`
 abbrev pub AreRewritten : ℕ → Stage → List (List (List ℕ)) → List (List (List ℕ)) → Type 0
 AreRewritten scale Head read wrote = (read ≡ []) × (wrote ≡ [])
 AreRewritten scale (Sizes h) read wrote =
@@ -78,19 +79,19 @@ AreRewritten scale (Entries h) read wrote =
 
 -- ---- one line
 
--- the header line of integers with this format and this symmetry
+-- a header line with the field `integer`, this format and this symmetry
 pub record IsHead (format : Format) (symmetry : Symmetry) (line : List ℕ) : Type 0 where
   pub plain : IsOneLine line
   pub says : header_of (words_of line)
       ≡ Some (record { format = format; field = Integer; symmetry = symmetry })
   pub allowed : is_allowed (record { format = format; field = Integer; symmetry = symmetry }) ≡ true
 
--- a line that is blank, or a comment below the header, is written as it is
+-- a blank line, or a comment below the header, is written unchanged
 abbrev pub IsCopied : Stage → List ℕ → List ℕ → Type 0
 IsCopied Head line written = words_of line ≡ [] → written ≡ line
 IsCopied stage line written = AreBlankOrComment (words_of line) → written ≡ line
 
--- for this line one was appended, and the next is at this stage
+-- for this line a line was appended, and the next one is at stage `next`
 pub record IsLineWritten (scale : ℕ) (stage : Stage) (line : List ℕ) (next : Stage)
     (old new : List ℕ) : Type 0 where
   pub written : List ℕ
@@ -103,7 +104,7 @@ pub record IsLineWritten (scale : ℕ) (stage : Stage) (line : List ℕ) (next :
 abbrev pub coordinate_text : List ℕ → List ℕ → ℤ → List ℕ
 coordinate_text row col number = row ++ (32 ∷ (col ++ (32 ∷ signed_decimal number)))
 
--- for these words of a data line two indices and a scaled value were appended
+-- for a data line with these words, its two indices and its scaled value were appended
 pub record IsCoordinateLine (scale : ℕ) (words : List (List ℕ)) (old new : List ℕ) : Type 0 where
   pub row : List ℕ
   pub col : List ℕ
@@ -117,7 +118,7 @@ pub record IsCoordinateLine (scale : ℕ) (words : List (List ℕ)) (old new : L
   pub fits : FitsSigned w128 number
   pub appended : new ≡ old ++ coordinate_text row col number
 
--- the same of a line of a value
+-- for a data line of one value, its scaled value was appended
 pub record IsArrayLine (scale : ℕ) (words : List (List ℕ)) (old new : List ℕ) : Type 0 where
   pub value : List ℕ
   pub number : ℤ
@@ -129,12 +130,13 @@ pub record IsArrayLine (scale : ℕ) (words : List (List ℕ)) (old new : List �
 
 -- ---- the text
 
--- the lines that were written are those that were read, but for the header and what is content
+-- the lines written are the lines read, except for the header, the size line and the data lines
 abbrev pub AreLinesWritten : Stage → List (List ℕ) → List (List ℕ) → Type 0
 AreLinesWritten Head lines written = (written ≡ lines) × AllByRecursion AreBlanks lines
 AreLinesWritten stage lines written = AreKeptBelowHeader lines written
 
--- the text up to this rest, which begins with the line of this number, was read, and this is written
+-- the text above `rest`, which begins with the line of this number, was read, and `written` is what was
+-- written for it
 pub record IsTextWritten (scale : ℕ) (text : List ℕ) (stage : Stage) (number : ℕ)
     (rest written : List ℕ) : Type 0 where
   pub before : List (List ℕ)

@@ -1,4 +1,4 @@
--- Why a line is refused, by the lines that were read before it.
+-- Why a line is refused. What the line must be depends on the stage.
 use Rattle.std.specs.Prelude.{◌≡◌, ◌≢◌, ◌⊎◌, ℕ, true, false, List, []}
 use Rattle.sparse_parser.specs.declared.header.Format.{Format}
 use Rattle.sparse_parser.specs.declared.header.Header.{Header}
@@ -13,7 +13,7 @@ use Rattle.mtxkit_matrices.specs.LineFaults.{IsSizesFault}
 use Rattle.mtxkit_matrices.specs.ScaleFailures.{IsHeaderFault, HasOtherField, HasMisfit}
 use Rattle.mtxkit_matrices.specs.ScaleFailures.{is_decimal_entry}
 
--- a value of the line with this number is not taken
+-- the value in the line with this number is refused
 abbrev pub IsValueFailure : ℕ → ℕ → List ℕ → ScaleError → Type 0
 IsValueFailure scale number value (errors.Fraction n) =
     (n ≡ number) × IsMisfit misfits.Fraction scale value
@@ -21,20 +21,20 @@ IsValueFailure scale number value (errors.Range n) =
     (n ≡ number) × IsMisfit misfits.Range scale value
 IsValueFailure scale number value e = ⊥
 
--- the line with this number and these words is no header of decimal numbers
+-- the line with this number and these words is not a header of decimal numbers
 abbrev pub IsHeadFailure : ℕ → List (List ℕ) → ScaleError → Type 0
 IsHeadFailure number words (errors.Header n fault) = (n ≡ number) × IsHeaderFault words fault
 IsHeadFailure number words (errors.Field n) = (n ≡ number) × HasOtherField words
 IsHeadFailure number words errors.OutOfMemory = Unit {0}
 IsHeadFailure number words e = ⊥
 
--- it is no size line of this header
+-- the line is not a size line for this header
 abbrev pub IsSizesFailure : Header → ℕ → List (List ℕ) → ScaleError → Type 0
 IsSizesFailure h number words (errors.Sizes n fault) = (n ≡ number) × IsSizesFault h words fault
 IsSizesFailure h number words errors.OutOfMemory = Unit {0}
 IsSizesFailure h number words e = ⊥
 
--- it is no data line of this format, or has a value that is not taken
+-- the line is not a data line of this format, or its value is refused
 abbrev pub IsEntryFailure : ℕ → Format → ℕ → List (List ℕ) → ScaleError → Type 0
 IsEntryFailure scale format number words (errors.Entry n) =
     (n ≡ number) × (is_decimal_entry format words ≡ false)
@@ -45,12 +45,12 @@ IsEntryFailure scale format number words (errors.Range n) =
 IsEntryFailure scale format number words errors.OutOfMemory = Unit {0}
 IsEntryFailure scale format number words e = ⊥
 
--- the words are neither none nor a comment
+-- the words are those of a line that is neither blank nor a comment
 pub record AreContent (words : List (List ℕ)) : Type 0 where
   pub some : words ≢ []
   pub content : is_content words ≡ true
 
--- the line with this number and these words is at fault at this stage
+-- at this stage the line with this number and these words has a fault, or an allocation failed
 abbrev pub IsLineFailure : ℕ → Stage → ℕ → List (List ℕ) → ScaleError → Type 0
 IsLineFailure scale Head number words e = IsHeadFailure number words e
 IsLineFailure scale (Sizes h) number words e =

@@ -1,4 +1,4 @@
--- What is wrong with the header or the size line of a text.
+-- The faults of the header and the size line of a text.
 use Rattle.std.specs.Prelude.{◌≡◌, ◌⊎◌, ℕ, true, false, List, Err}
 use Rattle.sparse_parser.specs.declared.error.MatrixMarketErrorKind.{MatrixMarketErrorKind}
 use Rattle.sparse_parser.specs.declared.error.MatrixMarketErrorKind.TheVariants as kinds
@@ -8,8 +8,8 @@ use Rattle.sparse_parser.specs.Meaning.{sizes_of}
 use Rattle.mtxkit_matrices.specs.declared.line_faults.LineFault.{LineFault}
 use Rattle.mtxkit_matrices.specs.declared.line_faults.LineFault.TheVariants as faults
 
--- what a header or a size line with an error of this kind is said to have: a size line that is
--- invalid has the wrong numbers, or is not of a square matrix
+-- the faults that are named for a header or a size line with an error of this kind; of other kinds
+-- nothing is stated
 abbrev pub IsFaultOfKind : MatrixMarketErrorKind → LineFault → Type 0
 IsFaultOfKind kinds.InvalidHeader fault = (fault ≡ faults.Hermitian) ⊎ (fault ≡ faults.Pattern)
 IsFaultOfKind kinds.ParsingError fault =
@@ -17,7 +17,7 @@ IsFaultOfKind kinds.ParsingError fault =
 IsFaultOfKind kinds.NonSquare fault = fault ≡ faults.NotSquare
 IsFaultOfKind kind fault = Unit {0}
 
--- the words are no size line, or one that is invalid below the header
+-- the words are not a size line, or one that is invalid below this header; the fault says why
 abbrev pub IsSizesFault : Header → List (List ℕ) → LineFault → Type 0
 IsSizesFault h words fault = ((is_size words ≡ false) × (fault ≡ faults.Size))
     ⊎ ((kind : MatrixMarketErrorKind) × (is_size words ≡ true)

@@ -43,6 +43,6 @@ abbrev pub block_row_text : Bitmap → ℕ → List ℕ
 block_row_text m row = flat_map (λ col. pair_text (is_black m row col) (lower_cell m row col))
     (below m.width) ++ (10 ∷ [])
 
--- the lines from the top, two rows each; the last one of an odd number of rows has white cells below
+-- the lines from the top, two rows each; of an odd number of rows the last one has white cells below
 abbrev pub block_text : Bitmap → List ℕ
 block_text m = flat_map (λ line. block_row_text m (line * 2)) (below (m.height / 2 + m.height % 2))

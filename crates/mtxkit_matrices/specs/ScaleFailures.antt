@@ -1,4 +1,4 @@
--- Why a text is not scaled.
+-- Why the numbers of a text are not scaled.
 use Rattle.std.specs.Prelude.{◌≡◌, ◌≢◌, ◌⊎◌, ℕ, Bool, true, false, ◌&&◌, List, [], ◌∷◌, ◌++◌}
 use Rattle.std.specs.Prelude.{slice_index, Some, None}
 use Rattle.std.specs.List.{AllByRecursion}
@@ -21,12 +21,12 @@ use Rattle.mtxkit_matrices.specs.ScaledTexts.{is_decimal, IsSized, AreScaled}
 
 -- ---- lines
 
--- the text has a line with this number, and the lines above it and its words are such
+-- the text has a line with this number, and `AreSuch` holds of the lines above it and of its words
 abbrev pub HasLine : List ℕ → ℕ → (List (List ℕ) → List (List ℕ) → Type 0) → Type 0
 HasLine text number AreSuch = (line : List ℕ) × (words : List (List ℕ))
     × (l : IsLineOf text number line) × AreWords line words × AreSuch l.before words
 
--- the words of a line that is neither blank nor a comment
+-- the words are those of a line that is neither blank nor a comment
 abbrev pub IsContent : List (List ℕ) → Type 0
 IsContent [] = ⊥
 IsContent (word ∷ words) = slice_index word 0 ≢ 37
@@ -36,7 +36,8 @@ IsContent (word ∷ words) = slice_index word 0 ≢ 37
 abbrev pub AreBlankLines : List (List ℕ) → Type 0
 AreBlankLines lines = AllByRecursion AreBlanks lines
 
--- the lines have this header, which is one of decimal numbers, and these contents below it
+-- the lines have this header, which is that of a matrix of decimal numbers, and these contents below
+-- it
 pub record AreBelowHeader (lines : List (List ℕ)) (h : Header) (contents : List (List (List ℕ)))
     : Type 0 where
   pub words : List (List ℕ)
@@ -45,7 +46,7 @@ pub record AreBelowHeader (lines : List (List ℕ)) (h : Header) (contents : Lis
   pub field : is_decimal h.field ≡ true
   pub allowed : is_allowed h ≡ true
 
--- the lines have this header, and below it sizes and data lines whose values are scaled
+-- the lines have this header, and below it a size line and data lines whose values can be scaled
 pub record AreBelowSizes (scale : ℕ) (lines : List (List ℕ)) (h : Header) : Type 0 where
   pub size : List (List ℕ)
   pub read : List (List (List ℕ))
@@ -55,27 +56,28 @@ pub record AreBelowSizes (scale : ℕ) (lines : List (List ℕ)) (h : Header) : 
   pub sizes : IsSized h size
   pub values : AreScaled scale h.format read wrote
 
--- ---- what is wrong with the words of a line
+-- ---- faults of the words of a line
 
--- the words of the first line that is not blank are no header, or one that only complex numbers have
+-- the words of the first line that is not blank are not a header, or one that decimal numbers cannot
+-- have
 abbrev pub IsHeaderFault : List (List ℕ) → LineFault → Type 0
 IsHeaderFault words fault = ((words ≢ []) × (header_of words ≡ None) × (fault ≡ faults.Header))
     ⊎ ((h : Header) × (header_of words ≡ Some h) × (is_decimal h.field ≡ true)
     × (is_allowed h ≡ false) × (fault ≡ faults.Hermitian))
 
--- the words are a header of values that are not decimal numbers
+-- the words are a header whose field is not one of decimal numbers
 abbrev pub HasOtherField : List (List ℕ) → Type 0
 HasOtherField words =
     (h : Header) × (header_of words ≡ Some h) × (is_decimal h.field ≡ false)
 
--- the words of a data line: a place and a number, or a number
+-- the words are a data line: a row, a column and a number, or a number
 abbrev pub is_decimal_entry : Format → List (List ℕ) → Bool
 is_decimal_entry Coordinate (row ∷ col ∷ value ∷ []) =
     is_index row && is_index col && is_number value
 is_decimal_entry Array (value ∷ []) = is_number value
 is_decimal_entry format words = false
 
--- the words are a data line whose last word is a number that is not taken
+-- the words are a data line whose value is refused
 pub record HasMisfit (why : Misfit) (scale : ℕ) (format : Format) (words : List (List ℕ)) : Type
     0 where
   pub places : List (List ℕ)
@@ -105,12 +107,13 @@ abbrev pub HasNoValue : Misfit → ℕ → List ℕ → ℕ → Type 0
 HasNoValue why scale text n = HasLine text n (λ above words. (h : Header)
     × AreBelowSizes scale above h × IsContent words × HasMisfit why scale h.format words)
 
--- the text has only blank lines, or a header and below it blank lines and comments
+-- the text has only blank lines, or a header and below it only blank lines and comments
 abbrev pub EndsEarly : List ℕ → Type 0
 EndsEarly text = (lines : List (List ℕ)) × AreLines text lines
     × (AreBlankLines lines ⊎ ((h : Header) × AreBelowHeader lines h []))
 
--- the line with the number of the error is the first at fault, or the text ends before its sizes
+-- the line that the error names is the first with a fault, and has this one; or the text ends before
+-- its size line
 abbrev pub IsScaleFailure : ℕ → List ℕ → ScaleError → Type 0
 IsScaleFailure scale text (errors.Header n fault) = HasNoHeader text n fault
 IsScaleFailure scale text (errors.Field n) = HasWrongField text n

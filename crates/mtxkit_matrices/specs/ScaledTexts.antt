@@ -1,4 +1,4 @@
--- Texts written again with integers.
+-- Texts of decimal numbers that are written again with integers.
 use Rattle.std.specs.Prelude.{◌≡◌, ◌⊎◌, ℕ, ℤ, Bool, true, false, List, [], ◌∷◌, ◌++◌, Ok}
 use Rattle.std.specs.List.{AllByRecursion}
 use Rattle.sparse_parser.specs.declared.header.Format.{Format}
@@ -11,20 +11,20 @@ use Rattle.sparse_parser.specs.Header.{is_allowed}
 use Rattle.sparse_parser.specs.Meaning.{integer_of, Sizes, sizes_of}
 use Rattle.mtxkit_matrices.specs.Decimals.{IsScaled}
 
--- a word, and the word of the integer that is its number times 10 ^ scale
+-- `written` is the decimal text of the word's number times 10 ^ scale
 pub record IsScaledWord (scale : ℕ) (word written : List ℕ) : Type 0 where
   pub number : ℤ
   pub scaled : IsScaled scale word number
   pub means : integer_of written ≡ Ok number
 
--- a data line, and the line of the same place with that value
+-- a data line, and the line with the same row and column and the scaled value
 abbrev pub IsScaledEntry : ℕ → Format → List (List ℕ) → List (List ℕ) → Type 0
 IsScaledEntry scale Coordinate (row ∷ col ∷ value ∷ []) (row' ∷ col' ∷ written ∷ []) =
     (row' ≡ row) × (col' ≡ col) × IsScaledWord scale value written
 IsScaledEntry scale Array (value ∷ []) (written ∷ []) = IsScaledWord scale value written
 IsScaledEntry scale format line written = ⊥
 
--- the same of data lines in order
+-- the same of each data line, in order
 abbrev pub AreScaled : ℕ → Format → List (List (List ℕ)) → List (List (List ℕ)) → Type 0
 AreScaled scale format [] [] = Unit {0}
 AreScaled scale format (line ∷ lines) (entry ∷ entries) =
@@ -38,11 +38,11 @@ is_decimal Complex = false
 is_decimal Integer = true
 is_decimal Pattern = false
 
--- the words are a size line that the header takes
+-- the words are a size line for this header
 abbrev pub IsSized : Header → List (List ℕ) → Type 0
 IsSized h words = (s : Sizes) × (sizes_of h words ≡ Ok s)
 
--- the header with the field of integers
+-- the header with the field `integer`
 abbrev pub with_integers : Header → Header
 with_integers h = record { format = h.format; field = Integer; symmetry = h.symmetry }
 
@@ -51,14 +51,14 @@ abbrev pub IsBlankOrComment : List ℕ → Type 0
 IsBlankOrComment line = AreBlanks line ⊎ ((before : List ℕ) × (rest : List ℕ) × AreBlanks before
     × (line ≡ before ++ (37 ∷ rest)))
 
--- a line for each line; those of blank lines and comments are the same
+-- there is a line for each line, and blank lines and comments are unchanged
 abbrev pub AreKept : List (List ℕ) → List (List ℕ) → Type 0
 AreKept [] [] = Unit {0}
 AreKept (line ∷ lines) (written ∷ more) =
     (IsBlankOrComment line → written ≡ line) × AreKept lines more
 AreKept lines more = ⊥
 
--- the same of lines of which the first that is not blank, the header, is written anew
+-- the same of lines whose header, the first line that is not blank, may change
 pub record AreKeptBelowHeader (lines written : List (List ℕ)) : Type 0 where
   pub blank : List (List ℕ)
   pub head : List ℕ
@@ -71,7 +71,7 @@ pub record AreKeptBelowHeader (lines written : List (List ℕ)) : Type 0 where
   pub some : AreBlanks head → ⊥
   pub kept : AreKept below below'
 
--- the lines of the text stay in their places, and comments as they are
+-- the text that is written has a line for each line of the text, and its blank lines and comments
 pub record HasLinesOf (text written : List ℕ) : Type 0 where
   pub lines : List (List ℕ)
   pub lines' : List (List ℕ)
@@ -79,8 +79,8 @@ pub record HasLinesOf (text written : List ℕ) : Type 0 where
   pub wrote : AreLines written lines'
   pub kept : AreKeptBelowHeader lines lines'
 
--- a text of decimal numbers, and the text with the same sizes, places and comments whose values are
--- these numbers times 10 ^ scale
+-- a text of decimal numbers, and the text with the same sizes, rows, columns and comments whose
+-- values are these numbers times 10 ^ scale
 pub record IsScaledText (scale : ℕ) (text written : List ℕ) : Type 0 where
   pub header : Header
   pub size : List (List ℕ)

@@ -8,7 +8,7 @@ module _ (R : CommRing) where
   abbrev pub AllZero : Plain R → Type 0
   AllZero a = (i j : ℕ) → a.value i j ≡ R.zero
 
-  -- square, with the same value at (i, j) and at (j, i)
+  -- the matrix is square and has the same value at (i, j) and at (j, i)
   pub record IsSymmetricMatrix (a : Plain R) : Type 0 where
     pub square : a.cols ≡ a.rows
     pub values : (i j : ℕ) → i < a.rows → j < a.rows → a.value i j ≡ a.value j i

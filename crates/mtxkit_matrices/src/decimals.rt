@@ -1,4 +1,4 @@
-//! Decimal numbers read exactly: Matrix Market texts whose values are multiplied by a power of ten and become integers.
+//! Matrix Market texts of decimal numbers, read exactly, multiplied by a power of ten and written with integers.
 
 mod entry;
 mod error;

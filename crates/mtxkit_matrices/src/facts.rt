@@ -1,4 +1,4 @@
-//! Facts about matrices and their patterns, and the lines that say them.
+//! Facts about matrices and their patterns, and the lines of `mtxkit info` that say them.
 
 mod info;
 mod lanes;

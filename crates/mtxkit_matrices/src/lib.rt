@@ -1,5 +1,5 @@
-//! Matrices for the program `mtxkit`: facts about them and pictures of their patterns, symmetric systems, and texts of
-//! decimal numbers that become texts of integers.
+//! What the program `mtxkit` computes: facts about matrices, pictures of patterns, solutions of symmetric systems, and
+//! texts of decimal numbers scaled to integers.
 #![tactic(auto)]
 
 mod decimals;

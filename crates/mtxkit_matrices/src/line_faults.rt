@@ -1,4 +1,4 @@
-//! What is wrong with a line of a text, in words.
+//! The faults of a line of a text, and their messages.
 
 ghost use Rattle.sparse_parser.specs.Errors.{kind_of_cause};
 ghost use Rattle.mtxkit_matrices.specs.LineFaults.{IsFaultOfKind};
@@ -6,59 +6,59 @@ ghost use Rattle.mtxkit_matrices.specs.LineFaults.{IsFaultOfKind};
 use sparse_parser::error::Cause;
 use std::fmt::{self, Debug, Display, Formatter, Write};
 
-/// What is wrong with a line of a text.
+/// A fault of a line of a Matrix Market text. `Display` writes its message.
 #[derive(Clone, Copy)]
 pub enum LineFault {
-    /// The first line is no header.
+    /// The first line is not a header.
     Header,
-    /// A symmetry that the field does not have.
+    /// The field is not `complex`, and the symmetry is `hermitian`.
     Hermitian,
-    /// A format or a symmetry that a pattern does not have.
+    /// The field is `pattern`, and the format or the symmetry is one that a pattern cannot have.
     Pattern,
     /// There is no size line.
     Size,
-    /// The size line has too many or too few numbers.
+    /// The size line has the wrong number of numbers.
     SizeCount,
     /// A size is too large.
     SizeTooLarge,
     /// A matrix with a symmetry is not square.
     NotSquare,
-    /// The entries of an array cannot be counted.
+    /// The number of entries of an array does not fit in 64 bits.
     TooMany,
-    /// The number of entries is another one.
+    /// The number of entries differs: the one that the size line gives, and the one that was found.
     Count(usize, usize),
-    /// A line is no entry.
+    /// A line is not an entry.
     Entry,
-    /// An entry of a pattern has other words.
+    /// An entry of a pattern is not a row and a column.
     PlaceWords,
-    /// An entry has other words.
+    /// An entry is not a row, a column and a value of the field.
     EntryWords,
-    /// An entry of an array has other words.
+    /// An entry of an array is not one value of the field.
     ValueWords,
-    /// A row is zero.
+    /// A row index is 0.
     ZeroRow,
-    /// A column is zero.
+    /// A column index is 0.
     ZeroColumn,
-    /// A row lies outside the shape.
+    /// A row index exceeds the number of rows: both.
     Row(usize, usize),
-    /// A column lies outside the shape.
+    /// A column index exceeds the number of columns: both.
     Column(usize, usize),
-    /// An index is too large.
+    /// An index does not fit in 64 bits.
     IndexTooLarge,
-    /// A value is no integer that fits, or has none.
+    /// A value is not an integer of 128 bits.
     Value,
-    /// A pattern has no values.
+    /// A pattern is read as a matrix of integers.
     NoValue,
-    /// The mirrored value does not fit.
+    /// The negative of the value, which the symmetry implies, does not fit in 128 bits.
     Negative,
-    /// A mirrored entry is given.
+    /// An entry lies above the diagonal of a matrix with a symmetry: its row and its column.
     Above(usize, usize),
-    /// A skew-symmetric matrix has an entry on its diagonal.
+    /// An entry lies on the diagonal of a skew-symmetric matrix.
     OnDiagonal,
 }
 
 impl LineFault {
-    /// Returns what is wrong with the header or the size line, by the cause of the error.
+    /// Returns the fault of the header or the size line that causes this error.
     pub fn of_size(cause: Cause) -> LineFault
         ensures { IsFaultOfKind (kind_of_cause cause) result }
     {
@@ -73,7 +73,7 @@ impl LineFault {
         }
     }
 
-    // What is wrong, without its numbers.
+    // Returns the message, without the numbers of the fault.
     pub(crate) fn words(self) -> &'static str {
         match self {
             LineFault::Header =>

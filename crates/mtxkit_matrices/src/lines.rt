@@ -1,4 +1,4 @@
-//! The lines of a text, and their numbers.
+//! The numbers of the lines of a text.
 
 ghost use Rattle.std.specs.Prelude.{◌≡◌, ◌<◌, true, nat_eq, length, slice_index};
 ghost use Rattle.sparse_parser.specs.InnerReading.{ends_line};
@@ -7,8 +7,8 @@ ghost use Rattle.mtxkit_matrices.specs.Lines.{HasLineNumber};
 
 use sparse_parser::lines::{split_line, text_from};
 
-/// Returns the number of the line that a position of a text lies in, counted from 1. A position at the text's end lies
-/// in its last line.
+/// Returns the number, counted from 1, of the line that contains the byte offset `at`. An offset at the end of the text
+/// is in the last line. It is proved that the text has a line with this number.
 ///
 /// Linear in the text's length.
 pub fn line_number(text: &[u8], at: usize) -> usize
@@ -26,7 +26,7 @@ pub fn line_number(text: &[u8], at: usize) -> usize
     number
 }
 
-// Returns the text after the first line and its end.
+// Returns the text after the first line and its line end.
 fn after_line(text: &[u8]) -> &[u8]
     requires { 0 < length text.now }
     ensures { IsAfterLine text.now result.now }
@@ -35,7 +35,7 @@ fn after_line(text: &[u8]) -> &[u8]
     after_end(others)
 }
 
-/// Returns the text after a line end.
+/// Returns the text after the line end that it begins with, if it is not empty.
 pub(crate) fn after_end(text: &[u8]) -> &[u8]
     requires { ends_line text.now ≡ true }
     ensures { IsEnded text.now result.now }
@@ -54,7 +54,7 @@ pub(crate) fn after_end(text: &[u8]) -> &[u8]
     }
 }
 
-// Whether a text begins with LF.
+// Returns whether a text begins with LF.
 fn begins_with_lf(text: &[u8]) -> bool
     ensures { result ≡ nat_eq (slice_index text.now 0) 10 }
 {

@@ -1,4 +1,4 @@
-//! Pictures of patterns: their sizes, their cells and their texts.
+//! Pictures of patterns, as `mtxkit spy` writes them: their sizes, their cells and their texts.
 
 mod picture;
 mod scale;

@@ -1,4 +1,4 @@
-//! Symmetric systems, solved exactly, and the test of a solution.
+//! Solves symmetric systems exactly, and tests solutions.
 
 ghost use Rattle.std.specs.Prelude.{◌≡◌, ◌⊎◌, ◌↔◌, ℕ, All, Err, IfOk, IfErr, IsTrue};
 ghost use Rattle.sparse_coo_dense.specs.CooPlain.{plain_of_coo};
@@ -28,25 +28,25 @@ use sparse_factor::ldl::Ldl;
 use sparse_products::serial::mul_csr;
 use std::alloc::{AllocError, Global};
 
-/// Why a system is not solved, or a solution not tested.
+/// An error of solving a system or of testing a solution.
 #[derive(Clone, Copy, Debug)]
 pub enum SystemError {
     /// The shapes of the matrices do not fit.
     Shapes,
     /// The matrix is not symmetric.
     NotSymmetric,
-    /// The matrix has no factorisation.
+    /// The matrix has no factorisation L D L^T.
     NoFactors,
     /// An allocation failed.
     OutOfMemory,
 }
 
-/// Returns the matrix X for which A X = B, by an exact factorisation of the symmetric matrix A.
+/// Returns the matrix X for which A X = B, by the exact factorisation L D L^T of the symmetric matrix A.
 ///
 /// # Errors
 ///
-/// Returns `Shapes` exactly if A is not square or B has another number of rows, `NotSymmetric` if A differs from its
-/// transpose, and `NoFactors` if no factorisation L D L^T exists. Otherwise fails only if an allocation fails.
+/// Returns `Shapes` exactly if A is not square or B has a different number of rows, `NotSymmetric` if A differs from
+/// its transpose, and `NoFactors` if no factorisation L D L^T exists. Otherwise fails only if an allocation fails.
 pub fn solve<T: Units>(
     alloc: Global,
     a: &CooMatrix<T>,
@@ -70,7 +70,7 @@ pub fn solve<T: Units>(
     solve_fitting(alloc, a, b)
 }
 
-// Returns the matrix X for which A X = B, where the shapes fit.
+// Returns the matrix X for which A X = B. The shapes must fit.
 fn solve_fitting<T: Units>(
     alloc: Global,
     a: &CooMatrix<T>,
@@ -112,8 +112,8 @@ fn is_symmetric<T: Ring>(alloc: Global, a: &CooMatrix<T>) -> Result<bool, AllocE
     has_symmetric_values(alloc, &rows)
 }
 
-/// Returns the matrix X for which A X = B, as [`solve`] does, as a list of its values that are not zero, column by
-/// column and each column from the top.
+/// As [`solve`], but returns X as a list of triplets: its nonzero values, column by column and each column from the
+/// top.
 ///
 /// # Errors
 ///
@@ -144,7 +144,7 @@ pub fn solve_listed<T: Units>(
     }
 }
 
-// Returns the values that are not zero, column by column.
+// Returns the nonzero values as a list of triplets, column by column and each column from the top.
 fn listed<T: Ring>(alloc: Global, x: &DMatrix<T>) -> Result<CooMatrix<T>, AllocError>
     ensures rows { IfOk result (λ m. m.nrows ≡ x.now.nrows) }
     ensures cols { IfOk result (λ m. m.ncols ≡ x.now.ncols) }
@@ -157,7 +157,7 @@ fn listed<T: Ring>(alloc: Global, x: &DMatrix<T>) -> Result<CooMatrix<T>, AllocE
     convert_dense_coo(alloc, x)
 }
 
-// The error of a factorisation that is refused.
+// Returns the error for an error of the factorisation.
 fn refusal(kind: OperationErrorKind) -> SystemError
     ensures singular { result ≡ NoFactors → kind ≡ Singular }
     ensures symmetric { result ≡ NotSymmetric → ⊥ }
@@ -173,8 +173,8 @@ fn refusal(kind: OperationErrorKind) -> SystemError
 
 /// Returns whether A X = B.
 ///
-/// Fails with `Shapes` exactly if A X does not exist or has another shape than B. Otherwise fails only if an allocation
-/// fails.
+/// Returns the error `Shapes` exactly if A X does not exist or its shape differs from that of B. Otherwise fails only
+/// if an allocation fails.
 pub fn is_solution<T: Ring>(
     alloc: Global,
     a: &CooMatrix<T>,
@@ -194,7 +194,7 @@ pub fn is_solution<T: Ring>(
     Ok(has_product(alloc, a, x, b)?)
 }
 
-// Returns whether A X = B, where the shapes fit.
+// Returns whether A X = B. The shapes must fit.
 fn has_product<T: Ring>(
     alloc: Global,
     a: &CooMatrix<T>,
@@ -212,7 +212,7 @@ fn has_product<T: Ring>(
     Ok(has_same_values(alloc, &product, &right)?)
 }
 
-// Returns A X by rows, where the shapes fit.
+// Returns A X as a CSR matrix. The shapes must fit.
 fn product<T: Ring>(
     alloc: Global,
     a: &CooMatrix<T>,

@@ -12,8 +12,8 @@ use sparse_algebra::scalar::Ring;
 use sparse_csr_csc::csr::CsrMatrix;
 use std::alloc::{AllocError, Global};
 
-/// Returns the lower triangle of a symmetric matrix with its diagonal, in the same shape, or `None` exactly if the
-/// matrix is not symmetric.
+/// Returns the lower triangle of a symmetric matrix, including its diagonal, with the matrix's shape. Returns `None`
+/// exactly if the matrix is not symmetric.
 pub fn lower_of<T: Ring>(
     alloc: Global,
     matrix: &CsrMatrix<T>,

@@ -1,4 +1,4 @@
-//! Comparing the values of matrices.
+//! Compares the values of matrices, whatever their patterns are.
 
 ghost use Rattle.std.specs.Prelude.{◌≡◌, ℕ, ◌<◌, ◌↔◌, IfOk, IsTrue, count_by, length};
 ghost use Rattle.std.specs.Prelude.{slice_index_or};
@@ -14,7 +14,7 @@ use sparse_csr_csc::csr::CsrMatrix;
 use sparse_sums::sub_csr;
 use std::alloc::{AllocError, Global};
 
-/// Returns how many of the values are zero.
+/// Returns the number of values that are zero.
 pub fn count_zeros<T: Ring>(values: &[T]) -> usize
     ensures { result ≡ count_by (λ v. T.eq v T.zero_value) values.now }
 {
@@ -27,9 +27,9 @@ pub fn count_zeros<T: Ring>(values: &[T]) -> usize
     count
 }
 
-/// Returns whether two matrices of the same shape have the same values, whatever their places are.
+/// Returns whether two matrices of the same shape have the same values, whatever their patterns are.
 ///
-/// Linear in places and rows. Fails only if an allocation fails.
+/// Linear in the numbers of entries and rows. Fails only if an allocation fails.
 pub fn has_same_values<T: Ring>(
     alloc: Global,
     a: &CsrMatrix<T>,
@@ -47,9 +47,9 @@ pub fn has_same_values<T: Ring>(
     Ok(is_zero(&difference))
 }
 
-/// Returns whether a matrix is square and has the same values as its transpose, whatever its places are.
+/// Returns whether a matrix is square and has the same values as its transpose, whatever its pattern is.
 ///
-/// Linear in places, rows and columns. Fails only if an allocation fails.
+/// Linear in the numbers of entries, rows and columns. Fails only if an allocation fails.
 pub fn has_symmetric_values<T: Ring>(
     alloc: Global,
     matrix: &CsrMatrix<T>,
@@ -66,7 +66,7 @@ pub fn has_symmetric_values<T: Ring>(
     Ok(has_same_values(alloc, matrix, &transposed)?)
 }
 
-// Whether every value of the matrix is zero.
+// Returns whether every value of the matrix is zero.
 fn is_zero<T: Ring>(matrix: &CsrMatrix<T>) -> bool
     ensures zero { IsTrue result ↔ AllZero T.ring (plain_of_rows T.ring T.value matrix.now) }
     ensures sound { IsSound matrix.now }
@@ -74,7 +74,7 @@ fn is_zero<T: Ring>(matrix: &CsrMatrix<T>) -> bool
     are_zero(matrix.values())
 }
 
-// Whether each of the values is zero.
+// Returns whether every value in the list is zero.
 fn are_zero<T: Ring>(values: &[T]) -> bool
     ensures { IsTrue result
         ↔ ((k : ℕ) → k < length values.now

@@ -1,4 +1,4 @@
--- The text of a pattern, made line by line.
+-- The text of a pattern is written line by line.
 use Rattle.std.proofs.Common.{◌≡◌, ℕ, List, [], ◌∷◌, ◌++◌, sym, ap, ◌∙◌, append_assoc, append-nil}
 use Rattle.std.specs.List.{flat_map}
 use Rattle.std.proofs.lemmas.List.Concat.{flat_map-append}
@@ -9,7 +9,7 @@ module _ (d : Raw) where
   abbrev lines : List (ℕ × ℕ) → List ℕ
   lines places = flat_map entry_line places
 
-  -- the head, and the lines of the places before those that are left
+  -- the lines above the entries, and the lines of the entries before those in `left`
   pub record IsBegun (bytes : List ℕ) (left : List (ℕ × ℕ)) : Type 0 where
     pub leading : List (ℕ × ℕ)
     pub order : entries_of d ≡ leading ++ left

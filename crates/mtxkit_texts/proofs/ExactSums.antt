@@ -70,9 +70,9 @@ narrow-fits list few fit i j =
     fits-between (length list.triplets * 2 ^ 63) (omega (arith, few)) _
     (between-sums i j list.triplets fit)
 
--- ---- a matrix of sums
+-- ---- the values of a matrix of sums
 
--- the number at a position is that of the class of the sum of the integers of its place
+-- the value of an entry is, modulo 2 ^ 128, the sum of the integers with its row and column
 pub class-at : (list : Coo ℤ) (m : Compressed W128) → IsSound m → HasSums list m → (i j p : ℕ)
     (z : W128) → IsOffset m.pattern i j p
     → w128_number (slice_index_or m.values p z)
@@ -87,20 +87,20 @@ class-at list m sound sums i j p z at =
 
 module _ (list : Coo ℤ) (m : Compressed W128) (sound : IsSound m) (sums : HasSums list m)
     (fits : HasFittingSums list) where
-  -- the number at a position is the sum of the integers of its place
+  -- the value of an entry is the sum of the integers with its row and column
   pub number-at : (i j p : ℕ) (z : W128) → IsOffset m.pattern i j p
       → w128_number (slice_index_or m.values p z) ≡ (sums_of list).value i j
   number-at i j p z at =
       class-at list m sound sums i j p z at ∙ number_of-wrapped w128 _ (fits i j)
 
-  -- where the sums fit in 64 bits, so do all values
+  -- if the sums fit in 64 bits, all values do
   pub values-narrow : IsNarrow list → All (λ v. FitsSigned w64 (w128_number v)) m.values
   values-narrow narrow k d lt =
       let found = lane_of_offset m.pattern sound.valid k (omega (arith, lt, sound.count)) in
       let j = slice_index_or m.pattern.indices k 0 in
       subst (FitsSigned w64) (sym (number-at found.0 j k d (found.1, refl))) (narrow.sums found.0 j)
 
-  -- the same numbers at the same places, in another type, are the exact sums
+  -- a matrix with the same pattern and the same numbers, in another type, has the exact sums
   module _ {T : Type 0} (number : T → ℤ) (z : T) (n : Compressed T) (sound_n : IsSound n)
       (pattern : n.pattern ≡ m.pattern) (same : map number n.values ≡ map w128_number m.values) where
     number-same : (p : ℕ) (t : T) (y : W128) → p < length n.values

@@ -6,7 +6,7 @@ use Rattle.sparse_pattern.specs.Raw.{Raw}
 use Rattle.mtxkit_texts.specs.Lower.{head}
 use Rattle.mtxkit_texts.specs.PatternTexts.{pattern_text}
 
--- the text begins with the header line of a name
+-- the text begins with the header line with this field and the symmetry `general`
 abbrev pub Begins : List ℕ → List ℕ → Type 0
 Begins name text = (rest : List ℕ) × (text ≡ head name (codes " general\n") ++ rest)
 

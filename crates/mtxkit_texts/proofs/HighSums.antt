@@ -1,5 +1,5 @@
--- A sum of n integers lies between 2 ^ 64 times the sum of their high parts and n * 2 ^ 64 more, which
--- is fewer than 2 ^ 128 numbers: so its class modulo 2 ^ 128 tells which of them it is.
+-- Let h be the sum of the high parts of n integers. The sum of the integers lies between h * 2 ^ 64 and (h + n) * 2 ^
+-- 64. As these are fewer than 2 ^ 128 numbers, the residue modulo 2 ^ 128 determines the sum.
 use Rattle.std.proofs.Common.{◌≡◌, ℕ, ℤ, pos, negsuc, ◌+◌, ◌-◌, ◌^◌, ◌<◌, ◌≤ℤ◌, ◌<ℤ◌, ◌+ℤ◌, ◌*ℤ◌}
 use Rattle.std.proofs.Common.{All, Bool, true, false, List, [], ◌∷◌}
 use Rattle.std.proofs.Common.{length, map, refl, sym, ap, subst, ◌∙◌}
@@ -39,7 +39,7 @@ fits-range : (z : ℤ) → neg_ℤ (pos (2 ^ 127)) ≤ℤ z → z <ℤ pos (2 ^ 
 fits-range (pos n) from to = record { sfits = omega (arith, ints, from, to) }
 fits-range (negsuc n) from to = record { sfits = omega (arith, ints, from, to) }
 
--- what is left of z + c is what is left of c, if nothing is left of z
+-- if z is a multiple of 2 ^ 128, and c and z + c fit in 128 bits, then z is 0
 shifted : (z c : ℤ) → int_wrap w128 z ≡ pos 0 → FitsSigned w128 c → FitsSigned w128 (z +ℤ c) → z ≡ pos 0
 shifted z c none f g =
     let same : z +ℤ c ≡ pos 0 +ℤ c = sym (int_wrap_fits w128 (z +ℤ c) g)
@@ -48,7 +48,7 @@ shifted z c none f g =
     ∙ int_wrap_fits w128 (pos 0 +ℤ c) (subst (FitsSigned w128) (omega (arith, ints)) f) in
     omega (arith, ints, same)
 
--- a number of the class of zero with less than 2 ^ 128 is zero
+-- a multiple of 2 ^ 128 whose magnitude is less than 2 ^ 128 is 0
 none-left : (z : ℤ) → neg_ℤ (pos (2 ^ 128)) <ℤ z → z <ℤ pos (2 ^ 128) → int_wrap w128 z ≡ pos 0
     → z ≡ pos 0
 none-left z from to none =
@@ -61,7 +61,7 @@ none-left z from to none =
     (fits-range _ (omega (arith, ints)) (omega (arith, ints)))
     (fits-range _ (omega (arith, ints, above)) (omega (arith, ints, to)))))
 
--- a sum fits in 128 bits if and only if the number of its class is near the sum of its high parts
+-- a sum fits in 128 bits if its residue is near the sum of the high parts
 pub fits-from_near : (n : ℕ) (h s : ℤ) → n < 2 ^ 64 → IsAbove n h s → IsNear (int_wrap w128 s) h n
     → FitsSigned w128 s
 fits-from_near n h s few above near =
@@ -91,7 +91,7 @@ pub high_fits_wide : (z : ℤ) → FitsSigned w128 z → FitsSigned w128 (high_p
 high_fits_wide (pos n) f = let s = f.sfits in record { sfits = omega (arith, s) }
 high_fits_wide (negsuc n) f = let s = f.sfits in record { sfits = omega (arith, s) }
 
--- the high parts of the numbers
+-- the high parts of the values
 abbrev pub high_parts : List W128 → List ℤ
 high_parts vs = map (λ v. high_part (w128_number v)) vs
 
@@ -104,7 +104,7 @@ pub parts_of_numbers : (vs : List W128) → high_parts vs ≡ map high_part (map
 parts_of_numbers [] = refl
 parts_of_numbers (v ∷ vs) = ap (λ zs. high_part (w128_number v) ∷ zs) (parts_of_numbers vs)
 
--- ---- the triplets of a place
+-- ---- the triplets with the same row and column
 
 above-where : (b : Bool) (z : ℤ) → IsAbove 1 (where_true whole_ring b (high_part z))
     (where_true whole_ring b z)

@@ -1,4 +1,4 @@
--- The places of a list of triplets, which do not depend on its values.
+-- The rows and columns of a list of triplets do not depend on its values.
 use Rattle.std.proofs.Common.{◌≡◌, ℕ, ◌||◌, List, [], ◌∷◌, length, map, refl, ap, arith}
 use Rattle.std.specs.List.{list_any}
 use Rattle.sparse_algebra.specs.Plain.{is_at}

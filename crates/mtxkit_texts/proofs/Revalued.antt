@@ -1,4 +1,4 @@
--- Lists of triplets with other values that mean the same ring elements have one plain matrix.
+-- A list whose values are replaced by others that represent the same ring elements has the same plain matrix.
 use Rattle.std.proofs.Common.{◌≡◌, ◌<◌, List, length, map, ap, sym, ◌∙◌, refl}
 use Rattle.std.proofs.lemmas.List.{length-map}
 use Rattle.std.proofs.lemmas.List.Elements.{All-map}
@@ -10,7 +10,7 @@ use Rattle.sparse_coo_dense.proofs.TripletRuns.{zip-split}
 use Rattle.sparse_coo_dense.proofs.Meanings.{list-meant, same_length}
 
 module _ {X Y : Type 0} (list : Coo Y) (vs : List X) where
-  -- the list with these values
+  -- the list with the values `vs`
   abbrev pub revalued : Coo X
   revalued = coo_of list.nrows list.ncols
       (zip_triplets (map (λ t. t.0) list.triplets) (map (λ t. t.1) list.triplets) vs)
@@ -31,7 +31,7 @@ module _ {X Y : Type 0} (list : Coo Y) (vs : List X) where
   length-revalued R f g e = same_length R f g vs (map (λ t. t.2) list.triplets) e
       ∙ length-map list.triplets (λ t. t.2)
 
-  -- the rows and columns of a list are parts of one with other values
+  -- the rows, the columns and other values of a list are parts of a list of triplets
   pub parts-revalued : length vs ≡ length list.triplets → IsInside list
       → AreParts list.nrows list.ncols (map (λ t. t.0) list.triplets)
       (map (λ t. t.1) list.triplets) vs

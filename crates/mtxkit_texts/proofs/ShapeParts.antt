@@ -1,4 +1,4 @@
--- A text as its header line, its size line and its data lines, whatever the values are.
+-- A text determines its header, its size line and its data lines, whatever its values are.
 use Rattle.std.proofs.Common.{◌≡◌, ℕ, Bool, true, false, List, [], ◌∷◌, length, Option, Some}
 use Rattle.std.proofs.Common.{None, Ok, Err, refl, sym, ap, subst, ◌∙◌}
 use Rattle.std.specs.Prelude.{IfSome, MatchOption, filter}
@@ -75,7 +75,7 @@ begun text (b ∷ start) s stop words others e =
     let others_are : others ≡ written_of (after is_within_line (b ∷ start)) = cc in
     (first, others_are)
 
--- no text has another header, nor other contents below it
+-- a text determines its header and the contents below it
 headed_once : (text start line rest : List ℕ) → start ≡ after is_space text
     → line ≡ leading is_within_line start → rest ≡ after is_within_line start
     → (header : Header) (contents : List (List (List ℕ))) → IsHeaded text header contents
@@ -114,7 +114,7 @@ sized_text text start line rest b same l r e =
     ∙ ap (λ (x : List ℕ). words_of x ∷ contents_of (after is_within_line start)) (sym l)
     ∙ ap (λ (x : List ℕ). words_of line ∷ contents_of x) (sym r)
 
--- no text has another size line, nor other contents below it
+-- a text determines its size line and the contents below it
 sized_once : (start : List ℕ) → BeginsLine start → (size : List (List ℕ))
     (lines : List (List (List ℕ))) → contents_of start ≡ size ∷ lines
     → (size ≡ words_of (leading is_within_line start))
@@ -188,7 +188,7 @@ module _ (text start line rest : List ℕ) (begins : BeginsLine start)
       ap (λ (x : ℕ). Some x) b.entries ∙ counted_some b.lines b.listed ∙ ap count_of k.1 in
       none s.entries (ap (λ (x : Option ℕ). is_count x s.entries) (sym c) ∙ b.complete) n
 
--- what stands below a header is this shape, or there is none
+-- the contents below a header have this shape, or none
 pub shape_parts : (h : Header) (size : Size) (text start line rest : List ℕ) → BeginsLine start
     → contents_of start ≡ contents_of text → line ≡ leading is_within_line start
     → rest ≡ after is_within_line start → is_size (words_of line) ≡ true
@@ -225,7 +225,7 @@ shape_none text start line rest s l r e = λ shape is.
     let f = k.0 in
     cc
 
--- a text with this header has the shape that stands below it, or none
+-- a text with this header has the shape of the contents below it, or none
 pub shape_whole : (text start line rest : List ℕ) → start ≡ after is_space text
     → line ≡ leading is_within_line start → rest ≡ after is_within_line start → (h : Header)
     → Some h ≡ header_of (words_of line) → (r : Option Shape) → IfSome r (λ s. s.header ≡ h)

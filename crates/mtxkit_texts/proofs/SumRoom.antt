@@ -1,5 +1,5 @@
--- The sums of a matrix modulo 2 ^ 128 fit in 128 bits if and only if each is near the sum of the high
--- parts at its position.
+-- The exact sums fit in 128 bits exactly if each sum modulo 2 ^ 128 is near the sum of the high parts with its row and
+-- column.
 use Rattle.std.proofs.Common.{◌≡◌, ℕ, ℤ, pos, ◌^◌, ◌<◌, ◌↔◌, All, List, inl, inr, length, map}
 use Rattle.std.proofs.Common.{slice_index_or, refl, sym, ap, subst, ◌∙◌, arith, map-id}
 use Rattle.std.specs.Int.{w64, w128, int_wrap}
@@ -29,7 +29,7 @@ use Rattle.mtxkit_texts.proofs.HighSums.{above-sums, fits-from_near, high_parts,
 use Rattle.mtxkit_texts.proofs.HighSums.{parts_narrow, parts_of_numbers}
 use Rattle.mtxkit_texts.proofs.Revalued.{revalued, plain-revalued}
 
--- the number at a position is what is left of the sum of its place
+-- the value of an entry is the residue of the sum with its row and column
 pub left-at : (list : Coo ℤ) (m : Compressed W128) → IsSound m → HasSums list m → (i j p : ℕ)
     (z : W128) → IsOffset m.pattern i j p
     → w128_number (slice_index_or m.values p z) ≡ int_wrap w128 ((sums_of list).value i j)
@@ -37,7 +37,7 @@ left-at list m sound sums i j p z at =
     class-at list m sound sums i j p z at
     ∙ number_of-class w128 (int_wrap w128 ((sums_of list).value i j)) (SFits-int_wrap w128 _)
 
--- a list and its numbers, the list of their high parts, and the matrices of both
+-- a list, the list of its high parts, and the matrices of both
 module _ (list highs : Coo ℤ) (few : length list.triplets < 2 ^ 64) (vs : List W128)
     (same : map w128_number vs ≡ map (λ t. t.2) list.triplets)
     (is : highs ≡ revalued list (high_parts vs))

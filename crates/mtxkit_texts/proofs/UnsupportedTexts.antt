@@ -1,4 +1,4 @@
--- Texts whose values are not carried have a shape.
+-- A text whose error is that its values are real or complex has a shape.
 use Rattle.std.proofs.Common.{◌≡◌, ◌≢◌, ◌⊎◌, ℕ, Bool, true, false, List, [], ◌∷◌, length, Option, Some, None}
 use Rattle.std.proofs.Common.{Ok, Err, refl, sym, ap, ◌∙◌, inl, inr}
 use Rattle.std.specs.Prelude.{◌^◌, nat_lt}
@@ -27,7 +27,7 @@ use Rattle.mtxkit_texts.specs.Shapes.{IsUnsupported, HasNoShape}
 use Rattle.mtxkit_texts.specs.declared.failure.Failure.{Failure}
 use Rattle.mtxkit_texts.specs.declared.failure.Failure.TheVariants.{NotSupported}
 
--- ---- a text that fails so has real or complex values
+-- ---- such a text has real or complex values
 
 module _ (text : List ℕ) (n : ℕ) where
   by_field : (h : Header) (f : Field) → header_in text ≡ Some h → h.field ≡ f
@@ -66,7 +66,7 @@ module _ (text : List ℕ) (n : ℕ) where
   not_carried (inr (inl m)) = misread m.fault m.means m.is
   not_carried (inr (inr o)) = absurd (let e = o.is in cc)
 
--- ---- sizes are never refused for a type
+-- ---- sizes have no error of the kind `TypeMismatch`
 
 number_kind : (w : List ℕ)
     → (number_of w ≡ Err kinds.ParsingError) ⊎ ((n : ℕ) × (number_of w ≡ Ok n))
@@ -140,7 +140,7 @@ sizes_kind h words e = by (is_allowed h) refl
     by true f = numbered (numbers_of_size h.format h.symmetry words) f refl
     by false f = let r : sizes_of h words ≡ Err kinds.InvalidHeader = rw f refl in cc
 
--- ---- so it has a shape
+-- ---- such a text has a shape
 
 module _ (text : List ℕ) (none : HasNoShape text) where
   has_shape : (header : Header) (size : List (List ℕ)) (lines : List (List (List ℕ)))

@@ -1,4 +1,4 @@
--- Lists of integers as lists of the wrapping integers that show them.
+-- A list whose integers are replaced by values of `W128` with the same numbers.
 use Rattle.std.proofs.Common.{◌≡◌, ℤ, List, map, sym, ap, ◌∙◌, map-id}
 use Rattle.std.specs.Int.{w128}
 use Rattle.sparse_algebra.specs.Whole.{whole_ring, plain_wrapped}

@@ -1,4 +1,4 @@
--- The failures of texts that mean errors.
+-- The failures for texts that have errors.
 use Rattle.std.specs.Prelude.{◌≡◌, ℕ, Bool, true, false, List}
 use Rattle.sparse_parser.specs.declared.error.MatrixMarketErrorKind.{MatrixMarketErrorKind}
 use Rattle.sparse_parser.specs.declared.error.MatrixMarketErrorKind.TheVariants as kinds
@@ -8,18 +8,19 @@ use Rattle.mtxkit_texts.specs.declared.failure.Failure.{Failure}
 use Rattle.mtxkit_texts.specs.declared.failure.Failure.TheVariants.{Input, NotSupported, OutOfMemory}
 use Rattle.mtxkit_texts.specs.declared.locations.Location.{Location}
 
--- the failure names the text with this number, this error and a line of the text
+-- the failure names the number of the text, this kind of error and a line of the text
 abbrev pub IsInput : ℕ → List ℕ → MatrixMarketErrorKind → Failure → Type 0
 IsInput number text kind failure = (location : Location) × (HasLineNumber text location.line
     × (failure ≡ Input number kind location))
 
--- a value of a text, whose field is carried or not, does not have its type
+-- the failure for a value that does not have the type that is read; the flag tells whether the header names integers or
+-- a pattern, or no field
 abbrev pub IsMismatch : Bool → ℕ → List ℕ → Failure → Type 0
 IsMismatch true number text failure = IsInput number text kinds.TypeMismatch failure
 IsMismatch false number text failure = failure ≡ NotSupported number
 
--- the failure of the text with this number, which means this error: values are not carried only
--- where the header names real or complex ones
+-- the failure for the text with this number, which has this error; it is `NotSupported` only if the header names the
+-- field `real` or `complex`
 abbrev pub IsTextFault : ℕ → List ℕ → MatrixMarketErrorKind → Failure → Type 0
 IsTextFault number text kinds.OutOfMemory failure = failure ≡ OutOfMemory
 IsTextFault number text kinds.TypeMismatch failure =

@@ -1,4 +1,4 @@
--- The lines that say the header and the sizes of a text.
+-- The lines of `mtxkit info` for the header and the sizes of a text.
 use Rattle.std.specs.Prelude.{ℕ, List, [], ◌++◌, codes, Option, Some, None}
 use Rattle.sparse_parser.specs.declared.header.Field.{Field}
 use Rattle.sparse_parser.specs.declared.header.Field.TheVariants.{Real, Complex, Integer, Pattern}
@@ -10,7 +10,7 @@ use Rattle.sparse_parser.specs.declared.header.Symmetry.TheVariants.{General, Sy
 use Rattle.sparse_parser.specs.declared.header.Symmetry.TheVariants.{SkewSymmetric, Hermitian}
 use Rattle.mtxkit_matrices.specs.FactLines.{line, count_line}
 
--- ---- what the header says
+-- ---- the header
 
 abbrev pub format_name : Format → List ℕ
 format_name Coordinate = codes "coordinate"

@@ -1,4 +1,4 @@
--- The shape that stands below a header.
+-- The sizes of a text below its header.
 use Rattle.std.specs.Prelude.{◌≡◌, ℕ, List, ◌∷◌, length, Option, Ok, true}
 use Rattle.std.specs.List.{list_all}
 use Rattle.sparse_parser.specs.Grammar.{is_size, is_entry}
@@ -6,7 +6,7 @@ use Rattle.sparse_parser.specs.Meaning.{sizes_of, is_count}
 use Rattle.sparse_parser.specs.declared.header.Header.{Header}
 use Rattle.mtxkit_texts.specs.declared.shapes.Shape.{Shape}
 
--- these contents are a size line and as many entries as it says
+-- the contents are a size line and the number of entries that it gives, and these are the sizes
 pub record IsShapeBelow (contents : List (List (List ℕ))) (s : Shape) : Type 0 where
   pub size : List (List ℕ)
   pub lines : List (List (List ℕ))
@@ -18,7 +18,7 @@ pub record IsShapeBelow (contents : List (List (List ℕ))) (s : Shape) : Type 0
   pub complete : is_count count s.entries ≡ true
   pub entries : s.entries ≡ length lines
 
--- there is no such shape with this header
+-- no shape has this header and these contents below it
 abbrev pub HasNoShapeBelow : Header → List (List (List ℕ)) → Type 0
 HasNoShapeBelow header contents =
     (s : Shape) → s.header ≡ header → IsShapeBelow contents s → ⊥

@@ -25,7 +25,7 @@ use Rattle.mtxkit_texts.specs.declared.failure.Failure.{Failure}
 use Rattle.mtxkit_texts.specs.declared.failure.Failure.TheVariants.{OutOfMemory, Wide}
 use Rattle.mtxkit_texts.specs.declared.failure.Failure.TheVariants.{Overflow}
 
--- the integers modulo 2 ^ 64 and 2 ^ 128, and those that values mean
+-- the rings of the integers modulo 2 ^ 64 and 2 ^ 128, and the elements that values represent
 abbrev pub ring64 : CommRing
 ring64 = wrapping_ring w64
 
@@ -40,19 +40,19 @@ value128 x = class_of w128 (w128_number x)
 
 -- ---- lists
 
--- the text means this list of integers
+-- the text means this list of triplets, whose values are integers
 abbrev pub MeansIntegers : List ℕ → Coo ℤ → Type 0
 MeansIntegers text list = Means (signed_scalar w128) text (Ok list)
 
--- the sums of the integers of each place
+-- the matrix of a list, whose duplicate triplets are added
 abbrev pub sums_of : Coo ℤ → Plain whole_ring
 sums_of list = plain_of_coo whole_ring (λ z. z) list
 
--- the matrix by rows has these sums, modulo 2 ^ 128
+-- the CSR matrix has these sums, modulo 2 ^ 128
 abbrev pub HasSums : Coo ℤ → Compressed W128 → Type 0
 HasSums list m = plain_of_rows ring128 value128 m ≡ plain_wrapped w128 (sums_of list)
 
--- the matrix by rows has these sums
+-- the CSR matrix has these sums
 abbrev pub HasExactSums : Coo ℤ → Compressed W128 → Type 0
 HasExactSums list m = plain_of_rows whole_ring w128_number m ≡ sums_of list
 
@@ -60,28 +60,29 @@ HasExactSums list m = plain_of_rows whole_ring w128_number m ≡ sums_of list
 abbrev pub HasFittingSums : Coo ℤ → Type 0
 HasFittingSums list = (i j : ℕ) → FitsSigned w128 ((sums_of list).value i j)
 
--- the integers, and the sums of those of each place, fit in 64 bits
+-- the integers, and the sums of those with the same row and column, fit in 64 bits
 pub record IsNarrow (list : Coo ℤ) : Type 0 where
   pub entries : All (FitsSigned w64) (map (λ t. t.2) list.triplets)
   pub sums : (i j : ℕ) → FitsSigned w64 ((sums_of list).value i j)
 
 -- ---- matrices
 
--- the text means a list of `entries` integers, and the matrix by rows has their sums modulo 2 ^ 128
+-- the text means a list of `entries` triplets, and the CSR matrix has their sums modulo 2 ^ 128
 pub record MeansSums (text : List ℕ) (entries : ℕ) (m : Compressed W128) : Type 0 where
   pub list : Coo ℤ
   pub counted : entries ≡ length list.triplets
   pub means : MeansIntegers text list
   pub sums : HasSums list m
 
--- the same with the sums themselves
+-- the same with exact sums
 pub record MeansWholeSums (text : List ℕ) (entries : ℕ) (m : Compressed W128) : Type 0 where
   pub list : Coo ℤ
   pub counted : entries ≡ length list.triplets
   pub means : MeansIntegers text list
   pub sums : HasExactSums list m
 
--- the text means a list of `entries` places, and the matrix by rows has one at each of them
+-- the text means a list of `entries` triplets without values, and the CSR matrix has exactly their rows and columns,
+-- each with the value 1
 pub record MeansOnes {T : Type 0} (R : CommRing) (f : T → R.Carrier) (text : List ℕ) (entries : ℕ)
     (m : Compressed T) : Type 0 where
   pub list : Coo (Unit {0})
@@ -90,7 +91,7 @@ pub record MeansOnes {T : Type 0} (R : CommRing) (f : T → R.Carrier) (text : L
   pub places : HasEntriesOf list m.pattern
   pub ones : All (λ v. f v ≡ R.one) m.values
 
--- one of both, by whether the header names a pattern
+-- the one or the other, by whether the header names a pattern
 abbrev pub MeansMatrixBy : Bool → List ℕ → ℕ → Compressed W128 → Type 0
 MeansMatrixBy true text entries m = MeansOnes ring128 value128 text entries m
 MeansMatrixBy false text entries m = MeansSums text entries m
@@ -106,13 +107,13 @@ MeansWholeBy false text entries m = MeansWholeSums text entries m
 abbrev pub MeansWhole : List ℕ → ℕ → Compressed W128 → Type 0
 MeansWhole text entries m = MeansWholeBy (is_pattern (header_in text)) text entries m
 
--- the text means a list of integers, and the matrix by rows, of 64 bits, has their exact sums
+-- the text means a list of integers, and the CSR matrix with values of 64 bits has their exact sums
 pub record MeansExactSums (text : List ℕ) (m : Compressed W64) : Type 0 where
   pub list : Coo ℤ
   pub means : MeansIntegers text list
   pub sums : plain_of_rows whole_ring w64_number m ≡ sums_of list
 
--- the same, or one at each place of a pattern
+-- the same, or the value 1 for each entry if the header names a pattern
 abbrev pub MeansValuesBy : Bool → List ℕ → Compressed W64 → Type 0
 MeansValuesBy true text m = (entries : ℕ) × MeansOnes ring64 value64 text entries m
 MeansValuesBy false text m = MeansExactSums text m
@@ -120,48 +121,48 @@ MeansValuesBy false text m = MeansExactSums text m
 abbrev pub MeansValues : List ℕ → Compressed W64 → Type 0
 MeansValues text m = MeansValuesBy (is_pattern (header_in text)) text m
 
--- ---- texts without a matrix
+-- ---- texts that have errors
 
--- what is read of a text, by whether its header names a pattern
+-- the type of the values that are read, by whether the header names a pattern
 abbrev pub scalar_read : Bool → Scalar
 scalar_read true = pattern_scalar
 scalar_read false = signed_scalar w128
 
--- the text with this number, read as these scalars, means the error that the failure names
+-- the text with this number, read with values of this type, has an error, and the failure is the one for it
 pub record IsRefused (S : Scalar) (number : ℕ) (text : List ℕ) (failure : Failure) : Type 0 where
   pub fault : MatrixMarketErrorKind
   pub means : Means S text (Err fault)
   pub is : IsTextFault number text fault failure
 
--- the same, read as the field that its header names
+-- the same, read with values of the field that its header names
 abbrev pub IsMisread : ℕ → List ℕ → Failure → Type 0
 IsMisread number text failure =
     IsRefused (scalar_read (is_pattern (header_in text))) number text failure
 
--- an integer of the text with this number, or the sum of those of a place, leaves 64 bits
+-- an integer of the text with this number, or a sum of those with the same row and column, does not fit in 64 bits
 pub record IsWide (number : ℕ) (text : List ℕ) (failure : Failure) : Type 0 where
   pub list : Coo ℤ
   pub means : MeansIntegers text list
   pub wide : IsNarrow list → ⊥
   pub is : failure ≡ Wide number
 
--- the sum of the integers of some place of the text with this number does not fit in 128 bits
+-- a sum of integers with the same row and column in the text with this number does not fit in 128 bits
 pub record IsOverflow (number : ℕ) (text : List ℕ) (failure : Failure) : Type 0 where
   pub list : Coo ℤ
   pub means : MeansIntegers text list
   pub left : HasFittingSums list → ⊥
   pub is : failure ≡ Overflow number
 
--- why the text with this number is not loaded: an allocation failed, or the text means an error
+-- why `load` fails for the text with this number: an allocation failed, or the text has an error
 abbrev pub IsLoadFailure : ℕ → List ℕ → Failure → Type 0
 IsLoadFailure number text failure = (failure ≡ OutOfMemory) ⊎ IsMisread number text failure
 
--- why its values are not: the same, or they leave 64 bits
+-- why `load_values` fails: the same, or a value does not fit in 64 bits
 abbrev pub IsValuesFailure : ℕ → List ℕ → Failure → Type 0
 IsValuesFailure number text failure =
     (failure ≡ OutOfMemory) ⊎ (IsMisread number text failure ⊎ IsWide number text failure)
 
--- why its exact sums are not: the same as for a text, or one does not fit in 128 bits
+-- why `load_exact` fails: the same as for `load`, or a sum does not fit in 128 bits
 abbrev pub IsWholeFailure : ℕ → List ℕ → Failure → Type 0
 IsWholeFailure number text failure =
     (failure ≡ OutOfMemory) ⊎ (IsMisread number text failure ⊎ IsOverflow number text failure)

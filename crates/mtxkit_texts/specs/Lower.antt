@@ -1,4 +1,4 @@
--- Lower triangles of symmetric matrices, written in symmetric form.
+-- The text of `mtxkit symmetric`.
 use Rattle.std.specs.Prelude.{◌≡◌, ◌≢◌, ◌⊎◌, ℕ, ℤ, List, ◌++◌, codes, Option, Some, None, Ok}
 use Rattle.std.specs.Prelude.{Bool, true, false}
 use Rattle.std.specs.List.{filter}
@@ -24,17 +24,17 @@ use Rattle.mtxkit_texts.specs.Headers.{header_in, is_mirrored}
 use Rattle.mtxkit_texts.specs.Rewritten.{IsIntegerText, IsPatternText}
 use Rattle.mtxkit_texts.specs.Rewritten.{WritesIntegers, WritesPattern}
 
--- the header line of a name and of what it says last
+-- the header line with this field and this symmetry
 abbrev pub head : List ℕ → List ℕ → List ℕ
 head name last = codes "%%matrixmarket matrix coordinate " ++ (name ++ last)
 
--- the same text, but for a header line that says `symmetric` in place of `general`
+-- two texts that differ only in the symmetry of the header line: `general` and `symmetric`
 pub record IsSymmetricForm (name general symmetric : List ℕ) : Type 0 where
   pub rest : List ℕ
   pub from : general ≡ head name (codes " general\n") ++ rest
   pub to : symmetric ≡ head name (codes " symmetric\n") ++ rest
 
--- the text of a lower triangle with its values, in symmetric form
+-- the text of a lower triangle with its values, whose header line says `symmetric`
 abbrev pub IsSymmetricIntegers : Compressed W64 → List ℕ → Type 0
 IsSymmetricIntegers lower written = (general : List ℕ)
     × (IsIntegerText lower general × IsSymmetricForm (codes "integer") general written)
@@ -44,14 +44,14 @@ abbrev pub IsSymmetricPattern : Raw → List ℕ → Type 0
 IsSymmetricPattern lower written = (general : List ℕ)
     × (IsPatternText lower general × IsSymmetricForm (codes "pattern") general written)
 
--- the matrix is symmetric, and the other one has its shape and its places on and below the diagonal
+-- the matrix is symmetric, and `lower` has its shape and its entries on and below the diagonal
 pub record IsLowerOf {T : Type 0} (R : CommRing) (f : T → R.Carrier) (matrix lower : Compressed T)
     : Type 0 where
   pub is : IsSymmetricMatrix R (plain_of_rows R f matrix)
   pub sizes : HasShapeOf matrix lower
   pub kept : lane_triplets lower ≡ filter is_lower (lane_triplets matrix)
 
--- the lower triangle of the symmetric pattern that the text means, in symmetric form
+-- the text of the lower triangle of the symmetric pattern that the text means
 pub record WritesLowerPattern (text written : List ℕ) : Type 0 where
   pub entries : ℕ
   pub matrix : Compressed W128
@@ -60,7 +60,7 @@ pub record WritesLowerPattern (text written : List ℕ) : Type 0 where
   pub part : IsLowerOf ring128 value128 matrix lower
   pub form : IsSymmetricPattern lower.pattern written
 
--- the lower triangle of the symmetric matrix that the text means, with its values, in symmetric form
+-- the text of the lower triangle of the symmetric matrix that the text means, with its values
 pub record WritesLowerIntegers (text written : List ℕ) : Type 0 where
   pub matrix : Compressed W64
   pub lower : Compressed W64
@@ -68,7 +68,7 @@ pub record WritesLowerIntegers (text written : List ℕ) : Type 0 where
   pub part : IsLowerOf ring64 value64 matrix lower
   pub form : IsSymmetricIntegers lower written
 
--- a file of patterns stays one, and any other has integers
+-- the same, as a pattern if the field is `pattern`, and otherwise with integers
 abbrev pub WritesLower : Field → List ℕ → List ℕ → Type 0
 WritesLower Pattern text written = WritesLowerPattern text written
 WritesLower field text written = WritesLowerIntegers text written
@@ -77,12 +77,12 @@ abbrev pub WritesField : Field → List ℕ → List ℕ → Type 0
 WritesField Pattern text written = WritesPattern text written
 WritesField field text written = WritesIntegers text written
 
--- all entries of a text, or the lower triangle
+-- the text of all entries, or that of the lower triangle
 abbrev pub WritesAll : Bool → Field → List ℕ → List ℕ → Type 0
 WritesAll true field text written = WritesField field text written
 WritesAll false field text written = WritesLower field text written
 
--- all entries of a text whose header names a symmetry, or the lower triangle
+-- the text of all entries if the header names a symmetry, and otherwise that of the lower triangle
 abbrev pub SymmetrisedUnder : Header → List ℕ → List ℕ → Type 0
 SymmetrisedUnder h text written = WritesAll (is_mirrored h.symmetry) h.field text written
 
@@ -114,7 +114,7 @@ abbrev pub MeansUnsymmetricOf : Field → List ℕ → Type 0
 MeansUnsymmetricOf Pattern text = MeansUnsymmetricPattern text
 MeansUnsymmetricOf field text = MeansUnsymmetricIntegers text
 
--- this header names no symmetry, and the matrix that the text means is not symmetric
+-- the header names no symmetry, and the matrix that the text means is not symmetric
 abbrev pub MeansUnsymmetricBy : Header → List ℕ → Type 0
 MeansUnsymmetricBy h text =
     (is_mirrored h.symmetry ≡ false) × MeansUnsymmetricOf h.field text
@@ -123,16 +123,16 @@ abbrev pub MeansUnsymmetricUnder : Option Header → List ℕ → Type 0
 MeansUnsymmetricUnder (Some h) text = MeansUnsymmetricBy h text
 MeansUnsymmetricUnder None text = ⊥
 
--- the text has a header, which names no symmetry, and the matrix that it means is not symmetric
+-- the text has a header that names no symmetry, and the matrix that it means is not symmetric
 abbrev pub MeansUnsymmetric : List ℕ → Type 0
 MeansUnsymmetric text = MeansUnsymmetricUnder (header_in text) text
 
--- why a text with this header is not expanded, nor written in symmetric form
+-- why `symmetric_text` fails for a text with this header
 abbrev pub IsHeaderFailure : Header → List ℕ → Failure → Type 0
 IsHeaderFailure h text failure =
     IsValuesFailure 1 text failure ⊎ ((failure ≡ NotSymmetric) × MeansUnsymmetricBy h text)
 
--- the same, by the header of the text
+-- why `symmetric_text` fails
 abbrev pub IsSymmetricFailure : List ℕ → Failure → Type 0
 IsSymmetricFailure text failure =
     IsValuesFailure 1 text failure ⊎ ((failure ≡ NotSymmetric) × MeansUnsymmetric text)

@@ -1,11 +1,11 @@
--- The texts of patterns.
+-- The text of a pattern.
 use Rattle.std.specs.Prelude.{ℕ, ◌+◌, List, [], ◌∷◌, ◌++◌, codes, length}
 use Rattle.std.specs.List.{flat_map}
 use Rattle.std.specs.Fmt.{decimal}
 use Rattle.sparse_io.specs.Written.{heading, size_line}
 use Rattle.sparse_pattern.specs.Raw.{Raw, entries_of}
 
--- a row and a column, counted from 1, and a line end; no blank stands before it
+-- a row and a column, counted from 1, and a line end, without a blank before it
 unfoldable pub entry_line : ℕ × ℕ → List ℕ
 entry_line p = decimal (p.0 + 1) ++ (32 ∷ (decimal (p.1 + 1) ++ (10 ∷ [])))
 

@@ -1,4 +1,4 @@
--- Texts that are written of a text's matrix.
+-- The text of `mtxkit field`.
 use Rattle.std.specs.Prelude.{◌≡◌, ℕ, List, codes}
 use Rattle.std.specs.Fmt.{signed_decimal}
 use Rattle.sparse_algebra.specs.Numbers.{w64_number}
@@ -11,7 +11,7 @@ use Rattle.sparse_pattern.specs.Raw.{Raw}
 use Rattle.mtxkit_texts.specs.Loaded.{MeansMatrix, MeansValues}
 use Rattle.mtxkit_texts.specs.PatternTexts.{pattern_text}
 
--- the triplets of a matrix by rows, row by row
+-- the triplets of a CSR matrix, row by row
 abbrev pub listed : {T : Type 0} → Compressed T → Coo T
 listed m = coo_of m.pattern.major_dim m.pattern.minor_dim (lane_triplets m)
 
@@ -24,12 +24,12 @@ IsIntegerText m written =
 abbrev pub IsPatternText : Raw → List ℕ → Type 0
 IsPatternText pattern written = written ≡ pattern_text pattern
 
--- the matrix that the text means, written with its values
+-- the text of the matrix that the text means, with its values
 abbrev pub WritesIntegers : List ℕ → List ℕ → Type 0
 WritesIntegers text written =
     (m : Compressed W64) × (MeansValues text m × IsIntegerText m written)
 
--- the matrix that the text means, written without values
+-- the text of the pattern of the matrix that the text means
 abbrev pub WritesPattern : List ℕ → List ℕ → Type 0
 WritesPattern text written = (entries : ℕ) × ((m : Compressed W128)
     × (MeansMatrix text entries m × IsPatternText m.pattern written))

@@ -1,4 +1,4 @@
--- Pictures of the patterns of texts.
+-- The text of `mtxkit spy`.
 use Rattle.std.specs.Prelude.{◌≡◌, ℕ, ◌<◌, ◌≤◌, ◌↔◌, IsTrue, List}
 use Rattle.sparse_algebra.specs.declared.scalar.wide.W128.{W128}
 use Rattle.sparse_compressed.specs.Compressed.{Compressed}
@@ -7,8 +7,8 @@ use Rattle.mtxkit_matrices.specs.PictureTexts.{bitmap_text, block_text}
 use Rattle.mtxkit_matrices.specs.PictureSizes.{picture_sizes}
 use Rattle.mtxkit_texts.specs.Loaded.{MeansMatrix}
 
--- the picture has the sizes of one of the text's matrix whose sides have at most `size` cells; a cell
--- is black exactly where a place of the matrix lies in it
+-- the picture of the pattern of the text's matrix, whose sides have at most `size` cells; a cell is black exactly if an
+-- entry lies in it
 pub record IsPictureOf (text : List ℕ) (size : ℕ) (picture : Bitmap) : Type 0 where
   pub entries : ℕ
   pub matrix : Compressed W128

@@ -1,4 +1,4 @@
-//! Whether sums that were taken modulo 2^128 are the sums themselves.
+//! Tests whether sums modulo 2^128 are the exact sums.
 
 ghost use Rattle.std.specs.Prelude.{◌≡◌, ◌↔◌, IfOk, IsTrue, length, map};
 ghost use Rattle.sparse_algebra.specs.WrappingValues.{w128_number};
@@ -13,10 +13,12 @@ use sparse_coo_dense::coo::CooMatrix;
 use sparse_csr_csc::csr::CsrMatrix;
 use std::alloc::{AllocError, Global};
 
-// Whether the sum of the integers of each place fits in 128 bits. `sums` are those modulo 2^128.
+// Returns whether, for each (row, column) of the list, the sum of its integers fits in 128 bits. `sums` has these sums
+// modulo 2^128.
 //
-// The high part of an integer is the integer divided by 2^64, rounded down. So a sum of n integers lies between 2^64 times
-// the sum of their high parts and n * 2^64 more: fewer than 2^128 numbers, of which one has the class of the sum.
+// The high part of an integer is the integer divided by 2^64, rounded down. Let h be the sum of the high parts of n
+// integers. The sum of the integers is between h * 2^64 and (h + n) * 2^64. As these are fewer than 2^128 numbers, the
+// residue modulo 2^128 determines the sum.
 pub(crate) fn sums_fit(
     alloc: Global,
     list: &CooMatrix<i128>,
@@ -35,7 +37,7 @@ pub(crate) fn sums_fit(
     Ok(are_near(sums.values(), highs.values(), list.nnz()))
 }
 
-// Returns the high part of each integer.
+// Returns the high parts of the integers.
 fn high_parts(alloc: Global, integers: &[W128]) -> Result<Vec<i128>, AllocError>
     ensures { IfOk result
         (λ parts. parts.items ≡ map (λ v. high_part (w128_number v)) integers.now) }
@@ -47,14 +49,14 @@ fn high_parts(alloc: Global, integers: &[W128]) -> Result<Vec<i128>, AllocError>
     Ok(parts)
 }
 
-// Returns an integer divided by 2^64, rounded down.
+// Returns the high part of an integer: the integer divided by 2^64, rounded down.
 fn high_of(integer: i128) -> i128
     ensures { result ≡ high_part integer }
 {
     integer >> 64
 }
 
-// Whether the high part of each sum is the number at its position, or at most `entries` more.
+// Returns whether the high part of each sum k is between `highs[k]` and `highs[k] + entries`.
 fn are_near(sums: &[W128], highs: &[W128], entries: usize) -> bool
     requires { length highs.now ≡ length sums.now }
     ensures { IsTrue result ↔ AreNear sums.now highs.now entries }
@@ -67,7 +69,7 @@ fn are_near(sums: &[W128], highs: &[W128], entries: usize) -> bool
     true
 }
 
-// Whether the high part of a sum is this number, or at most `entries` more.
+// Returns whether the high part of a sum is between `high` and `high + entries`.
 fn is_near(sum: i128, high: i128, entries: usize) -> bool
     ensures { IsTrue result ↔ IsNear sum high entries }
 {

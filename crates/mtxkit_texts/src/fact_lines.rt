@@ -1,4 +1,4 @@
-//! The lines of `mtxkit info`.
+//! The text that `mtxkit info` writes.
 
 ghost use Rattle.std.specs.Prelude.{◌≡◌, ◌++◌, IfOk, IfErr, OnOk, codes, string_bytes};
 ghost use Rattle.mtxkit_texts.specs.HeaderLines.{format_name, field_name, symmetry_name};
@@ -15,11 +15,10 @@ use mtxkit_matrices::{info_of, push_count, push_facts, push_line};
 use sparse_parser::header::{Field, Format, Header, Symmetry};
 use std::alloc::{AllocError, Global};
 
-/// Returns the lines that `mtxkit info` writes of a text: what its header says, and the facts about its matrix. Of a text
-/// with real or complex values they are what the header says, the shape, and the number of entries in the file.
+/// Returns the lines that `mtxkit info` writes about a text: its header, its shape, its number of entries, and the
+/// facts about its matrix. For a text with real or complex values the facts are left out.
 ///
-/// Fails as [`load_exact`](crate::load_whole) does, but never with `NotSupported`: a text whose first error is a real or
-/// complex value has its lines.
+/// Returns the errors of [`load_exact`](crate::load_whole) except `NotSupported`, which is no error here.
 pub fn info_text(alloc: Global, text: &str) -> Result<String, Failure>
     ensures written { IfOk result (λ written. WritesInfo text.now (string_bytes written)) }
     ensures refused { IfErr result (IsInfoFailure text.now) }
@@ -30,7 +29,8 @@ pub fn info_text(alloc: Global, text: &str) -> Result<String, Failure>
     }
 }
 
-// Returns the lines of the shape of a text that failed so, if the reason is that its values are not carried.
+// Returns the lines for a text that could not be loaded: if it has real or complex values those of its shape, and
+// otherwise the failure.
 fn shape_text(alloc: Global, text: &str, failure: Failure) -> Result<String, Failure>
     requires { IsWholeFailure 1 text.now failure }
     ensures written { IfOk result (λ written. WritesShape text.now (string_bytes written)) }
@@ -42,7 +42,7 @@ fn shape_text(alloc: Global, text: &str, failure: Failure) -> Result<String, Fai
     }
 }
 
-// Returns the lines of the shape of a text with real or complex values.
+// Returns the lines for a text with real or complex values.
 fn unsupported_text(alloc: Global, text: &str) -> Result<String, AllocError>
     requires { IsUnsupported text.now }
     ensures { IfOk result (λ written. WritesShape text.now (string_bytes written)) }
@@ -53,7 +53,7 @@ fn unsupported_text(alloc: Global, text: &str) -> Result<String, AllocError>
     }
 }
 
-// Returns the lines of a shape.
+// Returns the lines for a shape.
 fn lines_of(alloc: Global, shape: Shape) -> Result<String, AllocError>
     ensures { IfOk result (λ lines. string_bytes lines ≡ shape_lines shape) }
 {
@@ -65,7 +65,7 @@ fn lines_of(alloc: Global, shape: Shape) -> Result<String, AllocError>
     Ok(lines)
 }
 
-// Returns the lines of the facts about the matrix that was read from a text.
+// Returns the lines for a matrix that was read from a text.
 fn facts_text(alloc: Global, text: &str, loaded: &Loaded) -> Result<String, AllocError>
     requires { MeansWhole text.now loaded.now.entries loaded.now.matrix }
     ensures { IfOk result (λ written. WritesFacts text.now (string_bytes written)) }
@@ -78,7 +78,7 @@ fn facts_text(alloc: Global, text: &str, loaded: &Loaded) -> Result<String, Allo
     Ok(lines)
 }
 
-// Appends what the header says.
+// Appends the lines for the header.
 fn push_header(lines: &mut String, header: Option<Header>) -> Result<(), AllocError>
     ensures { OnOk result
         (string_bytes lines.new ≡ string_bytes lines.old ++ header_lines header) }
@@ -91,7 +91,7 @@ fn push_header(lines: &mut String, header: Option<Header>) -> Result<(), AllocEr
     push_line(lines, "symmetry", symmetry_name(header.symmetry))
 }
 
-// Appends the shape and the number of entries.
+// Appends the lines for the shape and the number of entries.
 fn push_sizes(alloc: Global, lines: &mut String, loaded: &Loaded) -> Result<(), AllocError>
     ensures { OnOk result (string_bytes lines.new ≡ string_bytes lines.old
         ++ size_lines loaded.now.matrix.pattern.major_dim loaded.now.matrix.pattern.minor_dim

@@ -10,32 +10,34 @@ use std::error::Error;
 use std::fmt::{self, Debug, Display, Formatter, Write};
 use std::io;
 
-/// Why a command fails. Its text does not name the file, whose number some failures have.
+/// Why a command fails. Files are given by their numbers in the command, counted from 1; `Display` does not write
+/// these.
 #[derive(Clone, Copy)]
 pub enum Failure {
-    /// The file with this number, counted from 1, cannot be opened or read, or is no text.
+    /// The file with this number cannot be opened or read, or is not UTF-8.
     Unread(usize, io::Error),
-    /// The text with this number means this error, and this is its first line that is at fault.
+    /// The text with this number has an error of this kind, at this line and with this fault.
     Input(usize, MatrixMarketErrorKind, Location),
-    /// The values of the text with this number are real or complex.
+    /// The text with this number has real or complex values, which `mtxkit` does not read.
     NotSupported(usize),
-    /// An integer of the text with this number, or the sum of those of one place, does not fit in 64 bits.
+    /// An integer of the text with this number, or a sum of integers with the same row and column, does not fit in 64
+    /// bits.
     Wide(usize),
-    /// The sum of the integers of some place of the text with this number does not fit in 128 bits.
+    /// A sum of integers with the same row and column in the text with this number does not fit in 128 bits.
     Overflow(usize),
     /// The matrix is not symmetric.
     NotSymmetric,
     /// The shapes of the matrices do not fit.
     Shapes,
-    /// The matrix has no factorisation.
+    /// The matrix has no factorisation L D L^T.
     NoFactors,
-    /// The product is another matrix.
+    /// A X differs from B.
     NotSolution,
-    /// The modulus is none of those that the program is built for.
+    /// The program is not built for this modulus.
     Modulus,
-    /// The words of the command line are no command.
+    /// The words of the command line are not a command.
     Usage,
-    /// The file of the answer cannot be made or written.
+    /// The output file cannot be created or written.
     Unsaved(io::Error),
     /// A write to the output failed.
     Write(io::ErrorKind),
@@ -54,7 +56,7 @@ impl Failure {
         }
     }
 
-    // Why, without the error that is its cause.
+    // Returns the message, without the error that is the cause.
     fn reason(self) -> &'static str {
         match self {
             Failure::Unread(_, _) => "the file cannot be read",
@@ -76,7 +78,7 @@ impl Failure {
     }
 }
 
-/// Shows the error that is the cause, or else the reason.
+/// Writes the error that is the cause, if there is one, and otherwise the message.
 impl Display for Failure {
     fn fmt<W: Write>(&self, f: &mut Formatter<W>) -> fmt::Result {
         match self {

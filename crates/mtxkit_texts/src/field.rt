@@ -1,4 +1,4 @@
-//! Texts written again with another field.
+//! Writes the matrix of a text with another field.
 
 ghost use Rattle.std.specs.Prelude.{IfErr, IfOk, string_bytes};
 ghost use Rattle.mtxkit_texts.specs.Rewritten.{WritesIntegers, WritesPattern};
@@ -11,9 +11,9 @@ use crate::values::load_values;
 use sparse_io::save_to_matrix_market_str;
 use std::alloc::Global;
 
-/// Returns the text of the pattern of a text's matrix, row by row. A place whose value is zero is kept.
+/// Returns the text of the pattern of a text's matrix, row by row. An entry whose value is zero is kept.
 ///
-/// Fails as [`load`](crate::load) does, or if an allocation fails.
+/// Returns the errors of [`load`](crate::load).
 pub fn pattern_text(alloc: Global, text: &str) -> Result<String, Failure>
     ensures written { IfOk result (λ written. WritesPattern text.now (string_bytes written)) }
     ensures refused { IfErr result (IsLoadFailure 1 text.now) }
@@ -22,9 +22,9 @@ pub fn pattern_text(alloc: Global, text: &str) -> Result<String, Failure>
     Ok(write_pattern(alloc, loaded.matrix.pattern())?)
 }
 
-/// Returns the text of a text's matrix with integers, row by row: a pattern has one at each place.
+/// Returns the text of a text's matrix with integers, row by row. The values of a pattern's entries are 1.
 ///
-/// Fails as [`load_values`](crate::load_values) does, or if an allocation fails.
+/// Returns the errors of [`load_values`](crate::load_values).
 pub fn integer_text(alloc: Global, text: &str) -> Result<String, Failure>
     ensures written { IfOk result (λ written. WritesIntegers text.now (string_bytes written)) }
     ensures refused { IfErr result (IsValuesFailure 1 text.now) }

@@ -1,5 +1,5 @@
-//! Matrices of texts, for the program `mtxkit`: read, described, shown as pictures, and written again; and the progress
-//! of reading large files.
+//! What the program `mtxkit` does with one Matrix Market text: it reads the matrix, describes it, draws its pattern, or
+//! writes it again; and the progress of reading large files.
 #![tactic(auto)]
 
 mod exact;

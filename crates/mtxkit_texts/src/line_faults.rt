@@ -1,4 +1,4 @@
-//! What is wrong with a line of a text, by the rules for entries.
+//! Finds the fault of a data line of a text, if it has one.
 
 ghost use Rattle.std.specs.Prelude.{◌≡◌, true};
 ghost use Rattle.sparse_parser.specs.InnerLines.{AreNumbers, IsNumber, is_plain};
@@ -8,7 +8,8 @@ use sparse_parser::data_lines::{Line, Number};
 use sparse_parser::header::{Field, Header, Symmetry};
 use sparse_parser::size::Size;
 
-/// What is wrong with an entry of coordinates below a header, read as an integer if the flag is set.
+/// Returns the fault of a data line in coordinate format below this header, if it has one. If `as_integers` is set, an
+/// entry of a pattern has the fault `NoValue`.
 pub(crate) fn coordinate_fault(
     header: Header,
     as_integers: bool,
@@ -37,7 +38,7 @@ pub(crate) fn coordinate_fault(
     }
 }
 
-/// What is wrong with an entry of an array below a header.
+/// Returns the fault of a data line in array format below this header, if it has one.
 pub(crate) fn array_fault(header: Header, line: Line<'_>) -> Option<LineFault>
     requires { AreNumbers line }
 {
@@ -51,7 +52,7 @@ pub(crate) fn array_fault(header: Header, line: Line<'_>) -> Option<LineFault>
     }
 }
 
-// The row and the column of an entry, counted from 1.
+// Returns the row and the column of an entry, counted from 1, or their fault.
 fn indices(row: Number<'_>, col: Number<'_>) -> Result<(usize, usize), LineFault>
     requires row_is { IsNumber row }
     requires col_is { IsNumber col }
@@ -66,7 +67,7 @@ fn indices(row: Number<'_>, col: Number<'_>) -> Result<(usize, usize), LineFault
     }
 }
 
-// What is wrong with the place of an entry.
+// Returns the fault of the row and the column of an entry, if they have one.
 fn indices_fault(symmetry: Symmetry, row: Number<'_>, col: Number<'_>) -> Option<LineFault>
     requires row_is { IsNumber row }
     requires col_is { IsNumber col }
@@ -82,7 +83,8 @@ fn indices_fault(symmetry: Symmetry, row: Number<'_>, col: Number<'_>) -> Option
     }
 }
 
-// What is wrong with an integer: whether a symmetry negates the least one.
+// Returns the fault of a value, if it has one: the negative of -2^127, which skew symmetry implies, does not fit in 128
+// bits.
 fn value_fault(symmetry: Symmetry, value: i128) -> Option<LineFault> {
     match symmetry {
         Symmetry::SkewSymmetric if value == i128::MIN => Some(LineFault::Negative),
@@ -90,7 +92,7 @@ fn value_fault(symmetry: Symmetry, value: i128) -> Option<LineFault> {
     }
 }
 
-/// What is wrong with the place of an entry in a matrix of this size.
+/// Returns the fault of a data line whose row or column exceeds this size, if one does.
 pub(crate) fn bounds_fault(size: Size, line: Line<'_>) -> Option<LineFault>
     requires { AreNumbers line }
 {

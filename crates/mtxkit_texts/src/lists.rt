@@ -1,4 +1,4 @@
-//! Lists with other values.
+//! Replaces the values of a list of triplets.
 
 ghost use Rattle.std.specs.Prelude.{◌≡◌, IfOk, length, map};
 ghost use Rattle.sparse_coo_dense.specs.Coo.{coo_of, zip_triplets};
@@ -6,7 +6,7 @@ ghost use Rattle.sparse_coo_dense.specs.Coo.{coo_of, zip_triplets};
 use sparse_coo_dense::coo::CooMatrix;
 use std::alloc::{AllocError, Global};
 
-/// Returns a list with other values, of which there must be as many as triplets.
+/// Returns the list of triplets with other values. There must be one value for each triplet.
 pub fn with_values<S: Copy, T: Copy>(
     alloc: Global,
     list: &CooMatrix<S>,

@@ -1,4 +1,4 @@
-//! Matrices read from texts.
+//! Reads matrices from texts.
 
 ghost use Rattle.std.specs.Prelude.{◌≡◌, ◌⊎◌, Ok, IfOk, IfErr, length};
 ghost use Rattle.sparse_compressed.specs.Compressed.{IsSound};
@@ -28,19 +28,19 @@ use std::alloc::Global;
 /// A matrix read from a text.
 #[derive(Drop)]
 pub struct Loaded {
-    /// The number of entries that the text means; the mirrored ones of a symmetry are counted too.
+    /// The number of triplets that the text means, including those that a symmetry implies.
     pub entries: usize,
-    /// The matrix by rows.
+    /// The matrix, whose duplicate triplets are added.
     pub matrix: CsrMatrix<W128>,
 }
 
-/// Reads a matrix by rows from a text: a pattern has one at each place, and the values of repeated integer entries are
-/// added. A sum that leaves 128 bits is taken modulo 2^128.
+/// Returns the matrix of a text, of the field that its header names. The values of a pattern's entries are 1, and
+/// duplicate entries of an integer matrix are added, modulo 2^128. `number` is that of the text in the command.
 ///
 /// # Errors
 ///
-/// Returns `Input` with this number and the kind of the error that the text means for the field that its header names,
-/// or `NotSupported` if that is a value of a real or complex field. Otherwise fails only if an allocation fails.
+/// Returns `Input` with this number if the text has an error, or `NotSupported` if the error is that the values are real
+/// or complex. Otherwise fails only if an allocation fails.
 pub fn load(alloc: Global, number: usize, text: &str) -> Result<Loaded, Failure>
     ensures meant { IfOk result (λ l. MeansMatrix text.now l.entries l.matrix) }
     ensures sound { IfOk result (λ l. IsSound l.matrix) }
@@ -53,7 +53,7 @@ pub fn load(alloc: Global, number: usize, text: &str) -> Result<Loaded, Failure>
     }
 }
 
-/// Returns the contents of the header line of a text, if there is one.
+/// Returns the header of a text, if it has one.
 pub fn header_of(text: &str) -> Option<Header>
     ensures { result ≡ header_in text.now }
 {
@@ -61,7 +61,7 @@ pub fn header_of(text: &str) -> Option<Header>
     Header::from_line(line)
 }
 
-// Whether the header of a text names a pattern.
+// Returns whether the header of a text names the field `pattern`.
 pub(crate) fn names_pattern(text: &str) -> bool
     ensures { result ≡ is_pattern (header_in text.now) }
 {
@@ -71,7 +71,7 @@ pub(crate) fn names_pattern(text: &str) -> bool
     }
 }
 
-// Whether the field is that of a pattern.
+// Returns whether the field is `pattern`.
 fn is_pattern_field(field: Field) -> bool
     ensures { result ≡ is_pattern_field field }
 {
@@ -81,7 +81,7 @@ fn is_pattern_field(field: Field) -> bool
     }
 }
 
-// Reads the places of a text as a matrix of ones.
+// Returns the matrix of a pattern's text, whose values are 1.
 pub(crate) fn load_pattern(alloc: Global, number: usize, text: &str) -> Result<Loaded, Failure>
     ensures meant { IfOk result (λ l. MeansOnes ring128 value128 text.now l.entries l.matrix) }
     ensures sound { IfOk result (λ l. IsSound l.matrix) }
@@ -94,7 +94,7 @@ pub(crate) fn load_pattern(alloc: Global, number: usize, text: &str) -> Result<L
     Ok(Loaded { entries, matrix })
 }
 
-// Reads the integers of a text and adds those of one place.
+// Returns the matrix of a text of integers, whose duplicate entries are added modulo 2^128.
 fn load_integers(alloc: Global, number: usize, text: &str) -> Result<Loaded, Failure>
     ensures meant { IfOk result (λ l. MeansSums text.now l.entries l.matrix) }
     ensures sound { IfOk result (λ l. IsSound l.matrix) }
@@ -107,7 +107,7 @@ fn load_integers(alloc: Global, number: usize, text: &str) -> Result<Loaded, Fai
     Ok(Loaded { entries, matrix })
 }
 
-// Reads the places of a text.
+// Returns the list of triplets of a pattern's text, whose values are `()`.
 pub(crate) fn read_pattern_list(
     alloc: Global,
     number: usize,
@@ -123,12 +123,11 @@ pub(crate) fn read_pattern_list(
     }
 }
 
-/// Reads the integers of a text, of 128 bits.
+/// Returns the list of triplets of a text of integers, of 128 bits. `number` is that of the text in the command.
 ///
 /// # Errors
 ///
-/// Returns the errors of [`load`] on a text that does not name a pattern. One that names a pattern and has entries means
-/// `TypeMismatch`.
+/// Returns the errors of [`load`]. A text of a pattern that has entries has the error `TypeMismatch`.
 pub fn read_integers(alloc: Global, number: usize, text: &str) -> Result<CooMatrix<i128>, Failure>
     ensures meant { IfOk result (MeansIntegers text.now) }
     ensures refused { IfErr result
@@ -140,7 +139,7 @@ pub fn read_integers(alloc: Global, number: usize, text: &str) -> Result<CooMatr
     }
 }
 
-// Returns the failure of a text whose matrix cannot be read as integers or as the field of its header.
+// Returns the failure for a text that has an error of this kind, read as integers or else as the field of its header.
 fn unread(number: usize, kind: MatrixMarketErrorKind, text: &str, as_integers: bool) -> Failure
     ensures { IsTextFault number text.now kind result }
 {
@@ -151,7 +150,7 @@ fn unread(number: usize, kind: MatrixMarketErrorKind, text: &str, as_integers: b
     }
 }
 
-// Whether the header of a text, if there is one, names integers or patterns.
+// Returns whether the header of a text, if there is one, names integers or a pattern.
 fn is_supported(text: &str) -> bool
     ensures { result ≡ is_supported (header_in text.now) }
 {
@@ -161,7 +160,7 @@ fn is_supported(text: &str) -> bool
     }
 }
 
-// Whether the values of a field are integers or patterns.
+// Returns whether a field is `integer` or `pattern`.
 fn is_supported_field(field: Field) -> bool
     ensures { result ≡ is_supported_field field }
 {

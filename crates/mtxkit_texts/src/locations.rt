@@ -1,5 +1,5 @@
-//! The first line of a text that is at fault. It is found for a message, after a text was refused. It is proved that it
-//! is a line of the text; that it is the first at fault is tested.
+//! Finds the first line of a text that has a fault, for the message about a text that was refused. It is proved that it
+//! is a line of the text; that it is the first with a fault is tested.
 
 ghost use Rattle.std.specs.Prelude.{◌<◌, IfSome, length};
 ghost use Rattle.sparse_parser.specs.InnerBytes.{BeginsLine};
@@ -15,28 +15,29 @@ use sparse_parser::header::{Format, Header};
 use sparse_parser::lines::{after_space, next_line, split_line};
 use sparse_parser::size::Size;
 
-/// A line of a text, counted from 1, and what is wrong with it.
+/// A line of a text and its fault.
 #[derive(Clone, Copy, Debug)]
 pub struct Location {
-    /// The number of the line; the last line, if the text ends too early.
+    /// The number of the line, counted from 1; that of the last line if the text ends too early.
     pub line: usize,
-    /// What is wrong with it.
+    /// The fault.
     pub fault: LineFault,
 }
 
-// What a line is searched for.
+// The faults that data lines are searched for.
 #[derive(Clone, Copy)]
 enum Search {
-    // A line that is no data line.
+    // Lines that are not data lines.
     Grammar,
-    // An entry that is at fault below this header, read as an integer if the flag is set.
+    // Faults of entries below this header, whatever the sizes are. If the flag is set, an entry of a pattern has one,
+    // since it has no value.
     Entries(Header, bool),
-    // An entry outside the shape.
+    // Rows and columns that exceed these sizes.
     Bounds(Size),
 }
 
-/// Returns the first line at fault of a text that means an error, read as integers or as the field of its header. It
-/// reads the text again, up to three times.
+/// Returns the first line with a fault of a text that has an error, read as integers or else as the field of its
+/// header. The text is read again, up to three times.
 pub(crate) fn location_of(text: &str, as_integers: bool) -> Location
     ensures { HasLineNumber text.now result.line }
 {
@@ -48,7 +49,7 @@ pub(crate) fn location_of(text: &str, as_integers: bool) -> Location
     }
 }
 
-// What is at fault in a text, and the text from there on.
+// Returns the fault of a text, and the text from the line with the fault on.
 fn fault_of(text: &[u8], as_integers: bool) -> (LineFault, &[u8]) {
     let start = after_space(text);
     let (line, below) = split_line(start);
@@ -66,7 +67,7 @@ fn fault_of(text: &[u8], as_integers: bool) -> (LineFault, &[u8]) {
     }
 }
 
-// What is at fault in the header line or the size line.
+// Returns the fault of the header or the size line that causes this error, and the text from this line on.
 fn size_fault<'a>(cause: Cause, start: &'a [u8], sizes: &'a [u8]) -> (LineFault, &'a [u8]) {
     match LineFault::of_size(cause) {
         LineFault::Hermitian => (LineFault::Hermitian, start),
@@ -75,7 +76,7 @@ fn size_fault<'a>(cause: Cause, start: &'a [u8], sizes: &'a [u8]) -> (LineFault,
     }
 }
 
-// What is at fault below the size line.
+// Returns the fault below the size line, and the text from the line with the fault on.
 fn fault_below<'a>(
     header: Header,
     size: Size,
@@ -99,7 +100,7 @@ fn fault_below<'a>(
     first_fault(Search::Bounds(size), entries).unwrap_or((LineFault::Value, entries))
 }
 
-// The first data line that is at fault, and the text from there on.
+// Returns the first fault of a data line, if there is one, and the text from this line on.
 fn first_fault(search: Search, text: &[u8]) -> Option<(LineFault, &[u8])> {
     let mut rest = next_line(text);
     while !rest.is_empty() {
@@ -114,7 +115,7 @@ fn first_fault(search: Search, text: &[u8]) -> Option<(LineFault, &[u8])> {
     None
 }
 
-// What is wrong with a data line.
+// Returns the fault of a data line, if it has one.
 fn fault_in(search: Search, line: Line<'_>) -> Option<LineFault>
     requires { AreNumbers line }
 {
@@ -128,7 +129,7 @@ fn fault_in(search: Search, line: Line<'_>) -> Option<LineFault>
     }
 }
 
-// Reads a data line. Returns its numbers and the text from the next line on, or `None` if it is no data line.
+// Reads a data line. Returns its numbers and the text from the next line on, or `None` if it is not a data line.
 fn entry(text: &[u8]) -> Option<(Line<'_>, &[u8])>
     requires begins { BeginsLine text.now }
     requires some { 0 < length text.now }

@@ -1,4 +1,4 @@
-//! The texts of patterns.
+//! Writes patterns as texts.
 
 ghost use Rattle.std.specs.Prelude.{◌≡◌, ◌++◌, IfOk, OnOk, codes, string_bytes};
 ghost use Rattle.std.specs.Fmt.{decimal};
@@ -9,7 +9,7 @@ use itoa::Buffer;
 use sparse_pattern::pattern::SparsityPattern;
 use std::alloc::{AllocError, Global};
 
-/// Returns the text of a pattern, row by row. No line ends with a blank.
+/// Returns the text of a pattern by rows, row by row. No line ends with a blank.
 ///
 /// Fails only if an allocation fails.
 pub fn write_pattern(alloc: Global, pattern: &SparsityPattern) -> Result<String, AllocError>
@@ -23,7 +23,7 @@ pub fn write_pattern(alloc: Global, pattern: &SparsityPattern) -> Result<String,
     Ok(text)
 }
 
-// Appends the lines before those of the places.
+// Appends the header, the comment and the size line.
 fn push_head(text: &mut String, pattern: &SparsityPattern) -> Result<(), AllocError>
     ensures { OnOk result
         (string_bytes text.new ≡ string_bytes text.old ++ pattern_head pattern.now) }
@@ -60,7 +60,7 @@ fn push_sizes(text: &mut String, nrows: usize, ncols: usize, nnz: usize) -> Resu
     text.push_str("\n")
 }
 
-// Appends the line of a place, whose row and column count from 0.
+// Appends the line of an entry. The row and the column are counted from 0, and written counted from 1.
 #[tactic(auto, unfolding(crate::specs::PatternTexts::entry_line))]
 fn push_entry(text: &mut String, row: usize, col: usize) -> Result<(), AllocError>
     ensures { OnOk result

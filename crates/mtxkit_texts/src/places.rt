@@ -1,4 +1,4 @@
-//! Lists of places as matrices of ones.
+//! Turns lists of triplets without values into matrices of ones.
 
 ghost use Rattle.std.specs.Prelude.{◌≡◌, ℕ, ◌↔◌, All, IfOk, IsTrue, length, replicate};
 ghost use Rattle.std.specs.List.{list_any};
@@ -16,7 +16,7 @@ use sparse_csr_csc::csr::CsrMatrix;
 use sparse_pattern::pattern::SparsityPattern;
 use std::alloc::{AllocError, Global};
 
-/// Returns the matrix with one at each place of a list, also where the list has a place several times.
+/// Returns the matrix with the value 1 at the row and the column of each triplet. Duplicate triplets count once.
 ///
 /// Fails only if an allocation fails.
 pub fn ones_of<T: Ring>(alloc: Global, places: &CooMatrix<()>) -> Result<CsrMatrix<T>, AllocError>
@@ -29,7 +29,7 @@ pub fn ones_of<T: Ring>(alloc: Global, places: &CooMatrix<()>) -> Result<CsrMatr
     Ok(joined(pattern, ones))
 }
 
-// The pattern by rows of the places of a list.
+// Returns the pattern of a list of triplets by rows, without duplicates.
 fn pattern_of(alloc: Global, places: &CooMatrix<()>) -> Result<SparsityPattern, AllocError>
     ensures { IfOk result (HasEntriesOf places.now) }
 {
@@ -39,7 +39,7 @@ fn pattern_of(alloc: Global, places: &CooMatrix<()>) -> Result<SparsityPattern, 
     Ok(pattern)
 }
 
-// The matrix with these values at the places of a pattern, of which there are as many.
+// Returns the matrix with this pattern and these values, one for each entry.
 pub(crate) fn joined<T: Copy>(pattern: SparsityPattern, values: Vec<T>) -> CsrMatrix<T>
     requires { length values.items ≡ length pattern.indices }
     ensures pattern { result.pattern ≡ pattern }
@@ -52,7 +52,7 @@ pub(crate) fn joined<T: Copy>(pattern: SparsityPattern, values: Vec<T>) -> CsrMa
     }
 }
 
-// The list with one at each place of a list, as often as that has the place.
+// Returns the same triplets, each with value 1.
 fn listed_ones(alloc: Global, places: &CooMatrix<()>) -> Result<CooMatrix<W64>, AllocError>
     ensures rows { IfOk result (λ m. m.nrows ≡ places.now.nrows) }
     ensures cols { IfOk result (λ m. m.ncols ≡ places.now.ncols) }

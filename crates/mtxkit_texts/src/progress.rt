@@ -1,4 +1,4 @@
-//! The progress of reading large files, shown on a terminal.
+//! Shows the progress of reading a large file on a terminal.
 
 ghost use Rattle.std.specs.Prelude.{◌≡◌, ◌<◌, IfOk, IfSome, IsFalse, string_bytes};
 ghost use Rattle.std.specs.Io.{ReadsAtMost};
@@ -8,14 +8,14 @@ ghost use Rattle.mtxkit_texts.specs.Progress.{progress_text};
 use std::alloc::{AllocError, Global};
 use std::io::{self, IsTerminal, Read, Stderr, Write};
 
-// The bytes of a megabyte.
+// The number of bytes of a megabyte.
 const MEGABYTE: u64 = 1_000_000;
 
 /// A stream that knows whether it is a terminal.
 pub trait Terminal {
     ghost use Rattle.std.specs.Prelude.{Bool};
 
-    // What the stream may answer.
+    // The answers that the stream can give.
     ghost may_answer: { Self → Bool → Type 0 };
 
     /// Returns whether the stream is a terminal.
@@ -26,7 +26,7 @@ pub trait Terminal {
 impl Terminal for Stderr {
     ghost use Rattle.std.specs.Prelude.{⊤};
 
-    // No contract of the standard library says what the system answers.
+    // No contract of the standard library says what the system answers, so each answer is possible.
     ghost may_answer = { λ _ _. ⊤ };
 
     fn answer(&self) -> bool {
@@ -34,21 +34,21 @@ impl Terminal for Stderr {
     }
 }
 
-/// A screen that shows how much of a file was read. Nothing is written to it where it is no terminal.
+/// A stream that shows how much of a file was read. Nothing is written to it unless it is a terminal.
 #[derive(Drop)]
 pub struct Screen<W> {
-    /// What is written to.
+    /// The stream.
     pub out: W,
-    // What the stream answered, or no.
+    // Whether the stream is a terminal.
     is_terminal: bool,
     /// The size of the smallest file whose progress is shown, in bytes.
     pub least: u64,
-    /// The number of bytes after which the next line is shown.
+    /// The number of bytes between two lines.
     pub step: u64,
 }
 
 impl<W: Terminal> Screen<W> {
-    /// Returns the screen of a stream, for files of 64 MB and more. A line is shown after each 16 MB.
+    /// Returns a screen that writes to this stream, for files of 64 MB and more. A line is shown after each 16 MB.
     pub fn of(out: W) -> Screen<W>
         ensures out { result.out ≡ out }
         ensures asked { W.may_answer out result.is_terminal }
@@ -58,7 +58,8 @@ impl<W: Terminal> Screen<W> {
         Screen::new(out, 64 * MEGABYTE, 16 * MEGABYTE)
     }
 
-    /// Returns the screen of a stream, for files of at least this size. A line is shown after each `step` bytes.
+    /// Returns a screen that writes to this stream, for files of at least `least` bytes. A line is shown after each
+    /// `step` bytes.
     pub fn new(out: W, least: u64, step: u64) -> Screen<W>
         ensures out { result.out ≡ out }
         ensures asked { W.may_answer out result.is_terminal }
@@ -117,12 +118,12 @@ struct Progress<'a, W> {
     path: &'a str,
     whole: u64,
     done: u64,
-    // The number of bytes past which the next line is shown.
+    // The next line is shown once more than this number of bytes was read.
     next: u64,
 }
 
 impl<W: Write> Progress<'_, W> {
-    // Counts bytes that were read, and shows a line where one is due.
+    // Adds to the number of bytes that were read, and shows a line if one is due.
     fn add(&mut self, count: usize) {
         self.done = self.done.saturating_add(count as u64);
         if self.done > self.next {
@@ -131,7 +132,7 @@ impl<W: Write> Progress<'_, W> {
         }
     }
 
-    // Shows a line over the last one. Where it is not written, or no memory is left for it, nothing is reported.
+    // Writes a line over the last one. Errors of the write and failed allocations are ignored.
     fn show(&mut self) {
         let _ = match progress_line(self.alloc, self.path, self.done, self.whole) {
             Ok(line) => self.screen.out.write_all(line.as_bytes()),
@@ -139,15 +140,15 @@ impl<W: Write> Progress<'_, W> {
         };
     }
 
-    // Shows the last line, and ends it.
+    // Writes the last line and a line end.
     fn end(&mut self) {
         self.show();
         let _ = self.screen.out.write_all(b"\n");
     }
 }
 
-/// Returns the line that says how many megabytes of a file were read. It begins with a carriage return and has no end,
-/// so that the next one is shown over it.
+/// Returns the line that says how many megabytes of a file were read. It begins with a carriage return and has no line
+/// end, so that the next line replaces it on a terminal.
 ///
 /// Fails only if an allocation fails.
 pub fn progress_line(alloc: Global, path: &str, done: u64, whole: u64) -> Result<String, AllocError>
@@ -160,13 +161,13 @@ pub fn progress_line(alloc: Global, path: &str, done: u64, whole: u64) -> Result
 /// Reads a file to its end and returns its text. The screen shows how much was read, if it is a terminal and the file
 /// is large enough.
 ///
-/// `size` is the number of bytes of the file, as far as it is known: memory of this size is taken first. The path is
-/// shown.
+/// `size` is the number of bytes of the file, or 0 if it is not known; this many bytes are allocated first. The path is
+/// part of the line that is shown.
 ///
 /// # Errors
 ///
-/// Returns the error of a read that fails, and `InvalidData` if the file is not UTF-8. What cannot be shown is no error.
-/// Otherwise fails only if an allocation fails.
+/// Returns the error of a read that fails, and `InvalidData` if the file is not UTF-8. Errors in showing the progress
+/// are ignored. Otherwise fails only if an allocation fails.
 pub fn read_shown<R, W>(
     alloc: Global,
     reader: R,
@@ -201,12 +202,12 @@ where
     text
 }
 
-// Returns the text that is left to be read, of about `size` bytes.
+// Reads to the end and returns the text, of about `size` bytes.
 fn text_of<R: Read>(alloc: Global, reader: &mut R, size: u64) -> io::Result<String>
     ensures { IfOk result
         (λ text. IfSome (R.remaining reader.old) (λ bytes. string_bytes text ≡ bytes)) }
 {
-    // One byte more, so that the read that finds the end has room.
+    // One more byte than `size`, for the read that finds the end of the file.
     let room = (size as usize).saturating_add(1);
     let mut text = String::with_capacity(alloc, room)?;
     reader.read_to_string(&mut text)?;

@@ -1,4 +1,4 @@
-//! The shapes of texts whose values are not carried.
+//! Reads the header and the sizes of a text without its values.
 
 ghost use Rattle.std.specs.Prelude.{◌≡◌, ℕ, IfSome, MatchOption, Some, true};
 ghost use Rattle.sparse_parser.specs.InnerReading.{contents_of, count_of};
@@ -11,10 +11,10 @@ use sparse_parser::header::Header;
 use sparse_parser::lines::{after_space, next_line, split_line};
 use sparse_parser::size::Size;
 
-/// What a text says without its values.
+/// The header and the sizes of a text.
 #[derive(Clone, Copy)]
 pub struct Shape {
-    /// The contents of the header line.
+    /// The header.
     pub header: Header,
     /// The number of rows.
     pub rows: usize,
@@ -24,8 +24,9 @@ pub struct Shape {
     pub entries: usize,
 }
 
-/// Returns the shape of a text, whatever its values are, or `None` exactly if the text does not match the grammar, has
-/// an invalid header or sizes, or has another number of entries than it says.
+/// Returns the header and the sizes of a text, whatever its values are. Returns `None` exactly if the text does not
+/// match the grammar, its header or its sizes are invalid, or its number of entries is not the one that the size line
+/// gives.
 pub fn shape_of(text: &str) -> Option<Shape>
     ensures { MatchOption result (HasNoShape text.now) (IsShapeOf text.now) }
 {
@@ -36,7 +37,7 @@ pub fn shape_of(text: &str) -> Option<Shape>
     }
 }
 
-// Returns the shape of the text below a header.
+// As `shape_of`, for the text below this header.
 fn shape_below(header: Header, text: &[u8]) -> Option<Shape>
     ensures header { IfSome result (λ s. s.header ≡ header) }
     ensures below { MatchOption result (HasNoShapeBelow header (contents_of text.now))
@@ -50,7 +51,7 @@ fn shape_below(header: Header, text: &[u8]) -> Option<Shape>
     }
 }
 
-// Returns the shape of these sizes, if there are as many entries.
+// Returns the shape with these sizes, if the text has the number of entries that these give.
 fn counted(header: Header, size: Size, text: &[u8]) -> Option<Shape>
     ensures header { IfSome result (λ s. s.header ≡ header) }
     ensures sizes { IfSome result (λ s. (s.rows ≡ size.rows) × (s.cols ≡ size.cols)) }
@@ -71,7 +72,7 @@ fn counted(header: Header, size: Size, text: &[u8]) -> Option<Shape>
     }
 }
 
-// Whether the number of data lines is the one given.
+// Returns whether the number of data lines is the one that the sizes give.
 fn is_count(count: Option<usize>, lines: usize) -> bool
     ensures { result ≡ is_count count lines }
 {

@@ -1,4 +1,4 @@
-//! Pictures of the patterns of texts.
+//! Draws the patterns of texts.
 
 ghost use Rattle.std.specs.Prelude.{◌<◌, IfErr, IfOk, string_bytes};
 ghost use Rattle.mtxkit_texts.specs.Loaded.{IsLoadFailure};
@@ -10,9 +10,9 @@ use mtxkit_matrices::{Picture, bitmap_text, block_text, draw, scaled_sizes};
 use std::alloc::Global;
 
 /// Returns the picture of a text's pattern as a portable bitmap, whose sides have at most `size` cells. A cell is black
-/// exactly where a place lies in it. `size` must not be 0.
+/// exactly if an entry lies in it. `size` must not be 0.
 ///
-/// Fails as [`load`](crate::load) does, or if an allocation fails.
+/// Returns the errors of [`load`](crate::load).
 pub fn spy_bitmap(alloc: Global, text: &str, size: usize) -> Result<String, Failure>
     requires { 0 < size }
     ensures shown { IfOk result (λ shown. ShowsBitmap text.now size (string_bytes shown)) }
@@ -23,9 +23,9 @@ pub fn spy_bitmap(alloc: Global, text: &str, size: usize) -> Result<String, Fail
 }
 
 /// Returns the picture of a text's pattern in block characters, whose sides have at most `size` cells. A cell is black
-/// exactly where a place lies in it. `size` must not be 0.
+/// exactly if an entry lies in it. `size` must not be 0.
 ///
-/// Fails as [`load`](crate::load) does, or if an allocation fails.
+/// Returns the errors of [`load`](crate::load).
 pub fn spy_blocks(alloc: Global, text: &str, size: usize) -> Result<String, Failure>
     requires { 0 < size }
     ensures shown { IfOk result (λ shown. ShowsBlocks text.now size (string_bytes shown)) }
@@ -35,7 +35,7 @@ pub fn spy_blocks(alloc: Global, text: &str, size: usize) -> Result<String, Fail
     Ok(block_text(alloc, &picture)?)
 }
 
-// The picture of a text's pattern.
+// Returns the picture of a text's pattern.
 fn spy(alloc: Global, text: &str, size: usize) -> Result<Picture, Failure>
     requires { 0 < size }
     ensures picture { IfOk result (IsPictureOf text.now size) }

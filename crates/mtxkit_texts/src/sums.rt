@@ -1,4 +1,4 @@
-//! Sums of the integers of each place.
+//! Adds the integers with the same row and column.
 
 ghost use Rattle.std.specs.Prelude.{◌≡◌, ◌↔◌, ◌<◌, ◌^◌, All, IfOk, IsTrue, length, map};
 ghost use Rattle.std.specs.Int.{w64};
@@ -14,8 +14,7 @@ use sparse_coo_dense::coo::CooMatrix;
 use sparse_csr_csc::csr::CsrMatrix;
 use std::alloc::{AllocError, Global};
 
-/// Returns the matrix by rows with the sums of the integers of each place. A sum that leaves 128 bits is taken modulo
-/// 2^128.
+/// Returns the matrix of a list of triplets. Duplicate triplets are added, modulo 2^128.
 ///
 /// Fails only if an allocation fails.
 pub fn wide_sums(alloc: Global, list: &CooMatrix<i128>) -> Result<CsrMatrix<W128>, AllocError>
@@ -27,7 +26,7 @@ pub fn wide_sums(alloc: Global, list: &CooMatrix<i128>) -> Result<CsrMatrix<W128
     Ok(convert_coo_csr(alloc, &wide)?)
 }
 
-// Returns the class of each integer.
+// Returns the residue of each integer modulo 2^128.
 pub(crate) fn wide_values(alloc: Global, integers: &[i128]) -> Result<Vec<W128>, AllocError>
     ensures { IfOk result (λ values. map w128_number values.items ≡ integers.now) }
 {
@@ -38,7 +37,7 @@ pub(crate) fn wide_values(alloc: Global, integers: &[i128]) -> Result<Vec<W128>,
     Ok(values)
 }
 
-// Whether each of the integers fits in 64 bits.
+// Returns whether every integer fits in 64 bits.
 pub(crate) fn are_narrow(integers: &[i128]) -> bool
     ensures narrow { IsTrue result ↔ All (FitsSigned w64) integers.now }
     ensures few { length integers.now < 2 ^ 64 }

@@ -1,4 +1,4 @@
-//! Symmetric texts expanded, and symmetric matrices written by their lower triangles.
+//! Expands texts with a symmetry, and writes the lower triangles of symmetric matrices.
 
 ghost use Rattle.std.specs.Prelude.{◌≡◌, ◌⊎◌, ◌++◌, ℕ, List, Some, IfOk, IfErr, true, false};
 ghost use Rattle.std.specs.Prelude.{string_bytes};
@@ -29,11 +29,11 @@ use sparse_parser::header::{Field, Header, Symmetry};
 use sparse_pattern::pattern::SparsityPattern;
 use std::alloc::{AllocError, Global};
 
-/// Returns the text of all entries where the header of a text names a symmetry, and otherwise the text of the lower
-/// triangle, with a header that says `symmetric`.
+/// Returns the text of all entries of a matrix if the header of its text names a symmetry. Otherwise the matrix must be
+/// symmetric, and the result is the text of its lower triangle, whose header says `symmetric`.
 ///
-/// Fails as [`load_values`](crate::load_values) does, with `NotSymmetric` if the lower triangle is wanted of a matrix that
-/// is not symmetric, or if an allocation fails. That a matrix is not square is said before its integers are added.
+/// Returns the errors of [`load_values`](crate::load_values), and `NotSymmetric` if the header names no symmetry and
+/// the matrix is not symmetric. A matrix that is not square is refused before its duplicate entries are added.
 pub fn symmetric_text(alloc: Global, text: &str) -> Result<String, Failure>
     ensures written { IfOk result
         (λ written. Symmetrised (header_in text.now) text.now (string_bytes written)) }
@@ -45,7 +45,7 @@ pub fn symmetric_text(alloc: Global, text: &str) -> Result<String, Failure>
     }
 }
 
-// Returns the text of all entries if this header names a symmetry, and otherwise that of the lower triangle.
+// As `symmetric_text`, for a text with this header.
 fn symmetrised(alloc: Global, text: &str, header: Header) -> Result<String, Failure>
     requires { header_in text.now ≡ Some header }
     ensures written { IfOk result
@@ -60,7 +60,7 @@ fn symmetrised(alloc: Global, text: &str, header: Header) -> Result<String, Fail
     }
 }
 
-// Whether some entries imply a mirrored one.
+// Returns whether the symmetry implies further entries.
 fn is_mirrored(symmetry: Symmetry) -> bool
     ensures { result ≡ is_mirrored symmetry }
 {
@@ -95,8 +95,8 @@ fn lower_integers(alloc: Global, text: &str) -> Result<String, Failure>
     Ok(symmetric_integers(alloc, &lower)?)
 }
 
-// Reads the places of a square pattern as a matrix of ones. One that is not square fails before memory for its rows is
-// asked for.
+// Returns the matrix of a square pattern's text, whose values are 1. A pattern that is not square is refused before its
+// rows are allocated.
 fn square_ones(alloc: Global, text: &str) -> Result<CsrMatrix<W128>, Failure>
     requires { is_pattern (header_in text.now) ≡ true }
     ensures meant { IfOk result (λ m. (entries : ℕ) × MeansMatrix text.now entries m) }
@@ -110,7 +110,8 @@ fn square_ones(alloc: Global, text: &str) -> Result<CsrMatrix<W128>, Failure>
     Ok(ones_of(alloc, &places)?)
 }
 
-// Reads a square matrix of 64-bit integers. One that is not square fails before memory for its rows is asked for.
+// Returns the matrix of a text of integers, which must be square. A matrix that is not square is refused before its
+// rows are allocated.
 fn square_values(alloc: Global, text: &str) -> Result<CsrMatrix<W64>, Failure>
     requires { is_pattern (header_in text.now) ≡ false }
     ensures meant { IfOk result (MeansValues text.now) }
@@ -136,7 +137,7 @@ fn triangle_of<T: Ring>(alloc: Global, matrix: &CsrMatrix<T>) -> Result<CsrMatri
     }
 }
 
-// Returns the text of the lower triangle of a symmetric pattern, in symmetric form.
+// Returns the text of the lower triangle of a symmetric pattern, with a header that says `symmetric`.
 fn symmetric_pattern(alloc: Global, lower: &SparsityPattern) -> Result<String, AllocError>
     ensures { IfOk result (λ written. IsSymmetricPattern lower.now (string_bytes written)) }
 {
@@ -149,7 +150,7 @@ fn symmetric_pattern(alloc: Global, lower: &SparsityPattern) -> Result<String, A
     )
 }
 
-// Returns the text of the lower triangle of a symmetric matrix with its values, in symmetric form.
+// Returns the text of the lower triangle of a symmetric matrix, with a header that says `symmetric`.
 fn symmetric_integers(alloc: Global, lower: &CsrMatrix<W64>) -> Result<String, AllocError>
     ensures { IfOk result (λ written. IsSymmetricIntegers lower.now (string_bytes written)) }
 {
@@ -162,7 +163,7 @@ fn symmetric_integers(alloc: Global, lower: &CsrMatrix<W64>) -> Result<String, A
     )
 }
 
-// Returns a text that begins with `from` with `to` at its beginning instead.
+// Returns a text whose prefix `from` is replaced by `to`.
 fn with_head(alloc: Global, text: &str, from: &str, to: &str) -> Result<String, AllocError>
     requires { (rest : List ℕ) × (text.now ≡ from.now ++ rest) }
     ensures { IfOk result (λ changed. (rest : List ℕ) → text.now ≡ from.now ++ rest

@@ -1,4 +1,4 @@
-//! Matrices of 64-bit integers read from texts.
+//! Reads matrices of 64-bit integers from texts.
 
 ghost use Rattle.std.specs.Prelude.{◌≡◌, ◌⊎◌, ◌<◌, ◌^◌, ℤ, All, IfOk, IfErr, length, map};
 ghost use Rattle.std.specs.Int.{w64};
@@ -20,13 +20,13 @@ use sparse_coo_dense::coo::CooMatrix;
 use sparse_csr_csc::csr::CsrMatrix;
 use std::alloc::{AllocError, Global};
 
-/// Reads a matrix of 64-bit integers by rows from a text: a pattern has one at each place, and the values of repeated
-/// entries are added.
+/// Returns the matrix of a text with values of 64 bits. The values of a pattern's entries are 1, and duplicate entries
+/// are added. `number` is that of the text in the command.
 ///
 /// # Errors
 ///
-/// Returns the errors of [`load`](crate::load), and `Wide` if an integer, a mirrored one too, or the sum of those of one
-/// place does not fit in 64 bits.
+/// Returns the errors of [`load`](crate::load), and `Wide` if an integer, or one that a symmetry implies, or a sum of
+/// integers with the same row and column does not fit in 64 bits.
 pub fn load_values(alloc: Global, number: usize, text: &str) -> Result<CsrMatrix<W64>, Failure>
     ensures meant { IfOk result (MeansValues text.now) }
     ensures sound { IfOk result IsSound }
@@ -41,7 +41,7 @@ pub fn load_values(alloc: Global, number: usize, text: &str) -> Result<CsrMatrix
     }
 }
 
-// Returns the matrix by rows with the sums of the integers of each place, if all fit in 64 bits.
+// Returns the matrix of a list of triplets, whose duplicate triplets are added, if all values fit in 64 bits.
 pub(crate) fn narrow_sums(
     alloc: Global,
     number: usize,
@@ -60,7 +60,7 @@ pub(crate) fn narrow_sums(
     }
 }
 
-// Returns the same for integers of 64 bits.
+// The same, for a list whose integers fit in 64 bits.
 fn narrowed(alloc: Global, number: usize, list: &CooMatrix<i128>) -> Result<CsrMatrix<W64>, Failure>
     requires narrow { All (FitsSigned w64) (map (λ t. t.2) list.now.triplets) }
     requires few { length list.now.triplets < 2 ^ 64 }
@@ -75,7 +75,7 @@ fn narrowed(alloc: Global, number: usize, list: &CooMatrix<i128>) -> Result<CsrM
     Ok(joined(pattern, values))
 }
 
-// Returns the numbers in 64 bits, if all fit.
+// Returns the values in 64 bits, if all fit.
 fn narrow_values(alloc: Global, number: usize, values: &[W128]) -> Result<Vec<W64>, Failure>
     ensures same { IfOk result
         (λ narrow. map w64_number narrow.items ≡ map w128_number values.now) }

@@ -1,4 +1,4 @@
-//! Matrices read from texts, whose sums are exact.
+//! Reads matrices with exact sums from texts.
 
 ghost use Rattle.std.specs.Prelude.{◌≡◌, ◌⊎◌, IfOk, IfErr, length};
 ghost use Rattle.sparse_compressed.specs.Compressed.{IsSound};
@@ -13,12 +13,12 @@ use crate::sums::wide_sums;
 use sparse_coo_dense::coo::CooMatrix;
 use std::alloc::Global;
 
-/// Reads a matrix by rows from a text, as [`load`](crate::load) does, with exact sums.
+/// As [`load`](crate::load), but the sums of duplicate entries are exact.
 ///
 /// # Errors
 ///
-/// Returns the errors of [`load`](crate::load), and `Overflow` if the sum of the integers of some place does not fit in
-/// 128 bits.
+/// Returns the errors of [`load`](crate::load), and `Overflow` if a sum of integers with the same row and column does
+/// not fit in 128 bits.
 pub fn load_exact(alloc: Global, number: usize, text: &str) -> Result<Loaded, Failure>
     ensures meant { IfOk result (λ l. MeansWhole text.now l.entries l.matrix) }
     ensures sound { IfOk result (λ l. IsSound l.matrix) }
@@ -32,7 +32,7 @@ pub fn load_exact(alloc: Global, number: usize, text: &str) -> Result<Loaded, Fa
     }
 }
 
-// Adds the integers of each place.
+// Returns the matrix of a list of triplets, whose duplicate triplets are added exactly.
 fn exact_sums(alloc: Global, number: usize, list: &CooMatrix<i128>) -> Result<Loaded, Failure>
     ensures counted { IfOk result (λ l. l.entries ≡ length list.now.triplets) }
     ensures sums { IfOk result (λ l. HasExactSums list.now l.matrix) }

@@ -17,28 +17,6 @@ fn with_sign<T: Ring, const NEGATE: bool>(value: T) -> T
     if NEGATE { value.neg() } else { value }
 }
 
-// The least number of indices that are copied as a block. For fewer ones the call takes longer than a loop of pushes.
-const LEAST_BLOCK: usize = 16;
-
-// Appends indices.
-fn append_indices(rest: &[usize], indices: &mut Vec<usize>)
-    requires { vec_len indices.old + length rest.now ≤ vec_capacity indices.old }
-    ensures capacity { vec_capacity indices.old ≤ vec_capacity indices.new }
-    ensures len { vec_len indices.new ≡ vec_len indices.old + length rest.now }
-    ensures items { indices.new.items ≡ indices.old.items ++ rest.now }
-{
-    if rest.len() < LEAST_BLOCK {
-        for k in 0..rest.len() {
-            indices.push_reserved(rest[k]);
-        }
-        return;
-    }
-    match indices.extend_from_slice(rest) {
-        Ok(()) => {}
-        Err(_) => {}
-    }
-}
-
 // Appends the entries of what is left of a lane, with each value negated if `NEGATE`.
 fn append_rest<T: Ring, const NEGATE: bool>(
     rest: &[usize],
@@ -49,7 +27,7 @@ fn append_rest<T: Ring, const NEGATE: bool>(
     requires count { length rest_values.now ≡ length rest.now }
     requires room { vec_len indices.old + length rest.now ≤ vec_capacity indices.old }
     requires values_room { vec_len values.old + length rest.now ≤ vec_capacity values.old }
-    ensures capacity { vec_capacity indices.old ≤ vec_capacity indices.new }
+    ensures capacity { vec_capacity indices.new ≡ vec_capacity indices.old }
     ensures values_capacity { vec_capacity values.new ≡ vec_capacity values.old }
     ensures len { vec_len indices.new ≡ vec_len indices.old + length rest.now }
     ensures values_len { vec_len values.new ≡ vec_len values.old + length rest.now }
@@ -57,8 +35,8 @@ fn append_rest<T: Ring, const NEGATE: bool>(
     ensures values { GainsValues T.ring T.value (λ x. signed T.ring NEGATE (T.value x))
         values.old.items values.new.items rest_values.now }
 {
-    append_indices(rest, indices);
     for k in 0..rest.len() {
+        indices.push_reserved(rest[k]);
         values.push_reserved(with_sign::<T, NEGATE>(rest_values[k]));
     }
 }

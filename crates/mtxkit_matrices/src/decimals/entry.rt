@@ -1,4 +1,4 @@
-//! Data lines with their values scaled.
+//! Writes data lines with scaled values.
 
 ghost use Rattle.std.specs.Prelude.{◌≡◌, ◌++◌, ◌∷◌, [], IsTrue, true, false};
 ghost use Rattle.std.specs.Prelude.{MatchOption, IfOk, IfErr, OnOk};
@@ -25,7 +25,7 @@ use sparse_parser::header::{Format, Header};
 use sparse_parser::lines::next_word;
 use sparse_parser::numbers::{is_index, is_number};
 
-/// The words of a data line with its place.
+/// The words of a data line in coordinate format.
 #[derive(Clone, Copy)]
 struct CoordinateWords<'a> {
     row: &'a [u8],
@@ -33,7 +33,7 @@ struct CoordinateWords<'a> {
     value: &'a [u8],
 }
 
-/// Appends a data line with its scaled value.
+/// Appends a data line with its value scaled, or returns why it is refused. `number` is the line's number in the text.
 pub(crate) fn push_entry(
     written: &mut Vec<u8>,
     scale: u32,
@@ -58,7 +58,7 @@ pub(crate) fn push_entry(
     }
 }
 
-// Appends a data line of two indices and a value.
+// Appends a data line in coordinate format: two indices and a scaled value.
 fn push_coordinate(
     written: &mut Vec<u8>,
     scale: u32,
@@ -79,7 +79,7 @@ fn push_coordinate(
     }
 }
 
-// Appends a data line of a value.
+// Appends a data line in array format: a scaled value.
 fn push_value(
     written: &mut Vec<u8>,
     scale: u32,
@@ -117,7 +117,7 @@ fn push_words(
     push_integer(written, integer)
 }
 
-// Splits a line into two indices and a number.
+// Returns the words of a line if they are two indices and a number.
 fn coordinate_words(line: &[u8]) -> Option<CoordinateWords<'_>>
     ensures { MatchOption result (is_decimal_entry Coordinate (words_of line.now) ≡ false)
         (λ w. (words_of line.now ≡ w.row.now ∷ w.col.now ∷ w.value.now ∷ [])
@@ -134,7 +134,7 @@ fn coordinate_words(line: &[u8]) -> Option<CoordinateWords<'_>>
     }
 }
 
-// Returns the number that a line is.
+// Returns the word of a line that has one word, if it is a number.
 fn value_word(line: &[u8]) -> Option<&[u8]>
     ensures { MatchOption result (is_decimal_entry Array (words_of line.now) ≡ false)
         (λ w. (words_of line.now ≡ w.now ∷ []) × (is_number w.now ≡ true)) }
@@ -146,7 +146,7 @@ fn value_word(line: &[u8]) -> Option<&[u8]>
     Some(value)
 }
 
-// Returns the value of a number of the line with this number, times `10^scale`.
+// Returns the value of a word times `10^scale`. `number` is the number of its line.
 fn scaled_at(word: &[u8], scale: u32, number: usize) -> Result<i128, ScaleError>
     requires { IsTrue (is_number word.now) }
     ensures value { IfOk result (IsScaled scale word.now) }
@@ -160,7 +160,7 @@ fn scaled_at(word: &[u8], scale: u32, number: usize) -> Result<i128, ScaleError>
     }
 }
 
-// Appends the text of an integer.
+// Appends an integer in decimal.
 fn push_integer(written: &mut Vec<u8>, integer: i128) -> Result<(), ScaleError>
     ensures appended { OnOk result
         (written.new.items ≡ written.old.items ++ signed_decimal integer) }

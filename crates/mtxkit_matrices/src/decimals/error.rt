@@ -5,16 +5,17 @@ use std::alloc::{AllocError, AllocFailed};
 use std::error::Error;
 use std::fmt::{self, Display, Formatter, Write};
 
-/// Why the numbers of a text are not scaled by `10^K`. Lines are counted from 1; what is displayed does not name them.
+/// Why the numbers of a text are not scaled by `10^K`. Lines are counted from 1; `Display` does not write their
+/// numbers.
 #[derive(Clone, Copy, Debug)]
 pub enum ScaleError {
-    /// This line, the first that is not blank, is not a header, or names a symmetry that decimal numbers do not have.
+    /// This line, the first that is not blank, is not a header, or names the symmetry `hermitian`.
     Header(usize, LineFault),
-    /// The header in this line names complex values or none.
+    /// The header in this line names the field `complex` or `pattern`.
     Field(usize),
-    /// This line is not the size line that the header needs.
+    /// This line is not a size line for the header.
     Sizes(usize, LineFault),
-    /// This line is not a data line that the header needs.
+    /// This line is not a data line for the header.
     Entry(usize),
     /// The value in this line, scaled, is not an integer.
     Fraction(usize),

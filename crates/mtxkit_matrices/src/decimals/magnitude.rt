@@ -1,4 +1,4 @@
-//! Natural numbers times powers of ten.
+//! Multiplies natural numbers by powers of ten.
 
 ghost use Rattle.std.specs.Prelude.{◌≡◌, ◌≢◌, ◌<◌, ◌*◌, ◌^◌, ℕ, nat_eq, IfOk, IfErr, MatchResult};
 ghost use Rattle.std.specs.Option.{SomeIff};
@@ -9,14 +9,14 @@ ghost use Rattle.mtxkit_matrices.specs.declared.decimals.number.Misfit.TheVarian
 use crate::decimals::mantissa::{Digits, raised};
 use crate::decimals::number::Misfit;
 
-/// A power of ten: its sign, and its magnitude if that fits in 64 bits.
+/// An exponent of ten: its sign, and its magnitude if that fits in 64 bits.
 #[derive(Clone, Copy)]
 pub(crate) struct Power {
     pub is_negative: bool,
     pub size: Option<usize>,
 }
 
-/// Returns a number of digits, of which `behind` are behind the point, times two powers of ten.
+/// Returns the number with these digits, of which `behind` are after the point, times `10^scale` and the power.
 pub(crate) fn magnitude(
     digits: Digits,
     behind: usize,
@@ -41,7 +41,7 @@ pub(crate) fn magnitude(
     }
 }
 
-// Whether a part is zero.
+// Returns whether a part is zero.
 fn is_zero(part: Option<u128>) -> bool
     ensures { (value : ℕ) → SomeIff part (value < 2 ^ 128) value → result ≡ nat_eq value 0 }
 {
@@ -51,7 +51,7 @@ fn is_zero(part: Option<u128>) -> bool
     }
 }
 
-// Returns the same for digits that are not all zero and a power of this magnitude.
+// As `magnitude`, for digits that are not all zero and an exponent that fits in 64 bits.
 fn shifted(
     digits: Digits,
     behind: usize,
@@ -72,7 +72,7 @@ fn shifted(
     raised_part(digits.part, gain - loss)
 }
 
-// Returns why a number other than zero times an extreme power of ten is not taken.
+// Returns why a nonzero number times a power of ten whose exponent exceeds 64 bits is refused.
 fn extreme(is_negative: bool) -> Misfit
     ensures { result ≡ extreme is_negative }
 {
@@ -83,14 +83,14 @@ fn extreme(is_negative: bool) -> Misfit
     }
 }
 
-// Returns the magnitude of a power that is not negative, and otherwise 0.
+// Returns the magnitude of the exponent if it is not negative, and otherwise 0.
 fn up(is_negative: bool, size: usize) -> u128
     ensures { result ≡ up is_negative size }
 {
     if is_negative { 0 } else { size as u128 }
 }
 
-// Returns a part with zeros behind it.
+// Returns the part followed by this many zeros.
 fn raised_part(part: Option<u128>, zeros: u128) -> Result<u128, Misfit>
     ensures { (value : ℕ) → SomeIff part (value < 2 ^ 128) value
         → MatchResult result (λ m. m ≡ value * 10 ^ zeros)

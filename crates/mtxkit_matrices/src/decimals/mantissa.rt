@@ -1,11 +1,11 @@
-//! The digits of a mantissa.
+//! Reads the digits of a mantissa.
 
 ghost use Rattle.std.specs.Prelude.{◌≡◌, ◌<◌, ◌≤◌, ◌+◌, ◌*◌, ◌^◌, ℕ, length};
 ghost use Rattle.std.specs.Option.{SomeIff};
 ghost use Rattle.mtxkit_matrices.specs.Decimals.{number_of_digits};
 ghost use Rattle.mtxkit_matrices.specs.InnerDigits.{IsTrimmed};
 
-/// The number of the digits of a mantissa: a part that does not end in zero, and the zeros behind it.
+/// The digits of a mantissa as a number: a part that does not end in 0, followed by a number of zeros.
 #[derive(Clone, Copy)]
 pub(crate) struct Digits {
     /// The part, if it fits in 128 bits.
@@ -13,7 +13,7 @@ pub(crate) struct Digits {
     pub zeros: usize,
 }
 
-/// Reads the digits of a mantissa.
+/// Returns the digits of a mantissa; the point is skipped.
 pub(crate) fn read_digits(mantissa: &[u8]) -> Digits
     ensures number { IsTrimmed (number_of_digits mantissa.now) result.part result.zeros }
     ensures few { result.zeros ≤ length mantissa.now }
@@ -31,7 +31,7 @@ pub(crate) fn read_digits(mantissa: &[u8]) -> Digits
     Digits { part, zeros }
 }
 
-// The part with zeros and one more digit behind it, if it fits in 128 bits.
+// Returns the part followed by zeros and one more digit, if that fits in 128 bits.
 fn with_digit(part: Option<u128>, zeros: usize, digit: u8) -> Option<u128>
     requires { zeros < usize.MAX }
     ensures { (value : ℕ) → SomeIff part (value < 2 ^ 128) value → SomeIff result
@@ -40,7 +40,7 @@ fn with_digit(part: Option<u128>, zeros: usize, digit: u8) -> Option<u128>
     raised(part?, (zeros + 1) as u128)?.checked_add(u128::from(digit))
 }
 
-/// Returns a number with zeros behind it, or `None` if it exceeds 128 bits.
+/// Returns a number times `10^zeros`, or `None` if that exceeds 128 bits.
 pub(crate) fn raised(number: u128, zeros: u128) -> Option<u128>
     ensures { SomeIff result (number * 10 ^ zeros < 2 ^ 128) (number * 10 ^ zeros) }
 {

@@ -1,4 +1,4 @@
-//! Numbers times a power of ten.
+//! Multiplies a word's number by a power of ten, exactly.
 
 ghost use Rattle.std.specs.Prelude.{◌≡◌, IfOk, IfErr, IsTrue, MatchResult};
 ghost use Rattle.std.specs.Int.{w128};
@@ -14,7 +14,7 @@ use crate::decimals::mantissa::read_digits;
 use sparse_parser::lines::split_prefix;
 use sparse_parser::numbers::{after_sign, index, starts_with_minus};
 
-/// Why a number times a power of ten is not taken.
+/// Why a number times a power of ten is refused.
 #[derive(Clone, Copy, Debug)]
 pub enum Misfit {
     /// It is not an integer.
@@ -23,7 +23,7 @@ pub enum Misfit {
     Range,
 }
 
-/// Returns the value of a number times `10^scale`.
+/// Returns the value of a word times `10^scale`, if it is an integer of 128 bits.
 pub(crate) fn scaled(word: &[u8], scale: u32) -> Result<i128, Misfit>
     requires { IsTrue (is_number word.now) }
     ensures value { IfOk result (IsScaled scale word.now) }
@@ -37,7 +37,7 @@ pub(crate) fn scaled(word: &[u8], scale: u32) -> Result<i128, Misfit>
     }
 }
 
-// Splits a number without its sign before its exponent.
+// Splits a number, without its sign, into its mantissa and its exponent.
 fn split_exponent(word: &[u8]) -> (&[u8], &[u8])
     ensures mantissa { result.0.now ≡ mantissa_of word.now }
     ensures exponent { result.1.now ≡ exponent_of word.now }
@@ -45,7 +45,7 @@ fn split_exponent(word: &[u8]) -> (&[u8], &[u8])
     split_prefix(after_sign(word), |byte| byte != b'e' && byte != b'E')
 }
 
-// Returns the number of digits behind the point of a mantissa.
+// Returns the number of digits after the point of a mantissa.
 fn places_behind(mantissa: &[u8]) -> usize
     ensures { result ≡ places_behind mantissa.now }
 {
@@ -53,7 +53,7 @@ fn places_behind(mantissa: &[u8]) -> usize
     rest.len().saturating_sub(1)
 }
 
-// Returns the power of ten of an exponent.
+// Returns the exponent of ten that the text of an exponent gives; an empty one is 0.
 fn power(exponent: &[u8]) -> Power
     requires { IsTrue (is_exponent exponent.now) }
     ensures { HasPower exponent.now result.is_negative result.size }
@@ -70,7 +70,7 @@ fn power(exponent: &[u8]) -> Power
     }
 }
 
-// Returns a number with a sign, or `Range` if it exceeds 128 bits.
+// Returns the number with this magnitude and sign, or `Range` if it exceeds 128 bits.
 fn with_sign(magnitude: u128, is_negative: bool) -> Result<i128, Misfit>
     ensures { MatchResult result (λ value. value ≡ signed is_negative magnitude)
         (λ why. (why ≡ Range) × (FitsSigned w128 (signed is_negative magnitude) → ⊥)) }

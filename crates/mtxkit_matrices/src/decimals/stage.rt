@@ -1,4 +1,4 @@
-//! How a line of a text is written, by the lines that were read before it.
+//! Writes one line of a text. What a line is depends on the lines above it.
 
 ghost use Rattle.std.specs.Prelude.{◌≡◌, ◌≢◌, ◌++◌, ℕ, [], true, nat_eq, slice_index};
 ghost use Rattle.std.specs.Prelude.{MatchOption, IfOk, IfErr};
@@ -19,18 +19,19 @@ use sparse_parser::header::{Field, Format, Header, Symmetry};
 use sparse_parser::lines::next_word;
 use sparse_parser::size::Size;
 
-/// What was read of a text.
+/// Which lines of a text were read.
 #[derive(Clone, Copy)]
 pub(crate) enum Stage {
-    /// Blank lines alone.
+    /// Only blank lines.
     Head,
-    /// The header too.
+    /// The header, too.
     Sizes(Header),
-    /// The size line too.
+    /// The header and the size line, too.
     Entries(Header),
 }
 
-/// Appends the line that is written for a line of a text, without a line end. Returns what was read then.
+/// Appends what is written for a line of a text, without a line end. Returns the stage after the line. `number` is the
+/// line's number in the text.
 pub(crate) fn push_line(
     written: &mut Vec<u8>,
     scale: u32,
@@ -54,7 +55,7 @@ pub(crate) fn push_line(
     }
 }
 
-/// Appends bytes. Returns what was read then.
+/// Appends bytes, and returns the stage `next`.
 pub(crate) fn push_bytes(
     written: &mut Vec<u8>,
     next: Stage,
@@ -71,7 +72,7 @@ pub(crate) fn push_bytes(
     }
 }
 
-// Whether a word begins a comment.
+// Returns whether a word begins a comment.
 fn is_comment(word: &[u8]) -> bool
     ensures { result ≡ nat_eq (slice_index word.now 0) 37 }
 {
@@ -81,7 +82,7 @@ fn is_comment(word: &[u8]) -> bool
     }
 }
 
-// Appends the header with the field of integers.
+// Appends the header with the field `integer`.
 fn push_header(written: &mut Vec<u8>, number: usize, line: &[u8]) -> Result<Stage, ScaleError>
     requires { words_of line.now ≢ [] }
     ensures written { IfOk result
@@ -101,7 +102,7 @@ fn push_header(written: &mut Vec<u8>, number: usize, line: &[u8]) -> Result<Stag
     push_bytes(written, Stage::Sizes(header), head.as_bytes())
 }
 
-// Whether the values of a field are decimal numbers.
+// Returns whether the values of a field are decimal numbers.
 fn is_decimal(field: Field) -> bool
     ensures { result ≡ is_decimal field }
 {
@@ -111,7 +112,7 @@ fn is_decimal(field: Field) -> bool
     }
 }
 
-// Returns the header line of integers with this format and this symmetry, if there is one.
+// Returns the header line with the field `integer`, this format and this symmetry, if there is one.
 fn head(format: Format, symmetry: Symmetry) -> Option<&'static str>
     ensures { MatchOption result (symmetry ≡ Hermitian) (λ line. IsHead format symmetry line.now) }
 {
@@ -136,7 +137,7 @@ fn head(format: Format, symmetry: Symmetry) -> Option<&'static str>
     }
 }
 
-// Appends the size line as it is.
+// Appends the size line unchanged.
 fn push_sizes(
     written: &mut Vec<u8>,
     header: Header,

@@ -1,4 +1,4 @@
-//! Texts of decimal numbers written again with integers.
+//! Writes a text of decimal numbers again, with integers.
 
 ghost use Rattle.std.specs.Prelude.{IfOk, IfErr};
 ghost use Rattle.mtxkit_matrices.specs.ScaleFailures.{IsScaleFailure};
@@ -12,18 +12,19 @@ use std::alloc::Global;
 
 /// Returns a Matrix Market text of decimal numbers with each number multiplied by `10^scale`, as a text of integers.
 ///
-/// The numbers are read exactly, whatever their number of digits. Sizes, places, the symmetry, the format and comments
-/// are kept, and each line stays in its place. Each line gets LF as its end, and the words of a data line are separated
-/// by one space. A text of integers is taken too: its numbers are decimals without a point.
+/// The numbers are read exactly, whatever their number of digits. The sizes, the rows and columns of entries, the
+/// symmetry, the format, the comments and the order of the lines are kept. Each line gets LF as its end, and the words
+/// of a data line are separated by one space. The field of the text is `real` or `integer`.
 ///
 /// Linear in the text's length; the memory is the result's.
 ///
 /// # Errors
 ///
-/// Returns `Header`, `Field`, `Sizes` or `Entry` at the first line that does not fit the grammar or the header, `Field`
-/// also if the values are complex or the text is a pattern; `Fraction` or `Range` at the first value that is not an
-/// integer then, or not one of 128 bits; `Ended` if there is no size line; `OutOfMemory` only if an allocation fails.
-/// Entries are not counted, nor compared with the sizes: reading the result does that.
+/// The first line with a fault determines the error: `Header`, `Sizes` or `Entry` if it does not fit the grammar or the
+/// header, `Field` if it is a header whose field is `complex` or `pattern`, and `Fraction` or `Range` if its scaled
+/// value is not an integer, or not one of 128 bits. Returns `Ended` if there is no size line. Otherwise fails only if
+/// an allocation fails. The number of entries and their rows and columns are not compared with the sizes; reading the
+/// result does that.
 pub fn scaled_text(alloc: Global, scale: u32, text: &[u8]) -> Result<Vec<u8>, ScaleError>
     ensures written { IfOk result (λ written. IsScaledText scale text.now written.items) }
     ensures refused { IfErr result (IsScaleFailure scale text.now) }

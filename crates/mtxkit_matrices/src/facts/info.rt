@@ -1,4 +1,4 @@
-//! What `mtxkit info` says of a matrix.
+//! The facts that `mtxkit info` writes about a matrix.
 
 ghost use Rattle.std.specs.Prelude.{IfOk};
 ghost use Rattle.mtxkit_matrices.specs.Facts.{AreFacts};
@@ -13,27 +13,27 @@ use std::alloc::{AllocError, Global};
 /// Facts about a matrix.
 #[derive(Debug, Drop)]
 pub struct Info {
-    /// The number of stored places.
+    /// The number of entries.
     pub places: usize,
-    /// The number of stored places whose value is zero.
+    /// The number of entries whose value is zero.
     pub stored_zeros: usize,
-    /// The number of rows without places.
+    /// The number of rows without entries.
     pub empty_rows: usize,
-    /// The number of columns without places.
+    /// The number of columns without entries.
     pub empty_cols: usize,
-    /// The greatest distance of a place from the diagonal.
+    /// The largest |i - j| over the entries (i, j).
     pub bandwidth: usize,
-    /// Whether the pattern is square and has (j, i) for each place (i, j).
+    /// Whether the pattern is square and has the entry (j, i) for each entry (i, j).
     pub has_symmetric_pattern: bool,
     /// Whether the matrix is square and has the same value at (i, j) and (j, i).
     pub has_symmetric_values: bool,
-    /// The rows, counted by their numbers of places.
+    /// The histogram of the rows by their numbers of entries.
     pub rows: Histogram,
 }
 
 /// Returns the facts about a matrix.
 ///
-/// Linear in places, rows and columns. Fails only if an allocation fails.
+/// Linear in the numbers of entries, rows and columns. Fails only if an allocation fails.
 pub fn info_of<T: Ring>(alloc: Global, matrix: &CsrMatrix<T>) -> Result<Info, AllocError>
     ensures { IfOk result (AreFacts T.ring T.value (λ v. T.eq v T.zero_value) matrix.now) }
 {

@@ -1,4 +1,4 @@
-//! How many places the lanes of a pattern have.
+//! Counts the lanes of a pattern by their numbers of entries.
 
 ghost use Rattle.std.specs.Prelude.{◌≡◌, ℕ, ◌+◌, ◌*◌, ◌^◌, ◌<◌, ◌≤◌, ◌⊎◌, IfOk, length, sum};
 ghost use Rattle.std.specs.Prelude.{slice_index};
@@ -11,18 +11,18 @@ use std::alloc::{AllocError, Global};
 /// The number of lines of a [`Histogram`].
 pub const LINES: usize = 10;
 
-/// The lanes of a pattern, counted by their numbers of places.
+/// A histogram of the lanes of a pattern by their numbers of entries.
 ///
-/// Line b counts the lanes with at least b times `width` places and fewer than b + 1 times `width`.
+/// Line b counts the lanes with at least b * `width` and fewer than (b + 1) * `width` entries.
 #[derive(Debug, Drop)]
 pub struct Histogram {
-    /// How many numbers of places one line stands for.
+    /// The number of values that a line covers.
     pub width: usize,
     /// The number of lanes of each line.
     pub counts: Vec<usize>,
 }
 
-/// Returns the number of lanes with at least `from` places and fewer than `to`.
+/// Returns the number of lanes with at least `from` and fewer than `to` entries.
 pub fn count_lanes(pattern: &SparsityPattern, from: usize, to: usize) -> usize
     ensures count { result ≡ count_below pattern.now.major_dim (has_size_in pattern.now from to) }
     ensures within { result ≤ pattern.now.major_dim }
@@ -37,7 +37,7 @@ pub fn count_lanes(pattern: &SparsityPattern, from: usize, to: usize) -> usize
     count
 }
 
-/// Returns the number of places of the longest lane.
+/// Returns the number of entries of the longest lane.
 pub fn longest_lane(pattern: &SparsityPattern) -> usize
     ensures longest { result ≡ longest_below pattern.now pattern.now.major_dim }
     ensures bound { (k : ℕ) → k < pattern.now.major_dim → size_of pattern.now k ≤ result }
@@ -52,8 +52,8 @@ pub fn longest_lane(pattern: &SparsityPattern) -> usize
     longest
 }
 
-/// Returns the lanes counted by their numbers of places, in ten lines. The width is a tenth of the longest lane's number
-/// of places, rounded down, and one.
+/// Returns the histogram of the lanes by their numbers of entries, in ten lines. Its width is n / 10 + 1, rounded down,
+/// if the longest lane has n entries.
 pub fn counted_lanes(alloc: Global, pattern: &SparsityPattern) -> Result<Histogram, AllocError>
     ensures width { IfOk result (λ h. h.width ≡ line_width pattern.now) }
     ensures lines { IfOk result (λ h. length h.counts.items ≡ 10) }

@@ -1,4 +1,4 @@
-//! The lines of the facts about a matrix.
+//! Writes the lines of `mtxkit info` about a matrix.
 
 ghost use Rattle.std.specs.Prelude.{◌≡◌, ◌++◌, ◌*◌, OnOk, string_bytes, replicate};
 ghost use Rattle.mtxkit_matrices.specs.FactLines.{line, count_line, answer, count_lines};
@@ -9,10 +9,10 @@ use crate::facts::info::Info;
 use crate::facts::lanes::Histogram;
 use std::alloc::{AllocError, Global};
 
-// The length of the bar of all rows.
+// The length of the bar for all rows.
 const BAR: u128 = 40;
 
-/// Appends the facts about a matrix with this number of rows.
+/// Appends the lines of the facts about a matrix with this number of rows.
 ///
 /// Fails only if an allocation fails.
 pub fn push_facts(
@@ -30,7 +30,7 @@ pub fn push_facts(
     push_histogram(alloc, lines, &facts.rows, nrows)
 }
 
-// Appends the numbers among the facts.
+// Appends the lines of the facts that are numbers.
 fn push_counts(alloc: Global, lines: &mut String, facts: &Info) -> Result<(), AllocError>
     ensures { OnOk result
         (string_bytes lines.new ≡ string_bytes lines.old ++ count_lines facts.now) }
@@ -42,7 +42,7 @@ fn push_counts(alloc: Global, lines: &mut String, facts: &Info) -> Result<(), Al
     push_count(alloc, lines, "bandwidth", facts.bandwidth)
 }
 
-// Appends whether the pattern and the values are symmetric.
+// Appends the lines that say whether the pattern and the values are symmetric.
 fn push_symmetries(lines: &mut String, facts: &Info) -> Result<(), AllocError>
     ensures { OnOk result
         (string_bytes lines.new ≡ string_bytes lines.old ++ symmetry_lines facts.now) }
@@ -53,7 +53,7 @@ fn push_symmetries(lines: &mut String, facts: &Info) -> Result<(), AllocError>
     push_line(lines, "symmetric values", values)
 }
 
-// Appends the numbers of rows by their numbers of places.
+// Appends the histogram of the rows by their numbers of entries.
 fn push_histogram(
     alloc: Global,
     lines: &mut String,
@@ -67,7 +67,7 @@ fn push_histogram(
     push_bars(alloc, lines, rows, nrows)
 }
 
-// Appends what stands above the lines of a histogram.
+// Appends the title of the histogram.
 #[tactic(auto, unfolding(crate::specs::FactLines::bar_title))]
 fn push_title(lines: &mut String) -> Result<(), AllocError>
     ensures { OnOk result (string_bytes lines.new ≡ string_bytes lines.old ++ bar_title) }
@@ -75,7 +75,7 @@ fn push_title(lines: &mut String) -> Result<(), AllocError>
     lines.push_str("rows by their places:\n")
 }
 
-// Appends a line for each count.
+// Appends a line for each count of the histogram.
 fn push_bars(
     alloc: Global,
     lines: &mut String,
@@ -93,14 +93,14 @@ fn push_bars(
     Ok(())
 }
 
-// The product of two numbers, which fits.
+// Returns the product of two numbers, which fits in 128 bits.
 fn times(a: usize, b: usize) -> u128
     ensures { result ≡ a * b }
 {
     (a as u128) * (b as u128)
 }
 
-// Appends the line of the rows with `from` to `to` places.
+// Appends the line for the rows with `from` to `to` entries.
 #[tactic(auto, unfolding(crate::specs::FactLines::bar_line))]
 fn push_bar_line(
     alloc: Global,
@@ -119,7 +119,7 @@ fn push_bar_line(
     lines.push_str("\n")
 }
 
-// Appends the bar of some of all rows.
+// Appends the bar for `count` of `nrows` rows.
 fn push_bar(lines: &mut String, count: usize, nrows: usize) -> Result<(), AllocError>
     ensures { OnOk result
         (string_bytes lines.new ≡ string_bytes lines.old ++ bar count nrows) }
@@ -132,7 +132,7 @@ fn push_bar(lines: &mut String, count: usize, nrows: usize) -> Result<(), AllocE
     push_marks(lines, marks)
 }
 
-// Appends marks.
+// Appends the marks of a bar.
 fn push_marks(lines: &mut String, count: u128) -> Result<(), AllocError>
     ensures { OnOk result
         (string_bytes lines.new ≡ string_bytes lines.old ++ replicate count 35) }
@@ -143,7 +143,7 @@ fn push_marks(lines: &mut String, count: u128) -> Result<(), AllocError>
     Ok(())
 }
 
-/// Appends a line of a name and a number.
+/// Appends a line with a name and a number.
 ///
 /// Fails only if an allocation fails.
 pub fn push_count(
@@ -159,7 +159,7 @@ pub fn push_count(
     push_line(lines, name, number.as_str())
 }
 
-/// Appends a line of a name and a value.
+/// Appends a line with a name and a value.
 ///
 /// Fails only if an allocation fails.
 #[tactic(auto, unfolding(crate::specs::FactLines::line))]
@@ -173,6 +173,7 @@ pub fn push_line(lines: &mut String, name: &str, value: &str) -> Result<(), Allo
     lines.push_str("\n")
 }
 
+// Returns "yes" or "no".
 fn answer(yes: bool) -> &'static str
     ensures { result.now ≡ answer yes }
 {

@@ -1,4 +1,4 @@
-//! The shape of a pattern: its bandwidth and its symmetry.
+//! The bandwidth and the symmetry of a pattern.
 
 ghost use Rattle.std.specs.Prelude.{◌≡◌, ℕ, ◌≤◌, ◌⊎◌, ◌↔◌, IfOk, IsTrue};
 ghost use Rattle.std.specs.Int.{abs_diff};
@@ -8,7 +8,7 @@ ghost use Rattle.mtxkit_matrices.specs.Shapes.{IsSymmetricPattern};
 use sparse_pattern::pattern::SparsityPattern;
 use std::alloc::{AllocError, Global};
 
-/// Returns the greatest distance of a place from the diagonal, or 0 if there are no places.
+/// Returns the largest |i - j| over the entries (i, j) of a pattern, or 0 if it has none.
 pub fn bandwidth(pattern: &SparsityPattern) -> usize
     ensures bound { (i j : ℕ) → IsEntry pattern.now i j → abs_diff i j ≤ result }
     ensures reached { (result ≡ 0)
@@ -24,7 +24,7 @@ pub fn bandwidth(pattern: &SparsityPattern) -> usize
     widest
 }
 
-/// Returns whether the pattern is square and has the place (j, i) for each place (i, j).
+/// Returns whether the pattern is square and has the entry (j, i) for each entry (i, j).
 pub fn is_symmetric(alloc: Global, pattern: &SparsityPattern) -> Result<bool, AllocError>
     ensures { IfOk result (λ answer. IsTrue answer ↔ IsSymmetricPattern pattern.now) }
 {

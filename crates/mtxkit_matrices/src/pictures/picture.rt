@@ -53,11 +53,11 @@ impl Picture {
     }
 }
 
-/// Returns a picture of the pattern, `height` cells high and `width` cells wide. A cell is black exactly where a place
+/// Returns a picture of the pattern, `height` cells high and `width` cells wide. A cell is black exactly if an entry
 /// lies in it.
 ///
-/// Lane i lies in row i * height / major_dim, and index j in column j * width / minor_dim, both rounded down. Linear in
-/// the number of places and cells. Fails only if an allocation fails.
+/// An entry in lane i with minor index j lies in row i * height / major_dim and column j * width / minor_dim, both
+/// rounded down. Linear in the numbers of entries and cells. Fails only if an allocation fails.
 pub fn draw(
     alloc: Global,
     pattern: &SparsityPattern,
@@ -79,7 +79,7 @@ pub fn draw(
     })
 }
 
-// Marks the cells in which a place lies.
+// Makes the cells black in which an entry lies.
 fn mark(cells: &mut [bool], pattern: &SparsityPattern, height: usize, width: usize)
     requires { length cells.old ≡ height * width }
     ensures count { length cells.new ≡ length cells.old }
@@ -96,7 +96,7 @@ fn mark(cells: &mut [bool], pattern: &SparsityPattern, height: usize, width: usi
     }
 }
 
-// The cell, of `cells`, in which an index below `size` lies.
+// Returns the number of the cell in which an index below `size` lies, if `cells` cells stand for `size` indices.
 fn cell_of(index: usize, size: usize, cells: usize) -> usize
     requires { index < size }
     ensures { result ≡ cell_of size cells index }

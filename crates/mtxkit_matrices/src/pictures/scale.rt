@@ -1,12 +1,13 @@
-//! The sizes of pictures.
+//! The size of a picture of a matrix.
 
 ghost use Rattle.std.specs.Prelude.{◌≡◌, ◌<◌, ◌≤◌};
 ghost use Rattle.mtxkit_matrices.specs.PictureSizes.{picture_sizes, scaled_side};
 
 /// Returns the height and the width of a picture of a matrix, neither above `size`, which must not be 0.
 ///
-/// A matrix without a longer side has a cell for each row and column. Otherwise `size` cells stand for the longer side,
-/// and the other side is scaled alike and rounded down, to one cell at least if it is not empty.
+/// If neither side of the matrix exceeds `size`, there is a cell for each row and column. Otherwise `size` cells stand
+/// for the longer side; the other side is scaled by the same factor and rounded down, to at least one cell unless it is
+/// 0.
 pub fn scaled_sizes(nrows: usize, ncols: usize, size: usize) -> (usize, usize)
     requires some { 0 < size }
     ensures sizes { result ≡ picture_sizes nrows ncols size }
@@ -25,7 +26,7 @@ pub fn scaled_sizes(nrows: usize, ncols: usize, size: usize) -> (usize, usize)
     (scaled(nrows, longest, size), scaled(ncols, longest, size))
 }
 
-// The cells of a side, if `size` cells stand for the longest one.
+// Returns the number of cells for a side, if `size` cells stand for the longest side.
 fn scaled(side: usize, longest: usize, size: usize) -> usize
     requires side { side ≤ longest }
     requires long { size < longest }

@@ -48,7 +48,7 @@ pub fn block_text(alloc: Global, picture: &Picture) -> Result<String, AllocError
     Ok(text)
 }
 
-// Appends the line of a row of cells and of the one below it, which is white where there is none.
+// Appends the line that shows a row of cells and the row below it, which counts as white if there is none.
 fn push_blocks(text: &mut String, picture: &Picture, row: usize) -> Result<(), AllocError>
     requires { row < picture.now.height }
     ensures { OnOk result
@@ -62,7 +62,7 @@ fn push_blocks(text: &mut String, picture: &Picture, row: usize) -> Result<(), A
     text.push_str("\n")
 }
 
-// Whether the cell below this one is there and black.
+// Returns whether there is a cell below this one and it is black.
 fn is_lower_black(picture: &Picture, row: usize, col: usize) -> bool
     requires row { row < picture.now.height }
     requires col { col < picture.now.width }
@@ -72,7 +72,7 @@ fn is_lower_black(picture: &Picture, row: usize, col: usize) -> bool
     row + 1 < height && picture.is_black(row + 1, col)
 }
 
-// The character of two cells, one above the other.
+// Returns the character that shows two cells, one above the other.
 fn pair_text(upper: bool, lower: bool) -> &'static str
     ensures { result.now ≡ pair_text upper lower }
 {

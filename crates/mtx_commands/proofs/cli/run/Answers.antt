@@ -7,9 +7,10 @@ use Rattle.sparse_factor.specs.declared.factorization.Triangle.{Triangle}
 use Rattle.sparse_factor.specs.declared.factorization.Triangle.TheVariants.{Upper}
 use Rattle.mtx_commands.specs.Commands.{AsksFill, IsAnswered}
 use Rattle.mtx_commands.specs.Fills.{WritesFill}
+use Rattle.mtx_commands.proofs.Usage.{IfErr-command}
 use Rattle.mtx_commands.proofs.cli.run.Goals as goal
 
--- two words, the first of which is known
+-- the texts of two words, of which the first is known
 two_words : (words : List (Bor (List ℕ))) (d : Bor (List ℕ)) (first : List ℕ) → 2 ≤ length words
     → length words < 3 → (get_or words 0 d).now ≡ first
     → (path : List ℕ) × (texts words ≡ first ∷ (path ∷ []))
@@ -19,7 +20,7 @@ two_words (a ∷ (b ∷ [])) d first least below is =
     (b.now, ap (λ (w : List ℕ). w ∷ (b.now ∷ [])) is)
 two_words (a ∷ (b ∷ (c ∷ rest))) d first least below is = absurd (omega arith)
 
--- three words, the first two of which are known
+-- the texts of three words, of which the first two are known
 three_words : (words : List (Bor (List ℕ))) (d e : Bor (List ℕ)) (first second : List ℕ)
     → 3 ≤ length words → length words < 4 → (get_or words 0 d).now ≡ first
     → (get_or words 1 e).now ≡ second
@@ -34,7 +35,7 @@ three_words (a ∷ (b ∷ (c ∷ []))) d e first second least below is at = (
 )
 three_words (a ∷ (b ∷ (c ∷ (o ∷ rest)))) d e first second least below is at = absurd (omega arith)
 
--- a fill that the words ask for is an answer to them
+-- a fill that the words ask for is an answer
 IfOk-fill : {T E : Type 0} (r : Result T E) (words : List (List ℕ)) (old new : Option (List ℕ))
     (triangle : Triangle) (path : List ℕ) → AsksFill triangle path words
     → OnOk r (WritesFill triangle old new) → OnOk r (IsAnswered words old new)
@@ -54,3 +55,15 @@ returns-in-Some-clause-answered g c =
     c.in-fill-2.len_below c.in-fill-2.is-fill c.in-Some.ensures.named in
     IfOk-fill c.fill-in-Some.result _ _ _ c.in-Some.triangle path (inl words)
     c.fill-in-Some.ensures.filled
+
+pub returns-in-fill-clause-proper : goal.returns-in-fill-clause-proper
+returns-in-fill-clause-proper g c =
+    let (path, words) = two_words c.args.words.now _ _ c.in-fill.len_at_least c.in-fill.len_below
+    c.in-fill.is-fill in
+    IfErr-command c.fill.result _ (inr (Upper, path, inr (refl, words)))
+
+pub returns-in-Some-clause-proper : goal.returns-in-Some-clause-proper
+returns-in-Some-clause-proper g c =
+    let (path, words) = three_words c.args.words.now _ _ _ _ c.in-fill-2.len_at_least
+    c.in-fill-2.len_below c.in-fill-2.is-fill c.in-Some.ensures.named in
+    IfErr-command c.fill-in-Some.result _ (inr (c.in-Some.triangle, path, inl words))

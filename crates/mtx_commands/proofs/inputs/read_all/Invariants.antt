@@ -1,5 +1,5 @@
 use Rattle.std.proofs.Common.{◌≡◌, length}
 use Rattle.mtx_commands.proofs.inputs.read_all.Given as goal
 
-abbrev pub invariant-loop-index : goal.invariant-loop-index
-invariant-loop-index g l = length l.texts.items ≡ l.index
+abbrev pub invariant-loop-path : goal.invariant-loop-path
+invariant-loop-path g l = length l.texts.items ≡ l.path-index

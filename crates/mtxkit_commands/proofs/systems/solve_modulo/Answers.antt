@@ -80,5 +80,6 @@ returns-in-Some-eq1000000007 c =
 pub returns-in-Some-eq2305843009213693951 : goal.returns-in-Some-eq2305843009213693951
 returns-in-Some-eq2305843009213693951 c =
     let is : c.args.modulus ≡ Some 2305843009213693951 = search rules in
-    by_modulus c.args.modulus (Some 2305843009213693951) c.args.a.now c.args.b.now c.solve_in-in-Some-eq2305843009213693951.result is
+    by_modulus c.args.modulus (Some 2305843009213693951) c.args.a.now c.args.b.now
+    c.solve_in-in-Some-eq2305843009213693951.result is
     c.solve_in-in-Some-eq2305843009213693951.ensures

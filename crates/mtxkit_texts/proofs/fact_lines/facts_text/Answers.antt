@@ -3,7 +3,7 @@ use Rattle.mtxkit_matrices.specs.FactLines.{count_lines, symmetry_lines, histogr
 use Rattle.mtxkit_texts.specs.HeaderLines.{header_lines}
 use Rattle.mtxkit_texts.proofs.fact_lines.facts_text.Goals as goal
 
--- three texts, one below the other
+-- a text to which three texts were appended
 joined : (a b c d first second third : List ℕ) → a ≡ [] → b ≡ a ++ first → c ≡ b ++ second
     → d ≡ c ++ third → d ≡ first ++ (second ++ third)
 joined a b c d first second third ea eb ec ed = rw (ed, ec, eb, ea) (append_assoc first second third)

@@ -27,13 +27,22 @@ loop-k-preserved g c =
     let R = g.T.Ring.ring in
     let f = g.T.Ring.value in
     let h = λ (x : g.row.T.Denot). signed R (not (eqb g.row.NEGATE 0)) (f x) in
+    let k = c.loop-k.k in
+    let rest = c.args.rest.now in
+    let old = c.args.indices.now.items in
     let inv = c.loop-k.invariant in
-    let value = c.push_reserved.ensures in
+    let index = c.push_reserved.ensures in
+    let value = c.push_reserved-in-loop-k.ensures in
     record {
+      capacity = index.capacity ∙ inv.capacity;
       values_capacity = value.capacity ∙ inv.values_capacity;
+      count = omega (arith, index.len, inv.count);
       values_count = omega (arith, value.len, inv.values_count);
+      indices = index.items ∙ ap (λ l. l ++ get_or rest k 0 ∷ []) inv.indices
+          ∙ append_assoc old (take k rest) (get_or rest k 0 ∷ [])
+          ∙ ap (λ l. old ++ l) (sym (take_more rest k 0 c.loop-k-test.true));
       values = rw value.items (gains_more R f h c.args.values.now.items c.loop-k.values.items
-          c.args.rest_values.now c.loop-k.k c.index-rest_values-k.result c.with_sign.result
+          c.args.rest_values.now k c.index-rest_values-k.result c.with_sign.result
           (omega (arith, c.loop-k-test.true, c.requires.count)) c.index-rest_values-k.is
           c.with_sign.ensures inv.values);
     }

@@ -1,4 +1,4 @@
--- A value of no bytes is made, with no reading.
+-- Builds a value of size 0 whose list of readings is empty.
 use Rattle.std.proofs.Common.{[], ◌∷◌, refl}
 use Rattle.std.proofs.raw_atomic.Walks.{proved}
 use mir.Val.{vstruct, vnil}

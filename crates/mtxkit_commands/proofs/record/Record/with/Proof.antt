@@ -1,4 +1,4 @@
--- A value of no bytes is made, with one reading more than the old one.
+-- Builds a value of size 0 whose list of readings is that of the old value and one more.
 use Rattle.std.proofs.Common.{List, [], ◌∷◌, refl}
 use Rattle.std.proofs.raw_atomic.Walks.{proved}
 use mir.Syntax.{named}
