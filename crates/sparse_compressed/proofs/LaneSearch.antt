@@ -64,8 +64,8 @@ module _ (d : Raw) (valid : IsValid d) (i j p : ℕ) where
       let empty : lane_of d i ≡ [] = ap (λ n. take n (drop (start_of d i) d.indices)) count in
       ap (λ xs. option_map (λ k. start_of d i + k) (position (λ x. x == j) xs)) empty
 
-  find_offset-position : IsOffset d i j p → find_offset d i j ≡ Some p
-  find_offset-position at =
+  find_offset-of_entry : IsOffset d i j p → find_offset d i j ≡ Some p
+  find_offset-of_entry at =
       let lane = valid.lanes i at.0.lane in
       let k = p - start_of d i in
       let within : k < length (lane_of d i) = omega
@@ -75,8 +75,8 @@ module _ (d : Raw) (valid : IsValid d) (i j p : ℕ) where
       ap (option_map (λ k. start_of d i + k)) (offset_at (lane_of d i) j k (rising_lane d i lane)
       within is) ∙ ap Some back
 
-  position-find_offset : find_offset d i j ≡ Some p → IsOffset d i j p
-  position-find_offset found = elim (lt_or_ge i d.major_dim) [
+  entry-of_find_offset : find_offset d i j ≡ Some p → IsOffset d i j p
+  entry-of_find_offset found = elim (lt_or_ge i d.major_dim) [
     | inr past ↦ absurd (none-some p (sym (find_offset-past past) ∙ found))
     | inl inside ↦
         let lane = valid.lanes i inside in
@@ -102,4 +102,4 @@ module _ (d : Raw) (valid : IsValid d) (i j p : ℕ) where
 
   -- a look-up returns the offset p if and only if p is the offset of the entry
   pub find_offset-is_offset : (find_offset d i j ≡ Some p) ↔ IsOffset d i j p
-  find_offset-is_offset = (position-find_offset, find_offset-position)
+  find_offset-is_offset = (entry-of_find_offset, find_offset-of_entry)

@@ -39,9 +39,9 @@ module _ {T : Type 0} where
 
   -- the entry (i, j) is stored, and x has its value
   pub record IsValueAt (m : Compressed T) (i j : ℕ) (x : MutBor T) : Type 0 where
-    pub position : ℕ
-    pub stored : find_offset m.pattern i j ≡ Some position
-    pub value : x.now ≡ slice_index_or m.values position x.now
+    pub offset : ℕ
+    pub stored : find_offset m.pattern i j ≡ Some offset
+    pub value : x.now ≡ slice_index_or m.values offset x.now
 
   -- the value at the pair, or that none is stored there, or that the pair is out of bounds
   abbrev pub IsFoundAt : Compressed T → ℕ → ℕ → Found T → Type 0
@@ -60,15 +60,15 @@ module _ {T : Type 0} where
   IsEntryMutOf m i j None = ¬ IsInBounds m.pattern i j
 
   -- the index j is at this offset of the lane, and there is a value at the offset
-  pub record IsStoredIn (l : Lane T) (j position : ℕ) : Type 0 where
-    pub index : index_in l.indices j ≡ Some position
-    pub within : position < length l.values
+  pub record IsStoredIn (l : Lane T) (j offset : ℕ) : Type 0 where
+    pub index : index_in l.indices j ≡ Some offset
+    pub within : offset < length l.values
 
   -- the index j is stored, and x has its value
   pub record IsLaneValueAt (l : Lane T) (j : ℕ) (x : MutBor T) : Type 0 where
-    pub position : ℕ
-    pub stored : IsStoredIn l j position
-    pub value : x.now ≡ slice_index_or l.values position x.now
+    pub offset : ℕ
+    pub stored : IsStoredIn l j offset
+    pub value : x.now ≡ slice_index_or l.values offset x.now
 
   -- the value at the index, or that none is stored there, or that the index is out of bounds
   abbrev pub IsLaneFoundAt : Lane T → ℕ → Found T → Type 0

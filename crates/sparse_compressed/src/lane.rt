@@ -66,7 +66,7 @@ impl<'a> LaneIndices<'a> {
 
     /// Returns the offset of `minor_index` from the start of the lane, or `None` if it is not stored. Binary search.
     pub fn offset_of(&self, minor_index: usize) -> Option<usize>
-        ensures position { result ≡ position (λ x. x == minor_index) self.now }
+        ensures offset { result ≡ position (λ x. x == minor_index) self.now }
         ensures within { IfSome result (λ at. at < length self.now) }
     {
         self.indices.binary_search(&minor_index).ok()
@@ -79,7 +79,7 @@ impl<'a> LaneIndices<'a> {
 /// `lane` must be within bounds.
 pub fn offset_of(pattern: &SparsityPattern, lane: usize, index: usize) -> Option<usize>
     requires { lane < pattern.now.major_dim }
-    ensures position { result ≡ find_offset pattern.now lane index }
+    ensures offset { result ≡ find_offset pattern.now lane index }
     ensures within { IfSome result (λ p. p < length pattern.now.indices) }
 {
     let (start, _) = pattern.lane_bounds(lane);
