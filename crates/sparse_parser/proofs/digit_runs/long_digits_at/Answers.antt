@@ -6,5 +6,5 @@ pub returns-then-count-le-SHORT-clause-read : goal.returns-then-count-le-SHORT-c
 returns-then-count-le-SHORT-clause-read c =
     first_read 24 c.args.text.now c.text_from-rest.result.now c.split_at.result.0.now c.args.from
     _ _
-    c.requires c.text_from-rest.ensures c.split_at.ensures.leading c.read_digits-count.ensures.end
+    c.requires c.text_from-rest.ensures c.split_at.ensures.front c.read_digits-count.ensures.end
     (omega arith) (omega arith) c.read_digits-count.ensures.value

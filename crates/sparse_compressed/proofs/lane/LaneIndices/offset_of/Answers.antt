@@ -5,4 +5,4 @@ use Rattle.sparse_compressed.proofs.lane.LaneIndices.offset_of.Goals as goal
 pub returns-clause-offset : goal.returns-clause-offset
 returns-clause-offset c =
     c.ok.ensures.value ∙ rw (← c.self.view_is)
-    (search_is_offset _ _ _ c.self.invariant c.binary_search.ensures.offset)
+    (search_is_offset _ _ _ c.self.invariant c.binary_search.ensures.position)
