@@ -3,3 +3,4 @@ mod Remainders
 mod Solving
 mod Readings
 mod Reports
+mod GivenCommands

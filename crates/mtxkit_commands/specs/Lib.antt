@@ -6,3 +6,4 @@ pub mod Inputs
 pub mod Arguments
 pub mod SystemErrors
 pub mod Names
+pub mod Words

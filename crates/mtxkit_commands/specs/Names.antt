@@ -1,7 +1,10 @@
--- The files that the lines of errors name.
+-- The files that the lines of errors name, and the lines of these files.
 use Rattle.std.specs.Prelude.{◌≡◌, ◌⊎◌, ℕ, ◌+◌, ◌==◌, if◌then◌else◌, List, [], ◌++◌, codes, Option}
 use Rattle.std.specs.Prelude.{Some, None}
+use Rattle.std.specs.Fmt.{decimal}
 use Rattle.std.specs.Io.KnownBytes.{Appends}
+use Rattle.mtxkit_matrices.specs.declared.decimals.error.ScaleError.{ScaleError}
+use Rattle.mtxkit_matrices.specs.declared.decimals.error.ScaleError.TheVariants as scale
 use Rattle.mtxkit_texts.specs.declared.failure.Failure.{Failure}
 use Rattle.mtxkit_texts.specs.declared.failure.Failure.TheVariants.{Unread, Input, NotSupported}
 use Rattle.mtxkit_texts.specs.declared.failure.Failure.TheVariants.{Wide, Overflow, Unsaved}
@@ -59,10 +62,33 @@ fault_file command (Overflow number) = file_of command number
 fault_file command (Unsaved error) = saved_file command
 fault_file command failure = None
 
--- the path of the file that an error of the command is about
+-- the number of the line that a failure is about
+abbrev pub fault_line : Failure → Option ℕ
+fault_line (Input number kind location) = Some location.line
+fault_line failure = None
+
+-- the number of the line with the fault, if numbers are not scaled
+abbrev pub unscaled_line : ScaleError → Option ℕ
+unscaled_line (scale.Header number fault) = Some number
+unscaled_line (scale.Field number) = Some number
+unscaled_line (scale.Sizes number fault) = Some number
+unscaled_line (scale.Entry number) = Some number
+unscaled_line (scale.Fraction number) = Some number
+unscaled_line (scale.Range number) = Some number
+unscaled_line scale.Ended = None
+unscaled_line scale.OutOfMemory = None
+
+-- the path of a file, followed by a colon and the number of a line of it, if there is one
+abbrev pub with_line : Option (List ℕ) → Option ℕ → Option (List ℕ)
+with_line None number = None
+with_line (Some path) None = Some path
+with_line (Some path) (Some number) = Some (path ++ (codes ":" ++ decimal number))
+
+-- the path of the file that an error of the command is about, and the number of its line
 abbrev pub error_file : Command → CommandError → Option (List ℕ)
-error_file command (Failed failure) = fault_file command failure
-error_file command (Unscaled error) = Some (first_file command)
+error_file command (Failed failure) = with_line (fault_file command failure) (fault_line failure)
+error_file command (Unscaled error) =
+    with_line (Some (first_file command)) (unscaled_line error)
 
 -- the path of a file before the message, if there is one
 abbrev pub name_text : Option (List ℕ) → List ℕ

@@ -1,9 +1,11 @@
 //! Writes the lines of errors.
 
 ghost use Rattle.std.specs.Prelude.{◌≡◌, ◌++◌, IfOk, IfErr, OnOk, codes, string_bytes};
+ghost use Rattle.std.specs.Fmt.{decimal};
 ghost use Rattle.std.specs.Option.{option_map};
 ghost use Rattle.mtxkit_texts.specs.Statuses.{status_of};
-ghost use Rattle.mtxkit_commands.specs.Names.{name_text, IsErrorLine, IsReported, IsWritten};
+ghost use Rattle.mtxkit_commands.specs.Names.{fault_line, with_line, name_text};
+ghost use Rattle.mtxkit_commands.specs.Names.{IsErrorLine, IsReported, IsWritten};
 
 use mtxkit_texts::Failure;
 use sparse_io::{Sink, write_all_to};
@@ -17,8 +19,9 @@ const OUT_OF_MEMORY: &str = "mtxkit: out of memory\n";
 /// line is ignored.
 pub fn report<E: Sink>(alloc: Global, file: Option<&str>, failure: Failure, err: &mut E) -> u8
     ensures status { result ≡ status_of failure }
-    ensures reported { IsReported (option_map (λ path. path.now) file.entry) (E.accepted err.old)
-        (E.accepted err.new) (E.failures err.old) (E.failures err.new) }
+    ensures reported { IsReported
+        (with_line (option_map (λ path. path.now) file.entry) (fault_line failure))
+        (E.accepted err.old) (E.accepted err.new) (E.failures err.old) (E.failures err.new) }
 {
     write_line(failure_line(alloc, file, failure), err);
     failure.status()
@@ -58,34 +61,59 @@ pub fn failure_line(
     file: Option<&str>,
     failure: Failure,
 ) -> Result<String, AllocError>
-    ensures { IfOk result (λ line. IsErrorLine (option_map (λ path. path.now) file.entry)
+    ensures { IfOk result (λ line. IsErrorLine
+        (with_line (option_map (λ path. path.now) file.entry) (fault_line failure))
         (string_bytes line)) }
 {
     let mut line = String::new(alloc);
-    push_name(&mut line, file)?;
+    push_name(alloc, &mut line, file, line_of(failure))?;
     let why = match (file, failure) {
         (None, Failure::Write(kind)) => format!(in alloc; "write failed: {}\n", Reason(kind))?,
         (None, _) => format!(in alloc; "{failure}\n")?,
-        (Some(_), Failure::Input(_, _, location)) => format!(in alloc;
-            ":{}: {failure}\n",
-            location.line
-        )?,
         (Some(_), _) => format!(in alloc; ": {failure}\n")?,
     };
     line.push_str(why.as_str())?;
     Ok(line)
 }
 
-// Appends the names of the program and of the file.
-fn push_name(line: &mut String, file: Option<&str>) -> Result<(), AllocError>
-    ensures { OnOk result (string_bytes line.new ≡ string_bytes line.old
-        ++ (codes "mtxkit: " ++ name_text (option_map (λ path. path.now) file.entry))) }
+// Returns the number of the line that a failure is about, if it is about one.
+fn line_of(failure: Failure) -> Option<usize>
+    ensures { result ≡ fault_line failure }
+{
+    match failure {
+        Failure::Input(_, _, location) => Some(location.line),
+        _ => None,
+    }
+}
+
+/// Appends the name of the program, the path of the file, and the number of the file's line, as far as they are known.
+pub(crate) fn push_name(
+    alloc: Global,
+    line: &mut String,
+    file: Option<&str>,
+    number: Option<usize>,
+) -> Result<(), AllocError>
+    ensures { OnOk result (string_bytes line.new ≡ string_bytes line.old ++ (codes "mtxkit: "
+        ++ name_text (with_line (option_map (λ path. path.now) file.entry) number))) }
 {
     line.push_str("mtxkit: ")?;
-    match file {
-        Some(path) => line.push_str(path),
-        None => Ok(()),
+    match (file, number) {
+        (Some(path), Some(number)) => {
+            line.push_str(path)?;
+            push_number(alloc, line, number)
+        }
+        (Some(path), None) => line.push_str(path),
+        (None, _) => Ok(()),
     }
+}
+
+// Appends a colon and the number of a line.
+fn push_number(alloc: Global, line: &mut String, number: usize) -> Result<(), AllocError>
+    ensures { OnOk result
+        (string_bytes line.new ≡ string_bytes line.old ++ (codes ":" ++ decimal number)) }
+{
+    let text = format!(in alloc; ":{number}")?;
+    line.push_str(text.as_str())
 }
 
 // The message for a failed write to the output.

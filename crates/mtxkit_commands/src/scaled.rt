@@ -2,10 +2,11 @@
 
 ghost use Rattle.std.specs.Prelude.{◌≡◌, IfOk, IfErr, Some, string_bytes};
 ghost use Rattle.mtxkit_commands.specs.Commands.{IsScaleAnswer, IsScaleError};
+ghost use Rattle.mtxkit_commands.specs.Names.{unscaled_line, with_line};
 ghost use Rattle.mtxkit_commands.specs.Names.{IsErrorLine, IsReported};
 
 use crate::command_error::CommandError;
-use crate::failure_lines::write_line;
+use crate::failure_lines::{push_name, write_line};
 use crate::inputs::{Texts, read_text};
 use mtxkit_matrices::{ScaleError, scaled_text};
 use mtxkit_texts::Failure;
@@ -41,8 +42,8 @@ pub(crate) fn report_unscaled<E: Sink>(
     err: &mut E,
 ) -> u8
     ensures status { result ≡ 1 }
-    ensures reported { IsReported (Some file.now) (E.accepted err.old) (E.accepted err.new)
-        (E.failures err.old) (E.failures err.new) }
+    ensures reported { IsReported (with_line (Some file.now) (unscaled_line error))
+        (E.accepted err.old) (E.accepted err.new) (E.failures err.old) (E.failures err.new) }
 {
     write_line(unscaled_line(alloc, file, error), err);
     1
@@ -51,15 +52,27 @@ pub(crate) fn report_unscaled<E: Sink>(
 // Returns the line for a file whose numbers are not scaled: the program, the file, the number of the line with the
 // fault, if there is one, and the message.
 fn unscaled_line(alloc: Global, file: &str, error: ScaleError) -> Result<String, AllocError>
-    ensures { IfOk result (λ line. IsErrorLine (Some file.now) (string_bytes line)) }
+    ensures { IfOk result (λ line. IsErrorLine
+        (with_line (Some file.now) (unscaled_line error)) (string_bytes line)) }
 {
     let mut line = String::new(alloc);
-    line.push_str("mtxkit: ")?;
-    line.push_str(file)?;
-    let rest = match error.line() {
-        Some(number) => format!(in alloc; ":{number}: {error}\n")?,
-        None => format!(in alloc; ": {error}\n")?,
-    };
-    line.push_str(rest.as_str())?;
+    push_name(alloc, &mut line, Some(file), line_of(error))?;
+    let why = format!(in alloc; ": {error}\n")?;
+    line.push_str(why.as_str())?;
     Ok(line)
+}
+
+// Returns the number of the line with the fault, if there is one.
+fn line_of(error: ScaleError) -> Option<usize>
+    ensures { result ≡ unscaled_line error }
+{
+    match error {
+        ScaleError::Header(number, _)
+        | ScaleError::Field(number)
+        | ScaleError::Sizes(number, _)
+        | ScaleError::Entry(number)
+        | ScaleError::Fraction(number)
+        | ScaleError::Range(number) => Some(number),
+        ScaleError::Ended | ScaleError::OutOfMemory => None,
+    }
 }

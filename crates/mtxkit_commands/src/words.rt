@@ -1,7 +1,14 @@
 //! Parses the arguments of the program.
 
-ghost use Rattle.std.specs.Prelude.{◌<◌, IfOk, IfSome};
+ghost use Rattle.clap.specs.Matches.{found_of, first_value, subcommand_name_of};
+ghost use Rattle.clap.specs.Simple.{subcommand_rows_of};
+ghost use Rattle.clap.specs.Walk.{rows_of};
+ghost use Rattle.clap.specs.declared.parser.matches.Found.{Found};
+ghost use Rattle.std.specs.Prelude.{◌≡◌, ◌<◌, IfOk, IfSome, Some, codes};
+ghost use Rattle.std.specs.Option.{option_map};
 ghost use Rattle.mtxkit_commands.specs.Commands.{IsSized};
+ghost use Rattle.mtxkit_commands.specs.Names.{target_file};
+ghost use Rattle.mtxkit_commands.specs.Words.{command_name, field_name, size_given, GivesCommand};
 
 use crate::command_line::command_line;
 use crate::commands::{Command, Target, Values};
@@ -26,9 +33,22 @@ pub fn parse<'a>(alloc: Global, words: &'a [String]) -> Result<Option<Command<'a
 
 // Returns the command that `clap` matched.
 fn command_of<'a>(matches: &ArgMatches<'a>) -> Option<Command<'a>>
-    ensures { IfSome result IsSized }
+    ensures sized { IfSome result IsSized }
+    ensures named { IfSome result
+        (λ command. subcommand_name_of matches.now ≡ Some (command_name command)) }
+    ensures given { IfSome result (λ command. (words : Found) × GivesCommand words command
+        × (option_map (λ s. s.1) (subcommand_rows_of matches.now) ≡ Some (rows_of words))) }
 {
     let (name, words) = matches.subcommand()?;
+    named_command(name, words)
+}
+
+// Returns the command with this name and these arguments.
+fn named_command<'a>(name: &str, words: &ArgMatches<'a>) -> Option<Command<'a>>
+    ensures sized { IfSome result IsSized }
+    ensures named { IfSome result (λ command. name.now ≡ command_name command) }
+    ensures given { IfSome result (GivesCommand (found_of words.now)) }
+{
     match name {
         "info" => info_of(words),
         "spy" => spy_of(words),
@@ -42,14 +62,18 @@ fn command_of<'a>(matches: &ArgMatches<'a>) -> Option<Command<'a>>
 }
 
 fn info_of<'a>(words: &ArgMatches<'a>) -> Option<Command<'a>>
-    ensures { IfSome result IsSized }
+    ensures sized { IfSome result IsSized }
+    ensures named { IfSome result (λ command. command_name command ≡ codes "info") }
+    ensures given { IfSome result (GivesCommand (found_of words.now)) }
 {
     let file = words.get_str("FILE")?;
     Some(Command::Info { file })
 }
 
 fn spy_of<'a>(words: &ArgMatches<'a>) -> Option<Command<'a>>
-    ensures { IfSome result IsSized }
+    ensures sized { IfSome result IsSized }
+    ensures named { IfSome result (λ command. command_name command ≡ codes "spy") }
+    ensures given { IfSome result (GivesCommand (found_of words.now)) }
 {
     let file = words.get_str("FILE")?;
     let target = target_of(words);
@@ -57,7 +81,10 @@ fn spy_of<'a>(words: &ArgMatches<'a>) -> Option<Command<'a>>
     Some(Command::Spy { file, size, target })
 }
 
-fn target_of<'a>(words: &ArgMatches<'a>) -> Target<'a> {
+// Returns the target of a picture: the output file that is named, or else block characters or a bitmap.
+fn target_of<'a>(words: &ArgMatches<'a>) -> Target<'a>
+    ensures { target_file result ≡ first_value (found_of words.now) (codes "output") }
+{
     match words.get_str("output") {
         Some(path) => Target::File(path),
         None if words.get_flag("text") => Target::Blocks,
@@ -67,7 +94,8 @@ fn target_of<'a>(words: &ArgMatches<'a>) -> Target<'a> {
 
 // Returns the size that was given, if it is not 0, or else one that fits a terminal or a page.
 fn size_of(given: Option<usize>, target: Target<'_>) -> usize
-    ensures { 0 < result }
+    ensures some { 0 < result }
+    ensures given { result ≡ size_given given target.entry }
 {
     match (given, target) {
         (Some(size), _) if size > 0 => size,
@@ -77,20 +105,31 @@ fn size_of(given: Option<usize>, target: Target<'_>) -> usize
 }
 
 fn field_of<'a>(words: &ArgMatches<'a>) -> Option<Command<'a>>
-    ensures { IfSome result IsSized }
+    ensures sized { IfSome result IsSized }
+    ensures named { IfSome result (λ command. command_name command ≡ codes "field") }
+    ensures given { IfSome result (GivesCommand (found_of words.now)) }
 {
     let file = words.get_str("FILE")?;
-    let values = match words.get_str("FIELD")? {
-        "integer" => Values::Integers,
-        "pattern" => Values::Pattern,
-        _ => return None,
-    };
+    let values = values_of(words.get_str("FIELD")?)?;
     Some(Command::Field { file, values })
+}
+
+// Returns whether this field is written with values.
+fn values_of(field: &str) -> Option<Values>
+    ensures { IfSome result (λ values. field.now ≡ field_name values) }
+{
+    match field {
+        "integer" => Some(Values::Integers),
+        "pattern" => Some(Values::Pattern),
+        _ => None,
+    }
 }
 
 // Without a scale the numbers have to be integers.
 fn integer_of<'a>(words: &ArgMatches<'a>) -> Option<Command<'a>>
-    ensures { IfSome result IsSized }
+    ensures sized { IfSome result IsSized }
+    ensures named { IfSome result (λ command. command_name command ≡ codes "integer") }
+    ensures given { IfSome result (GivesCommand (found_of words.now)) }
 {
     let file = words.get_str("FILE")?;
     let scale = words.get_one::<u32>("scale").unwrap_or(0);
@@ -98,14 +137,18 @@ fn integer_of<'a>(words: &ArgMatches<'a>) -> Option<Command<'a>>
 }
 
 fn symmetric_of<'a>(words: &ArgMatches<'a>) -> Option<Command<'a>>
-    ensures { IfSome result IsSized }
+    ensures sized { IfSome result IsSized }
+    ensures named { IfSome result (λ command. command_name command ≡ codes "symmetric") }
+    ensures given { IfSome result (GivesCommand (found_of words.now)) }
 {
     let file = words.get_str("FILE")?;
     Some(Command::Symmetric { file })
 }
 
 fn solve_of<'a>(words: &ArgMatches<'a>) -> Option<Command<'a>>
-    ensures { IfSome result IsSized }
+    ensures sized { IfSome result IsSized }
+    ensures named { IfSome result (λ command. command_name command ≡ codes "solve") }
+    ensures given { IfSome result (GivesCommand (found_of words.now)) }
 {
     let modulus = words.get_one::<u64>("mod");
     let a = words.get_str("A")?;
@@ -114,7 +157,9 @@ fn solve_of<'a>(words: &ArgMatches<'a>) -> Option<Command<'a>>
 }
 
 fn check_of<'a>(words: &ArgMatches<'a>) -> Option<Command<'a>>
-    ensures { IfSome result IsSized }
+    ensures sized { IfSome result IsSized }
+    ensures named { IfSome result (λ command. command_name command ≡ codes "check") }
+    ensures given { IfSome result (GivesCommand (found_of words.now)) }
 {
     let modulus = words.get_one::<u64>("mod");
     let a = words.get_str("A")?;

@@ -36,24 +36,24 @@ three_words (a ∷ (b ∷ (c ∷ []))) d e first second least below is at = (
 three_words (a ∷ (b ∷ (c ∷ (o ∷ rest)))) d e first second least below is at = absurd (omega arith)
 
 -- a fill that the words ask for is an answer
-IfOk-fill : {T E : Type 0} (r : Result T E) (words : List (List ℕ)) (old new : Option (List ℕ))
+OnOk-fill : {T E : Type 0} (r : Result T E) (words : List (List ℕ)) (old new : Option (List ℕ))
     (triangle : Triangle) (path : List ℕ) → AsksFill triangle path words
     → OnOk r (WritesFill triangle old new) → OnOk r (IsAnswered words old new)
-IfOk-fill (Ok x) words old new triangle path asked filled =
+OnOk-fill (Ok x) words old new triangle path asked filled =
     inr (record { triangle = triangle; path = path; asked = asked; filled = filled })
-IfOk-fill (Err e) words old new triangle path asked filled = tt
+OnOk-fill (Err e) words old new triangle path asked filled = tt
 
 pub returns-in-fill-clause-answered : goal.returns-in-fill-clause-answered
 returns-in-fill-clause-answered g c =
     let (path, words) = two_words c.args.words.now _ _ c.in-fill.len_at_least c.in-fill.len_below
     c.in-fill.is-fill in
-    IfOk-fill c.fill.result _ _ _ Upper path (inr (refl, words)) c.fill.ensures.filled
+    OnOk-fill c.fill.result _ _ _ Upper path (inr (refl, words)) c.fill.ensures.filled
 
 pub returns-in-Some-clause-answered : goal.returns-in-Some-clause-answered
 returns-in-Some-clause-answered g c =
     let (path, words) = three_words c.args.words.now _ _ _ _ c.in-fill-2.len_at_least
     c.in-fill-2.len_below c.in-fill-2.is-fill c.in-Some.ensures.named in
-    IfOk-fill c.fill-in-Some.result _ _ _ c.in-Some.triangle path (inl words)
+    OnOk-fill c.fill-in-Some.result _ _ _ c.in-Some.triangle path (inl words)
     c.fill-in-Some.ensures.filled
 
 pub returns-in-fill-clause-proper : goal.returns-in-fill-clause-proper

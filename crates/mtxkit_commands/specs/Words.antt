@@ -1,0 +1,61 @@
+-- The commands that arguments give.
+use Rattle.std.specs.Prelude.{◌≡◌, ℕ, List, codes, Option, Some, None, nat_lt, if◌then◌else◌}
+use Rattle.clap.specs.Matches.{first_value, one_text}
+use Rattle.clap.specs.declared.parser.matches.Found.{Found}
+use Rattle.mtxkit_commands.specs.Names.{target_file}
+use Rattle.mtxkit_commands.specs.declared.commands.Command.{Command}
+use Rattle.mtxkit_commands.specs.declared.commands.Command.TheVariants.{Info, Spy, Field}
+use Rattle.mtxkit_commands.specs.declared.commands.Command.TheVariants.{Integer}
+use Rattle.mtxkit_commands.specs.declared.commands.Command.TheVariants.{Symmetric, Solve, Check}
+use Rattle.mtxkit_commands.specs.declared.commands.Target.{Target}
+use Rattle.mtxkit_commands.specs.declared.commands.Target.TheVariants.{Bitmap, Blocks, File}
+use Rattle.mtxkit_commands.specs.declared.commands.Values.{Values}
+use Rattle.mtxkit_commands.specs.declared.commands.Values.TheVariants.{Integers, Pattern}
+
+-- the name of a command
+abbrev pub command_name : Command → List ℕ
+command_name (Info file) = codes "info"
+command_name (Spy file size target) = codes "spy"
+command_name (Field file values) = codes "field"
+command_name (Integer file scale) = codes "integer"
+command_name (Symmetric file) = codes "symmetric"
+command_name (Solve modulus a b) = codes "solve"
+command_name (Check modulus a x b) = codes "check"
+
+-- the argument for these values
+abbrev pub field_name : Values → List ℕ
+field_name Integers = codes "integer"
+field_name Pattern = codes "pattern"
+
+-- the largest number of cells of a side, if none is given
+abbrev pub default_size : Target → ℕ
+default_size Bitmap = 512
+default_size Blocks = 64
+default_size (File path) = 512
+
+-- the same, if one is given: 0 counts as none
+abbrev pub size_given : Option ℕ → Target → ℕ
+size_given None target = default_size target
+size_given (Some size) target = if nat_lt 0 size then size else default_size target
+
+-- the argument with this name is this text
+abbrev pub IsArgument : Found → List ℕ → List ℕ → Type 0
+IsArgument words name text = first_value words name ≡ Some text
+
+-- the command has the files, the field and the output file that these arguments name, and the default size, scale or
+-- modulus if the arguments give none
+abbrev pub GivesCommand : Found → Command → Type 0
+GivesCommand words (Info file) = IsArgument words (codes "FILE") file.now
+GivesCommand words (Spy file size target) = IsArgument words (codes "FILE") file.now
+    × (target_file target ≡ first_value words (codes "output"))
+    × (one_text words (codes "size") ≡ None → size ≡ default_size target)
+GivesCommand words (Field file values) =
+    IsArgument words (codes "FILE") file.now × IsArgument words (codes "FIELD") (field_name values)
+GivesCommand words (Integer file scale) = IsArgument words (codes "FILE") file.now
+    × (one_text words (codes "scale") ≡ None → scale ≡ 0)
+GivesCommand words (Symmetric file) = IsArgument words (codes "FILE") file.now
+GivesCommand words (Solve modulus a b) = IsArgument words (codes "A") a.now
+    × IsArgument words (codes "B") b.now × (one_text words (codes "mod") ≡ None → modulus ≡ None)
+GivesCommand words (Check modulus a x b) = IsArgument words (codes "A") a.now
+    × IsArgument words (codes "X") x.now × IsArgument words (codes "B") b.now
+    × (one_text words (codes "mod") ≡ None → modulus ≡ None)
