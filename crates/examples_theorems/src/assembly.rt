@@ -57,7 +57,7 @@ fn assemble<T: Ring>(
 {
     let mut list = CooMatrix::new(alloc, nrows, ncols);
     for block in blocks {
-        // This call costs nothing: it tells the prover that the block has a value at each place.
+        // This call costs nothing: it tells the prover that the block has a value at each row and column.
         let _ = block.matrix.as_slice();
         list.push_matrix(block.row, block.col, &block.matrix)?;
     }
