@@ -169,7 +169,7 @@ fn add_row<T: Ring>(matrices: Matrices<'_, T>, i: usize, set: &mut IndexSet, row
     requires width { length row.old ≡ matrices.b.now.pattern.minor_dim }
     requires zero { IsZeroRow T.ring T.value T.zero_value row.old }
     ensures room { (j : ℕ) → HasRoom set.old j → HasRoom set.new j }
-    ensures members { (j : ℕ) → HasBit set.new.words.items j ↔ IsInRow matrices.entry i j }
+    ensures met { (j : ℕ) → HasBit set.new.words.items j ↔ IsInRow matrices.entry i j }
     ensures added { (j : ℕ) → j < length row.old
         → T.value (slice_index_or row.new j T.zero_value)
         ≡ (product_of T.ring T.value matrices.entry).value i j }

@@ -50,7 +50,7 @@ prove-unreachable-requires g c =
     omega (
       arith,
       own.2,
-      g.members.S.Accumulators.one_sum c.loop-j.row_sums j own.0 c.accumulator_of-at.result
+      g.met.S.Accumulators.one_sum c.loop-j.row_sums j own.0 c.accumulator_of-at.result
           ((c.loop-j.invariant.noted.kept j own.0).1 own.1) c.accumulator_of-at.ensures.found,
       c.loop-j.auto.target,
     )
@@ -82,7 +82,7 @@ loop-j-preserved g c =
     let within : q < length old = omega (
       arith,
       own.2,
-      g.members.S.Accumulators.one_sum now i own.0 q ((inv.noted.kept i own.0).1 own.1) found,
+      g.met.S.Accumulators.one_sum now i own.0 q ((inv.noted.kept i own.0).1 own.1) found,
       c.loop-j.auto.target,
     ) in
     let read = get_or_default old q c.index-target-at.result z within in
@@ -96,8 +96,8 @@ loop-j-preserved g c =
     (sum_zip_more R (λ t. where_true R (nat_eq t.0 j) (f t.1)) js vs n i v turn.0 turn.1
     (turn.2 i) (turn.3 v)) ∙ R.laws.distrib scale (x n j) (hit j) in
     rw (length_push c.loop-j.yielded (c.in-Some.j, c.in-Some.entry)) record {
-      added = added_then inv.added (entry_added (g.members.S.Accumulators.one_sum now)
-          (g.members.S.Accumulators.one_column now) old i q v c.add.result found is) c.loop-j.auto.target
+      added = added_then inv.added (entry_added (g.met.S.Accumulators.one_sum now)
+          (g.met.S.Accumulators.one_column now) old i q v c.add.result found is) c.loop-j.auto.target
           inv.noted.kept sum;
       noted = noted_then inv.noted (record {
         kept = c.accumulator_of-at.ensures.kept;

@@ -53,7 +53,7 @@ returns g c =
     ∙ update_with_zero_beta R f c.pattern.ensures.sound c.pattern-2.ensures.sound c.requires sound
     (c.in_ok-pattern.ensures.major ∙ ap (λ (d : Raw). d.major_dim) c.pattern.ensures.pattern)
     (c.in_ok-pattern.ensures.minor ∙ ap (λ (d : Raw). d.minor_dim) c.pattern-2.ensures.pattern)
-    places (f c.zero-2.result) (f c.one.result) (ap f c.zero-2.ensures ∙ g.members.T.Ring.zero_law)
+    places (f c.zero-2.result) (f c.one.result) (ap f c.zero-2.ensures ∙ g.met.T.Ring.zero_law)
     c.one.ensures
 
 -- ---- written by tools/answer-goals

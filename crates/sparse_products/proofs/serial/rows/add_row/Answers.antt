@@ -17,10 +17,10 @@ pub returns-clause-room : goal.returns-clause-room
 returns-clause-room g c = λ j has.
     ((c.add_product_row.ensures.noted.kept j j).1 (has, refl)).0
 
-pub returns-clause-members : goal.returns-clause-members
-returns-clause-members g c = λ j.
+pub returns-clause-met : goal.returns-clause-met
+returns-clause-met g c = λ j.
     let noted = c.add_product_row.ensures.noted.noted j in (
-      λ h. elim (noted.0 h) [ inl was ↦ absurd (c.requires.empty.empty j was) | inr members ↦ members ],
+      λ h. elim (noted.0 h) [ inl was ↦ absurd (c.requires.empty.empty j was) | inr met ↦ met ],
       λ h. noted.1 (inr h),
     )
 

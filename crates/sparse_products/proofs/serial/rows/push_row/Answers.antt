@@ -16,7 +16,7 @@ pub extract_values-requires : goal.extract_values-requires
 extract_values-requires g c =
     let old = c.args.rows.now.indices.items in
     let gains : GainsLane old c.drain_into.new.indices.items (IsInRow c.args.matrices c.args.i) =
-    gains_same c.add_row.ensures.members c.in_ok-drain_into.ensures.pushed in
+    gains_same c.add_row.ensures.met c.in_ok-drain_into.ensures.pushed in
     let begin : length old ≡ c.len-begin.result =
     omega (arith, c.len-begin.ensures, c.args.rows.now.indices.ok.0) in
     let tail = tail_is c.deref.result.now old gains.lane c.len-begin.result begin
@@ -46,7 +46,7 @@ returns g c =
     c.add_row.ensures.added j (omega (arith, lt, c.add_row.auto.row)) in
     let old = c.args.rows.now.indices.items in
     let gains : GainsLane old c.drain_into.new.indices.items (IsInRow c.args.matrices i) =
-    gains_same c.add_row.ensures.members c.in_ok-drain_into.ensures.pushed in
+    gains_same c.add_row.ensures.met c.in_ok-drain_into.ensures.pushed in
     let begin : length old ≡ c.len-begin.result =
     omega (arith, c.len-begin.ensures, c.args.rows.now.indices.ok.0) in
     let tail = tail_is c.deref.result.now old gains.lane c.len-begin.result begin
@@ -61,7 +61,7 @@ returns g c =
             (c.add_row.ensures.room j (c.requires.empty.room j lt));
         empty = c.in_ok-drain_into.ensures.empty;
       };
-      zero = left_zero R f x g.members.T.Ring.zero_law (zero_off R f sa sb c.requires.inner i
+      zero = left_zero R f x g.met.T.Ring.zero_law (zero_off R f sa sb c.requires.inner i
           c.requires.lane gains.lane (λ j. (gains.holds j).1)) is_row extracted;
       lane = gains;
       offset = c.in_ok-push.ensures.items ∙ ap (λ n. c.args.rows.now.offsets.items ++ n ∷ [])

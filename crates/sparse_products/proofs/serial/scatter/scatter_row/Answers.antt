@@ -89,7 +89,7 @@ returns g c =
     let extracted = rw c.lane.ensures at c.gather_row.ensures.extracted in
     let counted = rw c.lane.ensures at c.gather_row.ensures.counted in
     rw offsets_are record {
-      zero = left_zero R f (λ j. R.mul alpha (x i j)) g.members.T.Ring.zero_law
+      zero = left_zero R f (λ j. R.mul alpha (x i j)) g.met.T.Ring.zero_law
           (λ j none. ap (R.mul alpha) (zero_off R f sa sb c.requires.sizes.inner i a_lane
           (lane_of d i) (λ j h. (lane_has d valid i j c.requires.lane).1 (c.requires.places j h))
           j none)
