@@ -10,7 +10,7 @@ returns-clause-plain g c =
     let R = g.T.Ring.ring in
     let u = c.in_ok-upper_triangle.field-0 in
     let upper = c.in_ok-upper_triangle.ensures in
-    let kept = c.kept_cols_law.ensures (λ i j. nat_le i j) c.args.a.now u upper.sizes upper.kept in
+    let kept = c.kept_cols_law.ensures (λ i j. nat_le i j) c.args.a.now u upper.same_shape upper.kept in
     ok_both _ _ _ _
     (λ t transposed sound. c.transpose_law.ensures.cols u t upper.sound sound transposed
     ∙ ap (plain_transpose R) kept) c.transpose-2.ensures.transposed c.transpose-2.ensures.sound
@@ -20,7 +20,7 @@ returns-clause-places g c =
     let a = c.args.a.now in
     let u = c.in_ok-upper_triangle.field-0 in
     let upper = c.in_ok-upper_triangle.ensures in
-    let kept = c.kept_cols_law.ensures (λ i j. nat_le i j) a u upper.sizes upper.kept in
+    let kept = c.kept_cols_law.ensures (λ i j. nat_le i j) a u upper.same_shape upper.kept in
     ok_both _ _ _ _
     (λ t transposed _. lower_entries g.T.Ring.ring g.T.Ring.value a u c.values.ensures.sound
     upper.sound kept t transposed.pattern) c.transpose-2.ensures.transposed
