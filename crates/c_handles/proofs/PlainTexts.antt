@@ -24,7 +24,8 @@ use Rattle.c_arrays.specs.declared.refusal.Refusal.{Refusal}
 use Rattle.sparse_compressed.specs.Compressed.{Compressed, IsSound, lane_triplets}
 use Rattle.sparse_compressed.specs.PlainOfLanes.{plain_of_rows}
 use Rattle.sparse_compressed.proofs.RowOrder.{row_order-rows}
-use Rattle.sparse_io.specs.Written.{text_of, written_text, heading, size_line, triplet_line}
+use Rattle.sparse_io.specs.Written.{text_of, written_text, written_text_with, heading, size_line}
+use Rattle.sparse_io.specs.Written.{triplet_line}
 use Rattle.sparse_market_scalar.specs.ScalarTypes.{wrapping_scalar}
 use Rattle.sparse_parser.specs.Meaning.{value_triplet, values_of, Means}
 use Rattle.c_handles.specs.Texts.{residue_text, text_of_plain, HoldsMeaning}
@@ -61,7 +62,7 @@ module _ {T V : Type 0} (h : T → V) where
     written : (name : List ℕ) (rows cols : ℕ) (ts : List (ℕ × ℕ × T))
         → written_text name text rows cols (map (λ t. (t.0, t.1, h t.2)) ts)
         ≡ written_text name (λ x. text (h x)) rows cols ts
-    unfolding written_text
+    unfolding written_text_with
     written name rows cols ts =
         ap (λ n. heading name ++ (size_line rows cols n
         ++ flat_map (triplet_line text) (map (λ t. (t.0, t.1, h t.2)) ts)))

@@ -118,6 +118,8 @@ pub use Rattle.sparse_parser.specs.declared.error.MatrixMarketErrorKind
 pub use Rattle.sparse_market_scalar.specs.IntegerTexts
 pub use Rattle.sparse_market_scalar.specs.ScalarTypes
 -- reading and writing
+pub use Rattle.sparse_io.specs.Banners
+pub use Rattle.sparse_io.specs.declared.banner.Banner
 pub use Rattle.sparse_io.specs.Export
 pub use Rattle.sparse_io.specs.Files
 pub use Rattle.sparse_io.specs.Out

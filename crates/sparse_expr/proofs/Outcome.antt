@@ -24,7 +24,7 @@ use Rattle.sparse_compressed.proofs.RowOrder.{row_order-rows}
 use Rattle.sparse_compressed.proofs.ColOrder.{col_order-cols}
 use Rattle.std.specs.Io.KnownBytes.{Appends}
 use Rattle.sparse_io.specs.Sink.{AppendsSome}
-use Rattle.sparse_io.specs.Written.{written_text, heading, size_line, triplet_line}
+use Rattle.sparse_io.specs.Written.{written_text, written_text_with, heading, size_line, triplet_line}
 use Rattle.sparse_expr.specs.declared.calculator.OutputOrder.{OutputOrder}
 use Rattle.sparse_expr.specs.declared.calculator.OutputOrder.TheVariants.{Rows, Cols}
 use Rattle.sparse_expr.specs.declared.expr.Expr.{Expr}
@@ -73,7 +73,7 @@ module _ {T V : Type 0} (h : T → V) where
 
     written-via : (name : List ℕ) (rows cols : ℕ) (ts : List (ℕ × ℕ × T))
         → written_text name text rows cols (via ts) ≡ written_text name own rows cols ts
-    unfolding written_text
+    unfolding written_text_with
     written-via name rows cols ts =
         ap (λ n. heading name ++ (size_line rows cols n ++ flat_map (triplet_line text) (via ts)))
         (length-map ts (λ t. (t.0, t.1, h t.2)))

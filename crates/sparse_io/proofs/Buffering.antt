@@ -8,7 +8,8 @@ use Rattle.std.proofs.KnownBytes.{Appends-nil, Appends-trans}
 use Rattle.std.proofs.lemmas.List.Concat.{flat_map-append}
 use Rattle.sparse_coo_dense.specs.Coo.{Coo}
 use Rattle.sparse_io.specs.Sink.{AppendsSome}
-use Rattle.sparse_io.specs.Written.{heading, size_line, triplet_line, written_text, text_of}
+use Rattle.sparse_io.specs.declared.banner.Banner.{Banner}
+use Rattle.sparse_io.specs.Written.{heading_with, size_line, triplet_line, written_text_with, text_with}
 use Rattle.sparse_io.specs.InnerWriting.{head_of, IsBuffered}
 
 -- d is appended to a list that is split into b and c, where c and d are split into e and f
@@ -22,9 +23,9 @@ Triplets V = List (ℕ × ℕ × V)
 abbrev lines : {V : Type 0} → (V → List ℕ) → Triplets V → List ℕ
 lines text ts = flat_map (triplet_line text) ts
 
-module _ {V : Type 0} (name : List ℕ) (text : V → List ℕ) (m : Coo V) where
+module _ {V : Type 0} (banner : Banner) (name : List ℕ) (text : V → List ℕ) (m : Coo V) where
   abbrev begun : Triplets V → List ℕ
-  begun ts = head_of name m ++ lines text ts
+  begun ts = head_of banner name m ++ lines text ts
 
   -- the bytes are the head and the lines of all triplets but those left
   pub record IsBegun (bytes : List ℕ) (left : Triplets V) : Type 0 where
@@ -39,50 +40,50 @@ module _ {V : Type 0} (name : List ℕ) (text : V → List ℕ) (m : Coo V) wher
     pub begun : IsBegun bytes left
     pub buffered : IsBuffered old new buffer bytes
 
-module _ {V : Type 0} {name : List ℕ} {text : V → List ℕ} {m : Coo V} where
-  pub IsBegun-none : {bytes : List ℕ} {left : Triplets V} → bytes ≡ head_of name m → left ≡ m.triplets
-      → IsBegun name text m bytes left
+module _ {V : Type 0} {banner : Banner} {name : List ℕ} {text : V → List ℕ} {m : Coo V} where
+  pub IsBegun-none : {bytes : List ℕ} {left : Triplets V} → bytes ≡ head_of banner name m → left ≡ m.triplets
+      → IsBegun banner name text m bytes left
   IsBegun-none b l = record {
     leading = [];
     order = sym l;
     is = b
-        ∙ sym (append-nil (head_of name m));
+        ∙ sym (append-nil (head_of banner name m));
   }
 
-  pub IsBegun-more : {bytes : List ℕ} {t : ℕ × ℕ × V} {left left' : Triplets V} → IsBegun name text m bytes left
+  pub IsBegun-more : {bytes : List ℕ} {t : ℕ × ℕ × V} {left left' : Triplets V} → IsBegun banner name text m bytes left
       → left ≡ t ∷ left'
-      → IsBegun name text m (bytes ++ triplet_line text t) left'
+      → IsBegun banner name text m (bytes ++ triplet_line text t) left'
   IsBegun-more {bytes} {t} {left} {left'} b e =
       record {
         leading = b.leading ++ t ∷ [];
         order = b.order ∙ ap (λ ts. b.leading ++ ts) e ∙ sym (append_assoc b.leading (t ∷ []) left');
-        is = ap (λ l. l ++ triplet_line text t) b.is ∙ append_assoc (head_of name m) (lines text b.leading)
+        is = ap (λ l. l ++ triplet_line text t) b.is ∙ append_assoc (head_of banner name m) (lines text b.leading)
             (triplet_line text t)
-            ∙ ap (λ l. head_of name m ++ (lines text b.leading ++ l))
+            ∙ ap (λ l. head_of banner name m ++ (lines text b.leading ++ l))
             (sym (append-nil (triplet_line text t)))
-            ∙ ap (λ l. head_of name m ++ l)
+            ∙ ap (λ l. head_of banner name m ++ l)
             (sym (flat_map-append (triplet_line text) b.leading (t ∷ [])));
       }
 
   -- the text continues with the lines of the triplets left
-  pub text_of-begun : {bytes : List ℕ} {left : Triplets V} → IsBegun name text m bytes left
-      → text_of name text m ≡ bytes ++ lines text left
-  unfolding written_text
-  text_of-begun {bytes} {left} b =
-      sym (append_assoc (heading name) (size_line m.nrows m.ncols (length m.triplets))
+  pub text_with-begun : {bytes : List ℕ} {left : Triplets V} → IsBegun banner name text m bytes left
+      → text_with banner name text m ≡ bytes ++ lines text left
+  unfolding written_text_with
+  text_with-begun {bytes} {left} b =
+      sym (append_assoc (heading_with banner name) (size_line m.nrows m.ncols (length m.triplets))
       (lines text m.triplets))
-      ∙ ap (begun name text m) b.order ∙ ap (λ l. head_of name m ++ l)
+      ∙ ap (begun banner name text m) b.order ∙ ap (λ l. head_of banner name m ++ l)
       (flat_map-append (triplet_line text) b.leading left)
-      ∙ sym (append_assoc (head_of name m) (lines text b.leading) (lines text left))
+      ∙ sym (append_assoc (head_of banner name m) (lines text b.leading) (lines text left))
       ∙ ap (λ l. l ++ lines text left) (sym b.is)
 
-  pub IsBegun-all : {bytes : List ℕ} {left : Triplets V} → IsBegun name text m bytes left → left ≡ []
-      → bytes ≡ text_of name text m
-  IsBegun-all {bytes} b none = sym (text_of-begun b
+  pub IsBegun-all : {bytes : List ℕ} {left : Triplets V} → IsBegun banner name text m bytes left → left ≡ []
+      → bytes ≡ text_with banner name text m
+  IsBegun-all {bytes} b none = sym (text_with-begun b
       ∙ ap (λ ts. bytes ++ lines text ts) none ∙ append-nil bytes)
 
   pub IsWriting-none : {old : Option (List ℕ)} {buffer : List ℕ} {left : Triplets V}
-      → buffer ≡ head_of name m → left ≡ m.triplets → IsWriting name text m old old buffer left
+      → buffer ≡ head_of banner name m → left ≡ m.triplets → IsWriting banner name text m old old buffer left
   IsWriting-none {old} {buffer} b l =
       record {
         bytes = buffer;
@@ -93,9 +94,9 @@ module _ {V : Type 0} {name : List ℕ} {text : V → List ℕ} {m : Coo V} wher
 
   pub IsWriting-more : {old mid new : Option (List ℕ)} {buffer buffer' : List ℕ} {t : ℕ × ℕ × V}
       {left left' : Triplets V}
-      → IsWriting name text m old mid buffer left
+      → IsWriting banner name text m old mid buffer left
       → left ≡ t ∷ left' → IsBuffered mid new buffer' (buffer ++ triplet_line text t)
-      → IsWriting name text m old new buffer' left'
+      → IsWriting banner name text m old new buffer' left'
   IsWriting-more {old} {mid} {new} {buffer} {buffer'} {t} w e b =
       let d = w.buffered in
       record {
@@ -110,8 +111,8 @@ module _ {V : Type 0} {name : List ℕ} {text : V → List ℕ} {m : Coo V} wher
 
   -- the text is written once the sink has accepted the buffer and no triplet is left
   pub IsWriting-all : (new : Option (List ℕ)) {old mid : Option (List ℕ)} {buffer : List ℕ} {left : Triplets V}
-      → IsWriting name text m old mid buffer left
-      → left ≡ [] → Appends mid new buffer → Appends old new (text_of name text m)
+      → IsWriting banner name text m old mid buffer left
+      → left ≡ [] → Appends mid new buffer → Appends old new (text_with banner name text m)
   IsWriting-all new {old} {mid} {buffer} w none h =
       let d = w.buffered in
       subst (Appends old new) (sym d.parts ∙ IsBegun-all w.begun none)
@@ -119,15 +120,15 @@ module _ {V : Type 0} {name : List ℕ} {text : V → List ℕ} {m : Coo V} wher
 
   -- a prefix of the text is written if the sink accepts a prefix of the buffer
   pub IsWriting-refused : {old mid new : Option (List ℕ)} {buffer : List ℕ} {left : Triplets V}
-      → IsWriting name text m old mid buffer left
-      → AppendsSome mid new buffer → AppendsSome old new (text_of name text m)
+      → IsWriting banner name text m old mid buffer left
+      → AppendsSome mid new buffer → AppendsSome old new (text_with banner name text m)
   IsWriting-refused {old} {mid} {new} {buffer} {left} w h =
       let d = w.buffered in
       let more = lines text left in
       record {
         done = d.done ++ h.done;
         rest = h.rest ++ more;
-        parts = text_of-begun w.begun
+        parts = text_with-begun w.begun
             ∙ middle w.bytes d.done buffer more h.done (h.rest ++ more) d.parts
             (ap (λ l. l ++ more) h.parts ∙ append_assoc h.done h.rest more);
         appended = Appends-trans old mid new d.done h.done d.appended h.appended;

@@ -22,7 +22,9 @@ use Rattle.sparse_parser.specs.Meaning.{numbers_of_size, sizes_of}
 use Rattle.sparse_parser.specs.Meaning.{mirrored, triplets_of, triplets_of_lines}
 use Rattle.sparse_parser.specs.Meaning.{is_inside, listed_of, matrix_of, Means, Triplet}
 use Rattle.sparse_parser.proofs.WrittenWords.{not_comment, test_plain}
-use Rattle.sparse_io.specs.Written.{heading, size_line, triplet_line, written_text, text_of}
+use Rattle.sparse_io.specs.Written.{heading_with, size_line, triplet_line, written_text_with}
+use Rattle.sparse_io.specs.Written.{text_with}
+use Rattle.sparse_io.specs.declared.banner.Banner.{Banner}
 use Rattle.sparse_io.proofs.WrittenLines.{index-decimal, decimal_text, number-decimal, line_of}
 use Rattle.sparse_io.proofs.WrittenLines.{IsLast, line_words, line_plain, line_before, before_lf}
 use Rattle.sparse_io.proofs.WrittenFields.{IsOfField, integer_of_field, pattern_of_field, remark}
@@ -37,8 +39,8 @@ pub record IsWritable (S : Scalar) (m : Coo S.Value) : Type 0 where
   pub inside : AllByRecursion (λ t. (t.0 < m.nrows) × (t.1 < m.ncols)) m.triplets
   pub values : AllByRecursion (λ t. S.IsValue t.2) m.triplets
 
-module _ (S : Scalar) (field : Field) (named : IsNamed S.name field) (ws : S.Value → List (List ℕ))
-    (own : (x : S.Value) → S.IsValue x → IsOfField S field x (ws x)) where
+module _ (S : Scalar) (first : Banner) (field : Field) (named : IsNamed first S.name field)
+    (ws : S.Value → List (List ℕ)) (own : (x : S.Value) → S.IsValue x → IsOfField S field x (ws x)) where
   abbrev header : Header
   header = plain_header field
 
@@ -174,9 +176,9 @@ module _ (S : Scalar) (field : Field) (named : IsNamed S.name field) (ws : S.Val
   body_text m = size_line m.nrows m.ncols (length m.triplets) ++ flat_map (triplet_line S.text)
       m.triplets
 
-  written_headed : (m : Coo S.Value) → IsWritable S m → IsHeaded (text_of S.name S.text m) header
+  written_headed : (m : Coo S.Value) → IsWritable S m → IsHeaded (text_with first S.name S.text m) header
       (size_words m ∷ map triplet_words m.triplets)
-  unfolding written_text size_line
+  unfolding written_text_with size_line
   written_headed m h =
       let all = all_small m.nrows m.ncols m.triplets h.rows h.cols h.inside h.values in
       let r = decimal_text m.nrows h.rows in
@@ -188,7 +190,7 @@ module _ (S : Scalar) (field : Field) (named : IsNamed S.name field) (ws : S.Val
       record {
         lines = named.banner ∷ remark ∷ size ∷ map inner m.triplets;
         words = named.word ∷ named.words;
-        cut = before_lf named.banner (heading S.name ++ body_text m) (remark ++ (10 ∷ body_text m))
+        cut = before_lf named.banner (heading_with first S.name ++ body_text m) (remark ++ (10 ∷ body_text m))
             (remark ∷ size ∷ map inner m.triplets) named.plain (named.heading_is (body_text m))
             (before_lf remark (remark ++ (10 ∷ body_text m)) (body_text m)
             (size ∷ map inner m.triplets) (test_plain remark refl) refl
@@ -221,7 +223,7 @@ module _ (S : Scalar) (field : Field) (named : IsNamed S.name field) (ws : S.Val
         says = named.says;
       }
 
-  field_means : (m : Coo S.Value) → IsWritable S m → Means S (text_of S.name S.text m) (Ok m)
+  field_means : (m : Coo S.Value) → IsWritable S m → Means S (text_with first S.name S.text m) (Ok m)
   field_means m h =
       let all = all_small m.nrows m.ncols m.triplets h.rows h.cols h.inside h.values in
       inr (
@@ -238,21 +240,21 @@ module _ (S : Scalar) (field : Field) (named : IsNamed S.name field) (ws : S.Val
       )
 
 -- the written text means the matrix
-pub written_means : (S : Scalar) (m : Coo S.Value) → IsWritable S m
-    → Means S (text_of S.name S.text m) (Ok m)
-written_means S m h = elim S.read_back [
-  | inl (name, back) ↦ field_means S Integer
-      (subst (λ (n : List ℕ). IsNamed n Integer) (sym name) integer_named) (λ x. S.text x ∷ [])
-      (λ x own. integer_of_field S x (back x own)) m h
-  | inr (name, back) ↦ field_means S Pattern
-      (subst (λ (n : List ℕ). IsNamed n Pattern) (sym name) pattern_named) (λ x. [])
+pub written_means : (S : Scalar) (first : Banner) (m : Coo S.Value) → IsWritable S m
+    → Means S (text_with first S.name S.text m) (Ok m)
+written_means S first m h = elim S.read_back [
+  | inl (name, back) ↦ field_means S first Integer
+      (subst (λ (n : List ℕ). IsNamed first n Integer) (sym name) (integer_named first))
+      (λ x. S.text x ∷ []) (λ x own. integer_of_field S x (back x own)) m h
+  | inr (name, back) ↦ field_means S first Pattern
+      (subst (λ (n : List ℕ). IsNamed first n Pattern) (sym name) (pattern_named first)) (λ x. [])
       (λ x own. pattern_of_field S x (back x own).0 (back x own).1) m h
 ]
 
-pub law : (S : Scalar) (m : Coo S.Value) → m.nrows < 2 ^ 64 → m.ncols < 2 ^ 64
+pub law : (S : Scalar) (first : Banner) (m : Coo S.Value) → m.nrows < 2 ^ 64 → m.ncols < 2 ^ 64
     → length m.triplets < 2 ^ 64 → IsInside m → All (λ t. S.IsValue t.2) m.triplets
-    → Means S (text_of S.name S.text m) (Ok m)
-law S m r c n inside values = written_means S m (record {
+    → Means S (text_with first S.name S.text m) (Ok m)
+law S first m r c n inside values = written_means S first m (record {
   rows = r;
   cols = c;
   count = n;

@@ -2,6 +2,7 @@ pub mod Sink
 pub mod Out
 pub mod Export
 pub mod Files
+pub mod Banners
 pub mod Written
 pub mod InnerPlaces
 pub mod InnerEntries

@@ -8,12 +8,13 @@ ghost use Rattle.std.specs.IoError.{error_kind};
 ghost use Rattle.sparse_parser.specs.Errors.{kind_of};
 ghost use Rattle.sparse_parser.specs.Meaning.{Means, values_of};
 ghost use Rattle.sparse_io.specs.Files.{file_fault, IsFileFault, IsReadFault};
-ghost use Rattle.sparse_io.specs.Written.{text_of};
+ghost use Rattle.sparse_io.specs.Written.{text_with};
 
+use crate::banner::Banner;
 use crate::export::MatrixMarketExport;
 use crate::out::Out;
 use crate::reader::load_coo_from_matrix_market_str;
-use crate::writer::save_to_matrix_market;
+use crate::writer::save_to_matrix_market_with;
 use sparse_coo_dense::coo::CooMatrix;
 use sparse_market_scalar::MatrixMarketScalar;
 use sparse_parser::error::MatrixMarketError;
@@ -84,7 +85,23 @@ where
     S: MatrixMarketExport<T>,
     ensures { IfErr result (λ e. IsFileFault (kind_of e)) }
 {
-    match save_created(rt.alloc(), File::create(rt, path), matrix) {
+    save_to_matrix_market_file_with(rt, matrix, path, Banner::LowerCase)
+}
+
+/// Writes a matrix to a file as [`save_to_matrix_market_file`] does, with this first word. The errors are those of that
+/// call.
+pub fn save_to_matrix_market_file_with<T, S>(
+    rt: &(impl Files + AllocGlobal),
+    matrix: &S,
+    path: &str,
+    banner: Banner,
+) -> Result<(), MatrixMarketError>
+where
+    T: MatrixMarketScalar,
+    S: MatrixMarketExport<T>,
+    ensures { IfErr result (λ e. IsFileFault (kind_of e)) }
+{
+    match save_created(rt.alloc(), File::create(rt, path), matrix, banner) {
         Ok(_flushed) => Ok(()),
         Err(error) => Err(error),
     }
@@ -95,6 +112,7 @@ fn save_created<T, S, W>(
     alloc: Global,
     created: io::Result<W>,
     matrix: &S,
+    banner: Banner,
 ) -> Result<Out<W>, MatrixMarketError>
 where
     T: MatrixMarketScalar,
@@ -102,31 +120,38 @@ where
     W: Write + Drop,
     ensures written { IfOk created (λ file. IfOk result
         (λ out. Appends (W.contents file) (W.contents out.inner)
-        (text_of T.scalar.name (λ x. T.scalar.text (T.value x)) (S.exported matrix.now)))) }
+        (text_with banner T.scalar.name (λ x. T.scalar.text (T.value x))
+        (S.exported matrix.now)))) }
     ensures flushed { IfOk result (λ out. IsTrue out.flushed) }
     ensures refused { IfErr result (λ e. IsFileFault (kind_of e)) }
     ensures uncreated { IfErr created
         (λ fault. IsErrAnd result (λ e. kind_of e ≡ file_fault (error_kind fault))) }
 {
     match created {
-        Ok(file) => save_whole(alloc, file, matrix),
+        Ok(file) => save_whole(alloc, file, matrix, banner),
         Err(fault) => Err(file_fault(fault)),
     }
 }
 
 // Writes the text of a matrix to a writer and flushes it.
-fn save_whole<T, S, W>(alloc: Global, writer: W, matrix: &S) -> Result<Out<W>, MatrixMarketError>
+fn save_whole<T, S, W>(
+    alloc: Global,
+    writer: W,
+    matrix: &S,
+    banner: Banner,
+) -> Result<Out<W>, MatrixMarketError>
 where
     T: MatrixMarketScalar,
     S: MatrixMarketExport<T>,
     W: Write + Drop,
     ensures written { IfOk result (λ out. Appends (W.contents writer) (W.contents out.inner)
-        (text_of T.scalar.name (λ x. T.scalar.text (T.value x)) (S.exported matrix.now))) }
+        (text_with banner T.scalar.name (λ x. T.scalar.text (T.value x))
+        (S.exported matrix.now))) }
     ensures flushed { IfOk result (λ out. IsTrue out.flushed) }
     ensures refused { IfErr result (λ e. IsFileFault (kind_of e)) }
 {
     let mut out = Out::new(writer);
-    save_to_matrix_market(alloc, &mut out, matrix)?;
+    save_to_matrix_market_with(alloc, &mut out, matrix, banner)?;
     out.flush()?;
     Ok(out)
 }

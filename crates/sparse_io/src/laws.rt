@@ -6,7 +6,8 @@ ghost use Rattle.sparse_parser.specs.declared.header.Header.{Header};
 ghost use Rattle.sparse_parser.specs.Grammar.{IsDocument};
 ghost use Rattle.sparse_parser.specs.Reads.{Read};
 ghost use Rattle.sparse_parser.specs.Meaning.{Means};
-ghost use Rattle.sparse_io.specs.Written.{text_of};
+ghost use Rattle.sparse_io.specs.declared.banner.Banner.{Banner};
+ghost use Rattle.sparse_io.specs.Written.{text_with};
 
 use sparse_market_scalar::MatrixMarketScalar;
 
@@ -27,13 +28,13 @@ pub fn one_meaning<T: MatrixMarketScalar>()
         → Means T.scalar text r → Means T.scalar text s → r ≡ s }
 {}
 
-/// The text of a matrix means that matrix, for the same scalar type.
+/// The text of a matrix means that matrix, for the same scalar type and each first word.
 ///
 /// The shape and the number of triplets must fit in `usize`, the triplets must lie within the shape, and their values
 /// must be values of the type.
 pub fn round_trip<T: MatrixMarketScalar>()
-    ensures { (m : Coo T.scalar.Value)
+    ensures { (banner : Banner) (m : Coo T.scalar.Value)
         → m.nrows < 2 ^ 64 → m.ncols < 2 ^ 64 → length m.triplets < 2 ^ 64
         → IsInside m → All (λ t. T.scalar.IsValue t.2) m.triplets
-        → Means T.scalar (text_of T.scalar.name T.scalar.text m) (Ok m) }
+        → Means T.scalar (text_with banner T.scalar.name T.scalar.text m) (Ok m) }
 {}

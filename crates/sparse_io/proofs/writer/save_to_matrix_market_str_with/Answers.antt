@@ -1,7 +1,7 @@
 use Rattle.std.proofs.lemmas.Grind.{moves}
 use Rattle.std.proofs.Common.{rules, arith}
 use Rattle.sparse_io.proofs.Buffering.{IsBegun-none, IsBegun-more, IsBegun-all}
-use Rattle.sparse_io.proofs.writer.save_to_matrix_market_str.Goals as goal
+use Rattle.sparse_io.proofs.writer.save_to_matrix_market_str_with.Goals as goal
 
 pub loop-row-init : goal.loop-row-init
 loop-row-init g c = IsBegun-none (search rules) (search rules)

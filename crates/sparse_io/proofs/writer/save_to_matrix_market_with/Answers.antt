@@ -3,7 +3,7 @@ use Rattle.std.proofs.Common.{refl, sym, ◌∙◌, rules, arith}
 use Rattle.std.proofs.lemmas.Result.{IfOk-equal, err_from_is_err_and}
 use Rattle.sparse_io.proofs.Buffering.{IsWriting-none, IsWriting-more, IsWriting-refused}
 use Rattle.sparse_io.proofs.Buffering.{IsWriting-all, on_ok-map, on_err-map}
-use Rattle.sparse_io.proofs.writer.save_to_matrix_market.Goals as goal
+use Rattle.sparse_io.proofs.writer.save_to_matrix_market_with.Goals as goal
 
 pub loop-row-init : goal.loop-row-init
 loop-row-init g c = record {
