@@ -1,7 +1,7 @@
 """Calls on Matrix Market texts. In a row `|` ends a line, and `\\s` and the like mean blank characters."""
 import re
 
-from .market import meaning, written
+from .market import MIXED, meaning, written
 from .matrices import Triplets, drawn_list, list_of, summed
 from .scalars import TOO_SMALL, scalar_of
 from .words import Picture, Refused, Unreadable, words_of
@@ -70,6 +70,8 @@ def answer(name, call, over):
             return lines_of(below_heading(written(in_order(call, over), scalars)))
         case "write-whole":
             return lines_of(written(in_order(call, over), scalars))
+        case "write-mixed":
+            return lines_of(written(in_order(call, over), scalars, MIXED))
         case "write-list":
             return lines_of(below_heading(written(list_of(words_of(call)[0], scalars), scalars)))
         case "display-read" | "debug-read":

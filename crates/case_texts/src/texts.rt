@@ -22,7 +22,7 @@ pub fn name_of(call: &str) -> (&str, &str) {
 /// Returns whether a call with this name is one on texts.
 pub fn is_on_texts(name: &str) -> bool {
     match name {
-        "read" | "text" | "write" | "write-list" | "write-whole" => true,
+        "read" | "text" | "write" | "write-list" | "write-whole" | "write-mixed" => true,
         "display-read" | "debug-read" | "error" => true,
         "from-integer" | "from-pattern" | "negative-of" | "conjugate-of" | "text-of" => true,
         _ => false,
@@ -56,6 +56,7 @@ fn answer<T: TextScalar>(turn: &mut Turn, form: &str, call: &str) -> Result<Stri
         "text" => read::<T>(turn, "", rest),
         "write" => written::<T>(turn, Part::Below, form, rest),
         "write-whole" => written::<T>(turn, Part::Whole, form, rest),
+        "write-mixed" => written::<T>(turn, Part::Mixed, form, rest),
         "write-list" => written::<T>(turn, Part::Below, "list", rest),
         "display-read" => shown_error::<T>(turn.alloc(), false, rest),
         "debug-read" => shown_error::<T>(turn.alloc(), true, rest),

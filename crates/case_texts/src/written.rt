@@ -8,8 +8,8 @@ use case_words::picture::list_of;
 use case_words::turn::Turn;
 use nalgebra_sparse::convert::serial::{convert_coo_csc, convert_coo_csr};
 use nalgebra_sparse::io::{
-    MatrixMarketExport, Out, load_coo_from_matrix_market_str, save_to_matrix_market,
-    save_to_matrix_market_str,
+    Banner, MatrixMarketExport, Out, load_coo_from_matrix_market_str, save_to_matrix_market,
+    save_to_matrix_market_str, save_to_matrix_market_str_with, save_to_matrix_market_with,
 };
 use nalgebra_sparse::scalar::W128;
 use nalgebra_sparse::{CooMatrix, CscMatrix, CsrMatrix};
@@ -20,6 +20,8 @@ use std::alloc::Global;
 pub enum Part {
     /// All lines.
     Whole,
+    /// All lines of the text whose first word is `%%MatrixMarket`.
+    Mixed,
     /// Those that `read` reads: without the first words, and without the comment line.
     Below,
 }
@@ -41,12 +43,12 @@ pub fn written<T: TextScalar>(
 ) -> Result<String, Failure> {
     let alloc = turn.alloc();
     let text = match form {
-        "list" => text_of_matrix::<T, CooMatrix<T>>(turn, &list(alloc, picture)?)?,
-        "rows" => text_of_matrix::<T, CsrMatrix<T>>(turn, &by_rows(alloc, picture)?)?,
-        _ => text_of_matrix::<T, CscMatrix<T>>(turn, &by_columns(alloc, picture)?)?,
+        "list" => text_of_matrix::<T, CooMatrix<T>>(turn, part, &list(alloc, picture)?)?,
+        "rows" => text_of_matrix::<T, CsrMatrix<T>>(turn, part, &by_rows(alloc, picture)?)?,
+        _ => text_of_matrix::<T, CscMatrix<T>>(turn, part, &by_columns(alloc, picture)?)?,
     };
     match part {
-        Part::Whole => Ok(lines_of(alloc, text.as_str())?),
+        Part::Whole | Part::Mixed => Ok(lines_of(alloc, text.as_str())?),
         Part::Below => below(alloc, text.as_str()),
     }
 }
@@ -88,12 +90,16 @@ fn by_columns<T: TextScalar>(alloc: Global, picture: &str) -> Result<CscMatrix<T
 // The text of a matrix, which a writer is given as well, and which is read as the same triplets.
 fn text_of_matrix<T: TextScalar, S: MatrixMarketExport<T>>(
     turn: &mut Turn,
+    part: Part,
     matrix: &S,
 ) -> Result<String, Failure> {
     let alloc = turn.alloc();
     let mut out = Out::new(Vec::with_capacity(alloc, ROOM)?);
     turn.begin();
-    let text = turn.end(saved(alloc, matrix, &mut out))?;
+    let text = turn.end(match part {
+        Part::Mixed => saved_mixed(alloc, matrix, &mut out),
+        _ => saved(alloc, matrix, &mut out),
+    })?;
     if out.into_inner().as_slice() != text.as_bytes() {
         return Err(Failure::Unreadable("the text and what a writer is given differ"));
     }
@@ -112,6 +118,16 @@ fn saved<T: TextScalar, S: MatrixMarketExport<T>>(
 ) -> Result<String, Failure> {
     save_to_matrix_market(alloc, out, matrix)?;
     Ok(save_to_matrix_market_str(alloc, matrix)?)
+}
+
+// The same, where the first word of the text is `%%MatrixMarket`.
+fn saved_mixed<T: TextScalar, S: MatrixMarketExport<T>>(
+    alloc: Global,
+    matrix: &S,
+    out: &mut Out<Vec<u8>>,
+) -> Result<String, Failure> {
+    save_to_matrix_market_with(alloc, out, matrix, Banner::MixedCase)?;
+    Ok(save_to_matrix_market_str_with(alloc, matrix, Banner::MixedCase)?)
 }
 
 /// Returns the lines of a written text that `read` reads.

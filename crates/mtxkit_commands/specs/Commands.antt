@@ -8,7 +8,7 @@ use Rattle.mtxkit_texts.specs.Facts.{WritesInfo, IsInfoFailure}
 use Rattle.mtxkit_texts.specs.Headers.{header_in}
 use Rattle.mtxkit_texts.specs.Loaded.{IsLoadFailure, IsValuesFailure}
 use Rattle.mtxkit_texts.specs.Lower.{IsSymmetricFailure, Symmetrised}
-use Rattle.mtxkit_texts.specs.Rewritten.{WritesIntegers, WritesPattern}
+use Rattle.mtxkit_texts.specs.Rewritten.{WritesIntegers, WritesPattern, WritesCopy, IsCopyFailure}
 use Rattle.mtxkit_texts.specs.Shown.{ShowsBitmap, ShowsBlocks}
 use Rattle.mtxkit_texts.specs.declared.failure.Failure.{Failure}
 use Rattle.mtxkit_texts.specs.declared.failure.Failure.TheVariants.{Unsaved, Write, OutOfMemory}
@@ -23,7 +23,7 @@ use Rattle.mtxkit_commands.specs.declared.command_error.CommandError.{CommandErr
 use Rattle.mtxkit_commands.specs.declared.command_error.CommandError.TheVariants.{Failed}
 use Rattle.mtxkit_commands.specs.declared.command_error.CommandError.TheVariants.{Unscaled}
 use Rattle.mtxkit_commands.specs.declared.commands.Command.{Command}
-use Rattle.mtxkit_commands.specs.declared.commands.Command.TheVariants.{Info, Spy, Field}
+use Rattle.mtxkit_commands.specs.declared.commands.Command.TheVariants.{Info, Spy, Copy, Field}
 use Rattle.mtxkit_commands.specs.declared.commands.Command.TheVariants.{Integer}
 use Rattle.mtxkit_commands.specs.declared.commands.Command.TheVariants.{Symmetric, Solve, Check}
 use Rattle.mtxkit_commands.specs.declared.commands.Target.{Target}
@@ -80,6 +80,8 @@ IsAnswer (Info file) old new written =
     ReadsOne file.now (λ text. WritesInfo text written) old new
 IsAnswer (Spy file size target) old new written =
     ReadsOne file.now (λ text. ShowsPicture target text size written) old new
+IsAnswer (Copy file) old new written =
+    ReadsOne file.now (λ text. WritesCopy text written) old new
 IsAnswer (Field file values) old new written =
     ReadsOne file.now (λ text. WritesValues values text written) old new
 IsAnswer (Integer file scale) old new written = IsScaleAnswer scale file.now old new written
@@ -131,6 +133,7 @@ abbrev pub IsFailure : Command → List Reading → List Reading → Failure →
 IsFailure (Info file) old new failure = FailsOne file.now IsInfoFailure old new failure
 IsFailure (Spy file size target) old new failure =
     FailsOne file.now (IsLoadFailure 1) old new failure
+IsFailure (Copy file) old new failure = FailsOne file.now IsCopyFailure old new failure
 IsFailure (Field file values) old new failure =
     FailsOne file.now (IsFieldFailureOf values) old new failure
 IsFailure (Integer file scale) old new failure =

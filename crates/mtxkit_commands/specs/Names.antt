@@ -12,7 +12,7 @@ use Rattle.mtxkit_commands.specs.declared.command_error.CommandError.{CommandErr
 use Rattle.mtxkit_commands.specs.declared.command_error.CommandError.TheVariants.{Failed}
 use Rattle.mtxkit_commands.specs.declared.command_error.CommandError.TheVariants.{Unscaled}
 use Rattle.mtxkit_commands.specs.declared.commands.Command.{Command}
-use Rattle.mtxkit_commands.specs.declared.commands.Command.TheVariants.{Info, Spy, Field}
+use Rattle.mtxkit_commands.specs.declared.commands.Command.TheVariants.{Info, Spy, Copy, Field}
 use Rattle.mtxkit_commands.specs.declared.commands.Command.TheVariants.{Integer}
 use Rattle.mtxkit_commands.specs.declared.commands.Command.TheVariants.{Symmetric, Solve, Check}
 use Rattle.mtxkit_commands.specs.declared.commands.Target.{Target}
@@ -21,6 +21,7 @@ use Rattle.mtxkit_commands.specs.declared.commands.Target.TheVariants.{Bitmap, B
 abbrev pub first_file : Command → List ℕ
 first_file (Info file) = file.now
 first_file (Spy file size target) = file.now
+first_file (Copy file) = file.now
 first_file (Field file values) = file.now
 first_file (Integer file scale) = file.now
 first_file (Symmetric file) = file.now

@@ -8,7 +8,8 @@ use Rattle.sparse_algebra.specs.Plain.{Plain, plain_product}
 use Rattle.sparse_coo_dense.specs.Coo.{Coo}
 use Rattle.sparse_coo_dense.specs.CooPlain.{plain_of_coo}
 use Rattle.sparse_algebra.specs.Integers.{element_of}
-use Rattle.sparse_io.specs.Written.{text_of}
+use Rattle.sparse_io.specs.Written.{text_with}
+use Rattle.sparse_io.specs.declared.banner.Banner.TheVariants.{MixedCase}
 use Rattle.sparse_market_scalar.specs.ScalarTypes.{signed_scalar}
 use Rattle.sparse_dense_ops.specs.Solutions.{HasSameValues}
 use Rattle.mtxkit_matrices.specs.Values.{IsSymmetricMatrix}
@@ -113,7 +114,7 @@ pub record WritesSolution (m : Option ℕ) (first second written : List ℕ) : T
   pub first_means : MeansIntegers first a
   pub second_means : MeansIntegers second b
   pub solves : Solves (ring_of m) (reduced_by m) a x b
-  pub is : written ≡ text_of (codes "integer") signed_decimal x
+  pub is : written ≡ text_with MixedCase (codes "integer") signed_decimal x
 
 -- the system of the matrices that the two texts mean is not solved
 pub record HasNoSolution (m : Option ℕ) (first second : List ℕ) (failure : Failure) : Type 0 where

@@ -4,7 +4,7 @@ use Rattle.clap.specs.Matches.{first_value, one_text}
 use Rattle.clap.specs.declared.parser.matches.Found.{Found}
 use Rattle.mtxkit_commands.specs.Names.{target_file}
 use Rattle.mtxkit_commands.specs.declared.commands.Command.{Command}
-use Rattle.mtxkit_commands.specs.declared.commands.Command.TheVariants.{Info, Spy, Field}
+use Rattle.mtxkit_commands.specs.declared.commands.Command.TheVariants.{Info, Spy, Copy, Field}
 use Rattle.mtxkit_commands.specs.declared.commands.Command.TheVariants.{Integer}
 use Rattle.mtxkit_commands.specs.declared.commands.Command.TheVariants.{Symmetric, Solve, Check}
 use Rattle.mtxkit_commands.specs.declared.commands.Target.{Target}
@@ -16,6 +16,7 @@ use Rattle.mtxkit_commands.specs.declared.commands.Values.TheVariants.{Integers,
 abbrev pub command_name : Command → List ℕ
 command_name (Info file) = codes "info"
 command_name (Spy file size target) = codes "spy"
+command_name (Copy file) = codes "copy"
 command_name (Field file values) = codes "field"
 command_name (Integer file scale) = codes "integer"
 command_name (Symmetric file) = codes "symmetric"
@@ -49,6 +50,7 @@ GivesCommand words (Info file) = IsArgument words (codes "FILE") file.now
 GivesCommand words (Spy file size target) = IsArgument words (codes "FILE") file.now
     × (target_file target ≡ first_value words (codes "output"))
     × (one_text words (codes "size") ≡ None → size ≡ default_size target)
+GivesCommand words (Copy file) = IsArgument words (codes "FILE") file.now
 GivesCommand words (Field file values) =
     IsArgument words (codes "FILE") file.now × IsArgument words (codes "FIELD") (field_name values)
 GivesCommand words (Integer file scale) = IsArgument words (codes "FILE") file.now

@@ -12,7 +12,8 @@ use crate::inputs::{Texts, read_text};
 use crate::scaled::scaled_of;
 use crate::systems::{check_text, solve_text};
 use mtxkit_texts::{
-    Failure, info_text, integer_text, pattern_text, spy_bitmap, spy_blocks, symmetric_text,
+    Failure, copy_text, info_text, integer_text, pattern_text, spy_bitmap, spy_blocks,
+    symmetric_text,
 };
 use std::alloc::Global;
 
@@ -38,6 +39,10 @@ pub fn answer_of<T: Texts>(
         Command::Spy { file, size, target } => {
             let text = read_text(texts, 1, file)?;
             Ok(picture(alloc, size, target, text.as_str())?.into_bytes())
+        }
+        Command::Copy { file } => {
+            let text = read_text(texts, 1, file)?;
+            Ok(copy_text(alloc, text.as_str())?.into_bytes())
         }
         Command::Field { file, values } => {
             let text = read_text(texts, 1, file)?;

@@ -47,7 +47,7 @@ enum Word {
     Text,
 }
 
-const USAGES: [Usage; 7] = [
+const USAGES: [Usage; 8] = [
     Usage {
         name: "info",
         about: "Writes facts about a matrix",
@@ -62,6 +62,11 @@ const USAGES: [Usage; 7] = [
             Word::Output,
             Word::Text,
         ],
+    },
+    Usage {
+        name: "copy",
+        about: "Writes a matrix row by row, each entry once, in the form that other programs read",
+        words: &[Word::File("FILE", MATRIX_FILE)],
     },
     Usage {
         name: "field",

@@ -25,6 +25,11 @@ pub enum Command<'a> {
         /// The format of the picture, and the file that it is written to.
         target: Target<'a>,
     },
+    /// `copy`: writes a matrix with its own field, row by row.
+    Copy {
+        /// The file.
+        file: &'a str,
+    },
     /// `field`: writes a matrix with another field.
     Field {
         /// The file.
@@ -101,6 +106,7 @@ impl<'a> Command<'a> {
         match self {
             Command::Info { file }
             | Command::Spy { file, .. }
+            | Command::Copy { file }
             | Command::Field { file, .. }
             | Command::Integer { file, .. }
             | Command::Symmetric { file } => file,

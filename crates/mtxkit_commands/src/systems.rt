@@ -14,7 +14,7 @@ use mtxkit_matrices::{SystemError, is_solution, solve_listed};
 use mtxkit_texts::{Failure, read_integers};
 use sparse_algebra::scalar::{Mod, W64};
 use sparse_coo_dense::coo::CooMatrix;
-use sparse_io::save_to_matrix_market_str;
+use sparse_io::{Banner, save_to_matrix_market_str_with};
 use std::alloc::Global;
 
 /// Returns the text of the matrix X for which A X = B. The texts `a` and `b` are those of the symmetric matrix A and of
@@ -35,7 +35,7 @@ pub fn solve_text(alloc: Global, modulus: Option<u64>, a: &str, b: &str) -> Resu
     let a = read_integers(alloc, 1, a)?;
     let b = read_integers(alloc, 2, b)?;
     match solve_modulo(alloc, modulus, &a, &b) {
-        Ok(x) => Ok(save_to_matrix_market_str(alloc, &x)?),
+        Ok(x) => Ok(save_to_matrix_market_str_with(alloc, &x, Banner::MixedCase)?),
         Err(failure) => Err(failure),
     }
 }

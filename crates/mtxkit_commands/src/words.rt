@@ -52,6 +52,7 @@ fn named_command<'a>(name: &str, words: &ArgMatches<'a>) -> Option<Command<'a>>
     match name {
         "info" => info_of(words),
         "spy" => spy_of(words),
+        "copy" => copy_of(words),
         "field" => field_of(words),
         "integer" => integer_of(words),
         "symmetric" => symmetric_of(words),
@@ -102,6 +103,15 @@ fn size_of(given: Option<usize>, target: Target<'_>) -> usize
         (_, Target::Blocks) => 64,
         (_, _) => 512,
     }
+}
+
+fn copy_of<'a>(words: &ArgMatches<'a>) -> Option<Command<'a>>
+    ensures sized { IfSome result IsSized }
+    ensures named { IfSome result (λ command. command_name command ≡ codes "copy") }
+    ensures given { IfSome result (GivesCommand (found_of words.now)) }
+{
+    let file = words.get_str("FILE")?;
+    Some(Command::Copy { file })
 }
 
 fn field_of<'a>(words: &ArgMatches<'a>) -> Option<Command<'a>>

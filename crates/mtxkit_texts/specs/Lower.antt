@@ -26,7 +26,7 @@ use Rattle.mtxkit_texts.specs.Rewritten.{WritesIntegers, WritesPattern}
 
 -- the header line with this field and this symmetry
 abbrev pub head : List ℕ → List ℕ → List ℕ
-head name last = codes "%%matrixmarket matrix coordinate " ++ (name ++ last)
+head name last = codes "%%MatrixMarket matrix coordinate " ++ (name ++ last)
 
 -- two texts that differ only in the symmetry of the header line: `general` and `symmetric`
 pub record IsSymmetricForm (name general symmetric : List ℕ) : Type 0 where

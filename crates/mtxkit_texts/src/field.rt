@@ -1,14 +1,15 @@
-//! Writes the matrix of a text with another field.
+//! Writes the matrix of a text with another field, or with its own.
 
 ghost use Rattle.std.specs.Prelude.{IfErr, IfOk, string_bytes};
 ghost use Rattle.mtxkit_texts.specs.Rewritten.{WritesIntegers, WritesPattern};
+ghost use Rattle.mtxkit_texts.specs.Rewritten.{WritesCopy, IsCopyFailure};
 ghost use Rattle.mtxkit_texts.specs.Loaded.{IsLoadFailure, IsValuesFailure};
 
 use crate::failure::Failure;
-use crate::loaded::load;
+use crate::loaded::{load, names_pattern};
 use crate::pattern_texts::write_pattern;
 use crate::values::load_values;
-use sparse_io::save_to_matrix_market_str;
+use sparse_io::{Banner, save_to_matrix_market_str_with};
 use std::alloc::Global;
 
 /// Returns the text of the pattern of a text's matrix, row by row. An entry whose value is zero is kept.
@@ -30,5 +31,20 @@ pub fn integer_text(alloc: Global, text: &str) -> Result<String, Failure>
     ensures refused { IfErr result (IsValuesFailure 1 text.now) }
 {
     let matrix = load_values(alloc, 1, text)?;
-    Ok(save_to_matrix_market_str(alloc, &matrix)?)
+    Ok(save_to_matrix_market_str_with(alloc, &matrix, Banner::MixedCase)?)
+}
+
+/// Returns the text of a text's matrix, row by row: as a pattern if the header names a pattern, and otherwise with
+/// integers.
+///
+/// Returns the errors of [`pattern_text`] or [`integer_text`].
+pub fn copy_text(alloc: Global, text: &str) -> Result<String, Failure>
+    ensures written { IfOk result (λ written. WritesCopy text.now (string_bytes written)) }
+    ensures refused { IfErr result (IsCopyFailure text.now) }
+{
+    if names_pattern(text) {
+        pattern_text(alloc, text)
+    } else {
+        integer_text(alloc, text)
+    }
 }

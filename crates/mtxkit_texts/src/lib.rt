@@ -22,7 +22,7 @@ mod whole;
 
 pub use fact_lines::info_text;
 pub use failure::Failure;
-pub use field::{integer_text, pattern_text};
+pub use field::{copy_text, integer_text, pattern_text};
 pub use lists::with_values;
 pub use loaded::{Loaded, header_of, load, read_integers};
 pub use locations::Location;

@@ -24,7 +24,7 @@ use crate::values::narrow_sums;
 use mtxkit_matrices::lower_of;
 use sparse_algebra::scalar::{Ring, W64, W128};
 use sparse_csr_csc::csr::CsrMatrix;
-use sparse_io::save_to_matrix_market_str;
+use sparse_io::{Banner, save_to_matrix_market_str_with};
 use sparse_parser::header::{Field, Header, Symmetry};
 use sparse_pattern::pattern::SparsityPattern;
 use std::alloc::{AllocError, Global};
@@ -145,8 +145,8 @@ fn symmetric_pattern(alloc: Global, lower: &SparsityPattern) -> Result<String, A
     with_head(
         alloc,
         general.as_str(),
-        "%%matrixmarket matrix coordinate pattern general\n",
-        "%%matrixmarket matrix coordinate pattern symmetric\n",
+        "%%MatrixMarket matrix coordinate pattern general\n",
+        "%%MatrixMarket matrix coordinate pattern symmetric\n",
     )
 }
 
@@ -154,12 +154,12 @@ fn symmetric_pattern(alloc: Global, lower: &SparsityPattern) -> Result<String, A
 fn symmetric_integers(alloc: Global, lower: &CsrMatrix<W64>) -> Result<String, AllocError>
     ensures { IfOk result (λ written. IsSymmetricIntegers lower.now (string_bytes written)) }
 {
-    let general = save_to_matrix_market_str(alloc, lower)?;
+    let general = save_to_matrix_market_str_with(alloc, lower, Banner::MixedCase)?;
     with_head(
         alloc,
         general.as_str(),
-        "%%matrixmarket matrix coordinate integer general\n",
-        "%%matrixmarket matrix coordinate integer symmetric\n",
+        "%%MatrixMarket matrix coordinate integer general\n",
+        "%%MatrixMarket matrix coordinate integer symmetric\n",
     )
 }
 

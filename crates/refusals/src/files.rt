@@ -6,8 +6,8 @@ use case_words::turn::Turn;
 use mtx_commands::command;
 use nalgebra_sparse::CooMatrix;
 use nalgebra_sparse::io::{
-    MatrixMarketError, Out, load_coo_from_matrix_market_file, load_coo_from_matrix_market_str,
-    save_to_matrix_market_file,
+    Banner, MatrixMarketError, Out, load_coo_from_matrix_market_file,
+    load_coo_from_matrix_market_str, save_to_matrix_market_file, save_to_matrix_market_file_with,
 };
 use nalgebra_sparse::scalar::W64;
 use std::fs;
@@ -23,7 +23,8 @@ const PATH: &str = "refusals.mtx";
 pub fn run(rt: &HostRuntime, turn: &mut Turn, call: &str, case: &str) -> Outcome {
     match call {
         "load_coo_from_matrix_market_file" => load(rt, turn),
-        "save_to_matrix_market_file" => save(rt, turn),
+        "save_to_matrix_market_file" => save(rt, turn, None),
+        "save_to_matrix_market_file_with" => save(rt, turn, Some(Banner::MixedCase)),
         "command" => obey_case(rt, turn, case),
         _ => Outcome::Unknown,
     }
@@ -51,16 +52,26 @@ fn sum_of(list: &CooMatrix<W64>) -> u64 {
     sum.cast_unsigned()
 }
 
-fn save(rt: &HostRuntime, turn: &mut Turn) -> Outcome {
+// Writes a list by the call that takes a first word, if one is given.
+fn save(rt: &HostRuntime, turn: &mut Turn, banner: Option<Banner>) -> Outcome {
     match load_coo_from_matrix_market_str(turn.alloc(), INTEGERS) {
-        Ok(list) => save_list(rt, turn, &list),
+        Ok(list) => save_list(rt, turn, &list, banner),
         Err(_) => Outcome::Unready,
     }
 }
 
-fn save_list(rt: &HostRuntime, turn: &mut Turn, list: &CooMatrix<W64>) -> Outcome {
+fn save_list(
+    rt: &HostRuntime,
+    turn: &mut Turn,
+    list: &CooMatrix<W64>,
+    banner: Option<Banner>,
+) -> Outcome {
     turn.begin();
-    match turn.end(save_to_matrix_market_file(rt, list, PATH)) {
+    let answer = match banner {
+        Some(banner) => save_to_matrix_market_file_with(rt, list, PATH, banner),
+        None => save_to_matrix_market_file(rt, list, PATH),
+    };
+    match turn.end(answer) {
         Ok(()) => Outcome::Answered(0),
         Err(error) => of_error(&error),
     }

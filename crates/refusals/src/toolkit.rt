@@ -39,6 +39,7 @@ pub fn run(rt: &HostRuntime, turn: &mut Turn, case: &str) -> Outcome {
         "info" => run_args(rt, turn, Command::Info { file: A }),
         "spy" => run_args(rt, turn, picture(Target::Bitmap)),
         "spy text" => run_args(rt, turn, picture(Target::Blocks)),
+        "copy" => run_args(rt, turn, Command::Copy { file: A }),
         "field" => {
             let values = Values::Pattern;
             run_args(rt, turn, Command::Field { file: A, values })

@@ -4,10 +4,11 @@
 
 use sparse_coo_dense::coo::CooMatrix;
 use sparse_io::{
-    MatrixMarketErrorKind, load_coo_from_matrix_market_file, save_to_matrix_market_file,
+    Banner, MatrixMarketErrorKind, load_coo_from_matrix_market_file, save_to_matrix_market_file,
+    save_to_matrix_market_file_with,
 };
 use std::alloc::{AllocError, Global};
-use std::fs::remove_file;
+use std::fs::{self, remove_file};
 use std::io::ErrorKind;
 
 /// The kind of the refusal of a file, read as i32.
@@ -56,6 +57,46 @@ fn is_kept(rt: &HostRuntime, path: &str) -> bool {
 fn reads_what_it_wrote(rt: HostRuntime) {
     assert!(rt; is_kept(&rt, "written.mtx"));
     assert!(rt; remove_file(&rt, "written.mtx").is_ok());
+}
+
+// Whether a file's text begins so.
+fn begins(rt: &HostRuntime, path: &str, start: &str) -> bool {
+    match fs::read_to_string(rt, path) {
+        Ok(text) => text.as_str().starts_with(start),
+        Err(_) => false,
+    }
+}
+
+// Whether the file of a list begins with the word of this banner, and with `%%matrixmarket` if there is none.
+fn begins_as_asked(rt: &HostRuntime, path: &str) -> bool {
+    let Ok(matrix) = matrix(rt.alloc(), 1, 1, &[(0, 0, 1)]) else {
+        return false;
+    };
+    save_to_matrix_market_file_with(rt, &matrix, path, Banner::MixedCase).is_ok()
+        && begins(
+            rt,
+            path,
+            "%%MatrixMarket matrix coordinate integer general\n",
+        )
+        && save_to_matrix_market_file_with(rt, &matrix, path, Banner::LowerCase).is_ok()
+        && begins(
+            rt,
+            path,
+            "%%matrixmarket matrix coordinate integer general\n",
+        )
+        && save_to_matrix_market_file(rt, &matrix, path).is_ok()
+        && begins(
+            rt,
+            path,
+            "%%matrixmarket matrix coordinate integer general\n",
+        )
+}
+
+// No contract says what a file has.
+#[test]
+fn files_begin_with_the_word_that_is_asked_for(rt: HostRuntime) {
+    assert!(rt; begins_as_asked(&rt, "first.mtx"));
+    assert!(rt; remove_file(&rt, "first.mtx").is_ok());
 }
 
 #[test]

@@ -68,6 +68,8 @@ pub const REFUSALS: &[Refusal] = &[
     (&["spy", "-", "--text"], ONE, 1, UNWRITTEN),
     (&["info", "-"], REAL, 1, UNWRITTEN),
     (&["spy", "-"], REAL, 1, NOT_CARRIED),
+    (&["copy", "-"], REAL, 1, NOT_CARRIED),
+    (&["copy", "-"], COMPLEX, 1, NOT_CARRIED),
     (&["solve", "-", "-"], REAL, 1, NOT_CARRIED),
     (
         &["info", "-"],
@@ -123,6 +125,7 @@ pub const REFUSALS: &[Refusal] = &[
     (&["integer", "/no/such/file"], ONE, 1, NO_FILE),
     (&["integer", "--scale", "-1", "-"], ONE, 2, "error: "),
     (&["field", "integer", "-"], LARGE, 1, TOO_WIDE),
+    (&["copy", "-"], LARGE, 1, TOO_WIDE),
     (&["symmetric", "-"], LARGE, 1, TOO_WIDE),
     (&["field", "integer", "-"], LARGE_SUM, 1, TOO_WIDE),
     (&["symmetric", "-"], MIRRORED, 1, TOO_WIDE),
