@@ -1,0 +1,2 @@
+mod Pigeonhole
+pub mod Orders

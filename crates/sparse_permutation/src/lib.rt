@@ -1,0 +1,5 @@
+//! Permutations, and matrices whose rows and columns are permuted.
+#![tactic(auto)]
+
+pub mod error;
+pub mod permutation;
