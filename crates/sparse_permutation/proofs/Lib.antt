@@ -1,2 +1,6 @@
 mod Pigeonhole
 pub mod Orders
+pub mod Reindexing
+pub mod PermutedPlain
+pub mod PermutedProducts
+pub mod PermutedTriplets

@@ -1,12 +1,14 @@
 -- Permutations as lists: their values, inverses and compositions.
-use Rattle.std.proofs.Common.{◌≡◌, ℕ, zero, suc, ◌<◌, inl, inr, List, [], ◌∷◌, ◌++◌, length}
+use Rattle.std.proofs.Common.{◌≡◌, ℕ, zero, suc, ◌<◌, inl, inr, List, [], ◌∷◌, ◌++◌, length, map}
 use Rattle.std.proofs.Common.{get_or, sym, ap, ◌∙◌, refl, arith}
+use Rattle.std.specs.Prelude.{nat_eq, if◌then◌else◌}
 use Rattle.std.proofs.lemmas.Bool.{cases_eq}
+use Rattle.std.proofs.lemmas.Bool.Decides.{Decides-eqb, nat_tests}
 use Rattle.std.proofs.lemmas.List.{get_or-map, length-append, length-map}
 use Rattle.std.proofs.Math.ListN.{get_or-append}
 use Rattle.std.proofs.Math.Seq.{get_or-append_seam}
 use Rattle.sparse_algebra.specs.Plain.{below}
-use Rattle.sparse_algebra.proofs.Cases.{lt_suc_cases}
+use Rattle.sparse_algebra.proofs.Cases.{lt_suc_cases, true_or_false}
 use Rattle.sparse_permutation.specs.Permutations.{IsOrder, IsInverse, composed}
 use Rattle.sparse_permutation.proofs.Pigeonhole.{each_is_value}
 
@@ -99,3 +101,39 @@ identity_order n k less =
       below = omega (arith, count, at);
       new = λ l before e. omega (arith, below_at n l (omega (arith, count)), at);
     }
+
+-- ---- every permutation has an inverse
+
+-- where i is among the first n indices, and 0 if it is not
+index_of : List ℕ → ℕ → ℕ → ℕ
+index_of p i zero = 0
+index_of p i (suc n) = if nat_eq (get_or p n 0) i then n else index_of p i n
+
+index_of_found : (p : List ℕ) (i n k : ℕ) → k < n → get_or p k 0 ≡ i
+    → (get_or p (index_of p i n) 0 ≡ i) × (index_of p i n < n)
+unfolding index_of
+index_of_found p i zero k less at = absurd (omega arith)
+index_of_found p i (suc n) k less at = elim (true_or_false (nat_eq (get_or p n 0) i)) [
+  | inl here ↦ rw here ((Decides-eqb (get_or p n 0) i).0 here, omega arith)
+  | inr other ↦
+      let before : k < n = elim (lt_suc_cases k n less) [
+        | inl lt ↦ lt
+        | inr same ↦ absurd (grind (arith, nat_tests, ap (λ l. get_or p l 0) same))
+      ] in
+      let rest = index_of_found p i n k before at in
+      rw other (rest.0, omega (arith, rest.1))
+]
+
+pub inverse_exists : (p : List ℕ) → IsOrder p → (q : List ℕ) × IsInverse p q × IsOrder q
+inverse_exists p order =
+    let n = length p in
+    let q : List ℕ = map (λ i. index_of p i n) (below n) in
+    let count : length q ≡ length p = length-map (below n) (λ i. index_of p i n) ∙ length-below n in
+    let inverse : IsInverse p q = is_inverse order q count (λ k less.
+    let i = get_or p k 0 in
+    let inside : i < n = order_below order k less in
+    let found = index_of_found p i n k less refl in
+    get_or-map (λ i. index_of p i n) (below n) i 0 0 (omega (arith, length-below n))
+    ∙ ap (λ j. index_of p j n) (below_at n i inside)
+    ∙ order_once order (index_of p i n) k found.1 less found.0) in
+    (q, inverse, inverse_order order q inverse)

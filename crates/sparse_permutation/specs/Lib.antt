@@ -1,2 +1,3 @@
 pub mod Permutations
 pub mod PermutationFaults
+pub mod PermutedPlain
