@@ -4,3 +4,6 @@ pub mod Reindexing
 pub mod PermutedPlain
 pub mod PermutedProducts
 pub mod PermutedTriplets
+mod RenumberedLists
+mod PermutedEntries
+mod PermutedColumns

@@ -3,4 +3,8 @@
 
 pub mod error;
 pub mod laws;
+mod no_value;
 pub mod permutation;
+mod renumbering;
+pub mod rows;
+pub mod symmetric;

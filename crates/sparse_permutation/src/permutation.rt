@@ -127,7 +127,8 @@ impl Permutation {
     /// }
     /// ```
     pub fn inverse(&self, alloc: Global) -> Result<Permutation, AllocError>
-        ensures { IfOk result (IsInverse self.now) }
+        ensures inverse { IfOk result (IsInverse self.now) }
+        ensures valid { IfOk result IsOrder }
     {
         let order = self.order();
         let mut inverse = vec![in alloc; 0; order.len()]?;
