@@ -1,0 +1,6 @@
+pub mod Permutations
+pub mod PermutationFaults
+pub mod PermutedPlain
+pub mod PermutedPatterns
+pub mod InnerZeroRing
+pub mod InnerRenumbered

@@ -1,0 +1,10 @@
+//! Permutations, and matrices whose rows and columns are permuted.
+#![tactic(auto)]
+
+pub mod error;
+pub mod laws;
+mod no_value;
+pub mod permutation;
+mod renumbering;
+pub mod rows;
+pub mod symmetric;
