@@ -54,7 +54,7 @@
  * a call runs, no other thread may write an array that it reads, or read or write an array for its result.
  *
  * The functions at the end (nalgebra_sparse_inline.h) take matrices as structs and null pointers as empty arrays, and
- * nalgebra_sparse_status_text says what a status means.
+ * nalgebra_sparse_status_text says what a status means; those of nalgebra_sparse_files.h read and write files by name.
  */
 #ifndef NALGEBRA_SPARSE_H
 #define NALGEBRA_SPARSE_H
@@ -62,8 +62,11 @@
 #ifndef __cplusplus
 #include <stdbool.h>
 #endif
+#include <errno.h>
 #include <stddef.h>
 #include <stdint.h>
+#include <stdio.h>
+#include <stdlib.h>
 
 #if !defined SIZE_MAX || SIZE_MAX != UINT64_MAX
 #error "the library is built for a size_t of 64 bits"
@@ -775,6 +778,7 @@ int32_t nalgebra_sparse_factors_clone(nalgebra_sparse_factors *f, nalgebra_spars
 void nalgebra_sparse_factors_free(nalgebra_sparse_factors *f);
 
 #include "nalgebra_sparse_inline.h"
+#include "nalgebra_sparse_files.h"
 
 #ifdef __cplusplus
 }

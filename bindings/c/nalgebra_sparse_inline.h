@@ -10,6 +10,9 @@
 #ifndef NALGEBRA_SPARSE_INLINE_H
 #define NALGEBRA_SPARSE_INLINE_H
 
+/* The status if a file can't be opened, read or written: only the functions of nalgebra_sparse_files.h return it. */
+enum { NALGEBRA_SPARSE_FILE_ERROR = 64 };
+
 /* Returns the text of a status, without a full stop, or "an unknown status". It is static: do not free it. */
 static inline const char *nalgebra_sparse_status_text(int32_t status) {
     switch (status) {
@@ -32,6 +35,7 @@ static inline const char *nalgebra_sparse_status_text(int32_t status) {
     case NALGEBRA_SPARSE_UNREADABLE: return "the bytes of a text are not UTF-8";
     case NALGEBRA_SPARSE_EMPTY_HANDLE: return "a handle has no matrix";
     case NALGEBRA_SPARSE_SHAPE_MISMATCH: return "the shapes of the operands do not fit";
+    case NALGEBRA_SPARSE_FILE_ERROR: return "a file can't be opened, read or written";
     default: return "an unknown status";
     }
 }

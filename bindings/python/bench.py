@@ -49,7 +49,7 @@ def tasks(size, rows, cols):
     turned, turned_theirs = ours.transpose(matrix), theirs.T.tocsr()
     return [
         ("assembly", lambda: ours.assemble_csr(shape, rows, cols, values), lambda: sp.coo_matrix((values, small), shape).tocsr()),
-        ("square", lambda: ours.multiply(matrix, matrix), lambda: sorted_square(theirs)),
+        ("square", lambda: ours.matmul(matrix, matrix), lambda: sorted_square(theirs)),
         ("sum A + A^T", lambda: ours.add(matrix, turned), lambda: theirs + turned_theirs),
         ("transpose", lambda: ours.transpose(matrix), lambda: theirs.T.tocsr()),
     ]

@@ -40,9 +40,9 @@ def main():
     cuts = [0, 0, 1, *range(500, 3001, 500)]
     with LocalCluster(n_workers=2, threads_per_worker=1, dashboard_address=None) as cluster, Client(cluster) as client:
         second = client.scatter(b, broadcast=True)
-        sent = [client.submit(nalgebra_sparse.multiply, rows_of(a, *cut), second) for cut in zip(cuts, cuts[1:])]
+        sent = [client.submit(nalgebra_sparse.matmul, rows_of(a, *cut), second) for cut in zip(cuts, cuts[1:])]
         product = stacked(client.gather(sent))
-    whole = nalgebra_sparse.multiply(a, b)
+    whole = nalgebra_sparse.matmul(a, b)
     for name in ("indptr", "indices", "data"):
         assert getattr(product, name).tobytes() == getattr(whole, name).tobytes(), name
     print(f"{len(sent)} blocks on 2 workers have the bytes of one call")

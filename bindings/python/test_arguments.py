@@ -1,8 +1,10 @@
 """Tries wrong arguments, the formats and dtypes of operands, and the examples of the package. Run by bindings/test."""
 import array
+import contextlib
 import ctypes
 import ctypes.util
 import doctest
+import io
 import os
 import re
 import subprocess
@@ -15,7 +17,7 @@ import scipy.sparse as sp
 here = os.path.dirname(os.path.abspath(__file__))
 sys.path.insert(0, here)
 import nalgebra_sparse as ns  # noqa: E402
-from nalgebra_sparse import _calls, _exact, _factorisation, _matrices, _systems, _texts  # noqa: E402
+from nalgebra_sparse import _calls, _exact, _factorisation, _matrices, _owned, _systems, _texts  # noqa: E402
 
 NONE = np.empty(0, np.int64)
 ONE = np.array([0])
@@ -52,7 +54,7 @@ def check_shapes():
     for shape in (2, None, "ab", (2.0, 2), (True, 2), ((2, 2), 2), b"\x02\x03", bytearray(b"\x02\x03"), {2, 3}):
         for call in (ns.assemble_csr, ns.assemble_csc):
             refused(TypeError, call, shape, NONE, NONE, NONE)
-    for call in (ns.transpose, ns.add, ns.multiply):
+    for call in (ns.transpose, ns.add, ns.matmul):
         matrix = sp.csr_matrix(PLAIN)
         matrix._shape = (2, 3, 4)
         refused(ns.Error, call, *[matrix] * (1 if call is ns.transpose else 2))
@@ -86,7 +88,7 @@ def check_kinds():
     refused(TypeError, ns.add, sp.csr_matrix(PLAIN), sp.csc_matrix(PLAIN))
     for matrix in (PLAIN, None, sp.coo_matrix(PLAIN), sp.csr_matrix(PLAIN.astype(float))):
         refused(TypeError, ns.transpose, matrix)
-        refused(TypeError, ns.multiply, sp.csr_matrix(PLAIN), matrix)
+        refused(TypeError, ns.matmul, sp.csr_matrix(PLAIN), matrix)
     refused(TypeError, ns.read, "a text")
     refused(TypeError, ns.write, sp.csr_matrix(PLAIN))
     refused(TypeError, ns.reuse_memory, 0.5)
@@ -186,8 +188,8 @@ def check_forms():
             (ns.transpose(a), PLAIN.T),
             (ns.add(a, a), 2 * PLAIN),
             (ns.subtract(ns.add(a, a), a), PLAIN),
-            (ns.multiply(a, kind(PLAIN.T)), PLAIN @ PLAIN.T),
-            (ns.multiply(kind(PLAIN.T), a), PLAIN.T @ PLAIN),
+            (ns.matmul(a, kind(PLAIN.T)), PLAIN @ PLAIN.T),
+            (ns.matmul(kind(PLAIN.T), a), PLAIN.T @ PLAIN),
             (ns.divide(a, 1), PLAIN),
         ]:
             assert type(result) is kind and result.dtype == np.int64 and np.array_equal(result.toarray(), want)
@@ -216,13 +218,19 @@ def check_import():
 
 
 def check_package():
-    """The version is that of the file VERSION, each name of `__all__` exists, and the examples run."""
+    """The version is that of the file VERSION, each name of `__all__` exists, and the examples run, also the README's."""
     assert ns.__version__ == open(os.path.join(here, "..", "..", "VERSION"), encoding="ascii").read().strip()
     examples = 0
-    for module in (ns, _exact, _factorisation, _matrices, _systems, _texts):
-        failed, tried = doctest.testmod(module)
+    for module in (ns, _exact, _factorisation, _matrices, _owned, _systems, _texts):
+        failed, tried = doctest.testmod(module, extraglobs={"Exact": ns.Exact})
         assert not failed
         examples += tried
+    with open(os.path.join(here, "README.md"), encoding="utf-8") as file:
+        blocks = re.findall(r"```python\n(.*?)```", file.read(), re.S)
+    for block in blocks:
+        with contextlib.redirect_stdout(io.StringIO()):
+            exec(compile(block, "README.md", "exec"), {})
+    assert len(blocks) == 4
     for name in ns.__all__:
         public = getattr(ns, name)
         assert not callable(public) or public.__doc__

@@ -178,7 +178,7 @@ def check_scipy_operands():
             refused(TypeError, call)
         refused(ns.Error, lambda: a + kind(q[:1]))
         refused(ns.Error, lambda: kind(q[:, :1]) @ a)
-    for call in (lambda: a * a, lambda: q + a, lambda: a @ q, lambda: q @ a, lambda: np.float64(2) * a, lambda: a + 1):
+    for call in (lambda: a * a, lambda: q + a, lambda: a - q, lambda: np.float64(2) * a, lambda: a + 1):
         refused(TypeError, call)
 
 
@@ -249,7 +249,7 @@ def check_refusals():
     broken = sp.csr_matrix((1, 2), dtype=np.int64)
     broken.indptr = np.array([0, 1])
     refused(ns.InvalidStructure, lambda: Exact.from_scipy(broken))
-    assert repr(wide.T) == "<Exact: 3 by 1 with 3 places>"
+    assert repr(wide.T) == "<Exact: 3 by 1 with 3 stored entries, modulo 2^64>"
     even = Exact.from_scipy(sp.csr_array(np.array([[2]])))
     b = np.array([7])
     for call in (lambda: wide.solve_lower(b), lambda: wide.solve_upper(b), wide.factor, lambda: wide.solve(b)):

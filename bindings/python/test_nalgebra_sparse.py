@@ -74,9 +74,9 @@ def check_random_cases():
         assert same(ns.transpose(a), a.T.tocsr())
         assert same(ns.add(a, b), merged(a, b, 1))
         assert same(ns.subtract(a, b), merged(a, b, -1))
-        assert same(ns.multiply(a, c), pattern_product(a, c))
+        assert same(ns.matmul(a, c), pattern_product(a, c))
         matrices._MOST_UNCOUNTED, most = 0, matrices._MOST_UNCOUNTED
-        assert same(ns.multiply(a, c), pattern_product(a, c))
+        assert same(ns.matmul(a, c), pattern_product(a, c))
         matrices._MOST_UNCOUNTED = most
         check_dense_case()
         check_solves()
@@ -206,7 +206,7 @@ def check_ring():
         (ns.add(a, b, modulus), x + y),
         (ns.subtract(a, b, modulus), x - y),
         (ns.add_scaled(alpha, a, beta, b, modulus), alpha * x + beta * y),
-        (ns.multiply(a, c, modulus), x.dot(z)),
+        (ns.matmul(a, c, modulus), x.dot(z)),
     ]:
         assert not found.nnz or (found.data.min() >= 0 and found.data.max() < modulus)
         assert np.all((whole(found.toarray()) - plain) % modulus == 0)
@@ -215,7 +215,7 @@ def check_ring():
     assert np.all((whole(multiples.toarray()) - alpha * x - beta * y) % 2**64 == 0)
     for added in (multiples, ns.add_scaled(alpha, a, beta, b, modulus), ns.add(a, b, modulus), ns.subtract(a, b, modulus)):
         assert same_places(added, ns.add(a, b))
-    assert same_places(ns.multiply(a, c, modulus), ns.multiply(a, c))
+    assert same_places(ns.matmul(a, c, modulus), ns.matmul(a, c))
 
 
 def same_places(a, b):
@@ -271,9 +271,9 @@ def check_text():
         found = ns.read(text)
         assert found.shape == a.shape and np.array_equal(found.data, a.data)
         assert np.array_equal(found.row, a.row) and np.array_equal(found.col, a.col)
-    # SciPy reads a banner only in these capitals.
-    text = ns.write(a).replace(b"%%matrixmarket", b"%%MatrixMarket", 1)
-    assert (scipy.io.mmread(io.BytesIO(text)) != a).nnz == 0
+    file = io.BytesIO()
+    ns.mmwrite(file, a)
+    assert (scipy.io.mmread(io.BytesIO(file.getvalue())) != a).nnz == 0
 
 
 def refused(error, call, *arguments):
@@ -297,17 +297,17 @@ def check_errors():
     fine = matrix(1, 3)
     refused(ns.DuplicateEntry, ns.transpose, twice)
     refused(ns.InvalidStructure, ns.add, fine, falling)
-    refused(ns.InvalidStructure, ns.multiply, falling, matrix(3, 1))
+    refused(ns.InvalidStructure, ns.matmul, falling, matrix(3, 1))
     # Faults of operands that SciPy does not test are found before memory for the product is allocated.
     outside = sp.csr_matrix((1, 3), dtype=np.int64)
     for index in (3, -1, -4):
         outside.data, outside.indices, outside.indptr = wide[:1], np.array([index]), np.array([0, 1])
-        refused(ns.IndexOutOfBounds, ns.multiply, outside, matrix(3, 1))
+        refused(ns.IndexOutOfBounds, ns.matmul, outside, matrix(3, 1))
     falling_rows = sp.csr_matrix((2, 1), dtype=np.int64)
     falling_rows.data, falling_rows.indices, falling_rows.indptr = wide[:1], np.array([0]), np.array([0, 2, 1])
-    refused(ns.InvalidStructure, ns.multiply, sp.csr_matrix(np.ones((1, 2), np.int64)), falling_rows)
+    refused(ns.InvalidStructure, ns.matmul, sp.csr_matrix(np.ones((1, 2), np.int64)), falling_rows)
     refused(ValueError, ns.add, fine, matrix(1, 4))
-    refused(ValueError, ns.multiply, fine, fine)
+    refused(ValueError, ns.matmul, fine, fine)
     odd, even = sp.csc_matrix(np.array([[5, 0], [0, 7]])), sp.csc_matrix(np.array([[5, 0], [0, 6]]))
     b = np.array([1, 2])
     refused(ns.Singular, ns.solve_lower, even, b)
@@ -321,7 +321,7 @@ def check_errors():
         refused(ns.UnknownModulus, ns.add, fine, fine, modulus)
         refused(ns.UnknownModulus, ns.add_scaled, 2, fine, 3, fine, modulus)
         refused(ns.UnknownModulus, ns.multiply_dense, sp.csr_matrix(odd), b, modulus)
-        refused(ns.UnknownModulus, ns.multiply, odd, odd, modulus)
+        refused(ns.UnknownModulus, ns.matmul, odd, odd, modulus)
         refused(ns.UnknownModulus, ns.factor_symmetric, odd, modulus)
     refused(ns.Singular, ns.solve_lower, odd, b, False, 7)
     refused(ns.Singular, ns.solve_symmetric, odd, b, 5)

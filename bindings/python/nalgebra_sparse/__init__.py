@@ -25,7 +25,7 @@ A call that is refused raises an `Error` or a `MemoryError`, and an argument of 
 >>> import nalgebra_sparse
 >>> rows, cols, values = np.array([0, 0, 1, 1]), np.array([0, 1, 1, 1]), np.array([1, 2, 2, 1])
 >>> matrix = nalgebra_sparse.assemble_csr((2, 2), rows, cols, values)
->>> nalgebra_sparse.multiply(matrix, matrix).toarray().tolist()
+>>> nalgebra_sparse.matmul(matrix, matrix).toarray().tolist()
 [[1, 8], [0, 9]]
 """
 from __future__ import annotations
@@ -33,13 +33,16 @@ from __future__ import annotations
 import ctypes
 import os
 
-from ._errors import DuplicateEntry, Error, IndexOutOfBounds, InvalidStructure, InvalidText, Singular, UnknownModulus
-from ._exact import Exact, Factorisation
-from ._matrices import add, add_scaled, assemble_csc, assemble_csr, divide, multiply, multiply_dense, subtract, transpose
-from ._operands import integer as _integer
-from ._rational import solve_rational
-from ._systems import factor_symmetric, fill, solve_lower, solve_symmetric
-from ._texts import read, write
+# Before the other modules, which take it from here.
+MODULI = (2, 3, 5, 7, 11, 13, 101, 65537, 998244353, 1000000007, 2305843009213693951)
+
+from ._errors import DuplicateEntry, Error, IndexOutOfBounds, InvalidStructure, InvalidText, Singular, UnknownModulus  # noqa: E402
+from ._exact import Exact, Factorisation  # noqa: E402
+from ._matrices import add, add_scaled, assemble_csc, assemble_csr, divide, matmul, multiply_dense, subtract, transpose  # noqa: E402
+from ._operands import integer as _integer  # noqa: E402
+from ._rational import solve_rational  # noqa: E402
+from ._systems import factor_symmetric, fill, solve_lower, solve_symmetric  # noqa: E402
+from ._texts import mmread, mmwrite, read, write  # noqa: E402
 
 __all__ = [
     "MODULI",
@@ -59,7 +62,9 @@ __all__ = [
     "divide",
     "factor_symmetric",
     "fill",
-    "multiply",
+    "matmul",
+    "mmread",
+    "mmwrite",
     "multiply_dense",
     "read",
     "reuse_memory",
@@ -70,8 +75,6 @@ __all__ = [
     "transpose",
     "write",
 ]
-
-MODULI = (2, 3, 5, 7, 11, 13, 101, 65537, 998244353, 1000000007, 2305843009213693951)
 
 
 def _version() -> str:

@@ -181,7 +181,7 @@ def call(name: str, *arguments: Any) -> None:
     words = [word for kind, argument in zip(kinds, arguments) for word in kind.words(argument)]
     status = _FUNCTIONS[name](*words)
     if status:
-        raise error_of(status)
+        raise error_of(status, name, arguments[0] if name.endswith("_mod") else None)
 
 
 def _freeing(name: str, kind: Any) -> Any:

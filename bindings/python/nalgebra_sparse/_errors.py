@@ -1,6 +1,8 @@
 """The errors of calls, by their statuses."""
 from __future__ import annotations
 
+from typing import Optional
+
 
 class Error(ValueError):
     """A call was refused."""
@@ -19,7 +21,8 @@ class DuplicateEntry(Error):
 
 
 class Singular(Error):
-    """A value that must have an inverse has none."""
+    """A value that must have an inverse has none. The message names the ring: the integers modulo 2^64, or modulo a
+    prime."""
 
 
 class UnknownModulus(Error):
@@ -38,7 +41,7 @@ UNKNOWN_MODULUS = 7
 
 _REFUSALS: dict[int, tuple[type[Exception], str]] = {
     1: (MemoryError, "an allocation failed"),
-    2: (InvalidStructure, "the arrays have lengths, offsets or an order that the format does not allow"),
+    2: (InvalidStructure, "the arrays have lengths, offsets or an order that the format does not allow; sort_indices() of SciPy sorts"),
     3: (IndexOutOfBounds, "a row or a column index is out of bounds"),
     4: (DuplicateEntry, "the same place is given more than once"),
     5: (TooSmall, "an array for the result is too small"),
@@ -58,11 +61,25 @@ _REFUSALS: dict[int, tuple[type[Exception], str]] = {
 }
 
 
-def error_of(status: int) -> Exception:
-    """Returns a new exception for a status other than 0.
+def _singular(name: str, modulus: Optional[int]) -> str:
+    """Returns the message of a `Singular`: what has no inverse, in which ring, and what else may solve the system."""
+    ring = "2^64" if modulus is None else str(modulus)
+    if "divide" in name:
+        fault = f"the divisor has no inverse modulo {ring}"
+    elif "factor" in name or "symmetric" in name:
+        fault = f"the matrix has no factorisation L D L^T modulo {ring}: a pivot has no inverse"
+    else:
+        fault = f"an entry of the diagonal is not stored, or has no inverse modulo {ring}"
+    if modulus is None:
+        return f"{fault} (even numbers have none); modulus= takes a prime of MODULI instead, and solve_rational solves over the fractions"
+    return f"{fault}; modulus= takes another prime of MODULI, and solve_rational solves over the fractions"
+
+
+def error_of(status: int, name: str = "", modulus: Optional[int] = None) -> Exception:
+    """Returns a new exception for a status other than 0 of a call, which may have a modulus.
 
     It is a new one each time, since an exception that is raised again keeps the frames of all its tracebacks, and the
     arrays in them.
     """
     kind, message = _REFUSALS.get(status, (Error, f"the call ended with status {status}"))
-    return kind(message)
+    return kind(_singular(name, modulus) if kind is Singular else message)

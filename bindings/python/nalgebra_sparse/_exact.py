@@ -1,37 +1,31 @@
-"""Matrices that the library owns."""
+"""Matrices that the library owns: operators, entries and solves."""
 from __future__ import annotations
 
-import ctypes
-import threading
-import weakref
-from typing import Any, Optional
+from typing import Any
 
 import numpy as np
 import scipy.sparse as sp
 
-from ._calls import Handle, call, free
+from ._calls import call
 from ._errors import Error
-from ._factorisation import Factorisation, own, solved
+from ._factorisation import Factorisation, solved
 from ._matrices import _value
-from ._operands import Integers, Matrix, check_symmetric, flag, lanes_of, shape_of, triplets_of
-from ._results import empty, matrix_of
+from ._operands import Integers, check_symmetric, dense_of, flag, integer
+from ._owned import Owned
+from ._results import empty
 
 
-def _operand(other: Any) -> Optional[Exact]:
-    """Returns the operand of an operator as an `Exact`: itself, or the one with the entries of a SciPy matrix; None if
-    it is not a matrix."""
-    if sp.issparse(other):
-        return Exact.from_scipy(other)
-    return other if isinstance(other, Exact) else None
-
-
-class Exact:
+class Exact(Owned):
     """A matrix of integers modulo 2^64 that the library owns. It is immutable.
 
     Its arrays are checked once, when it is created from a SciPy matrix or from triplets. The operators `+`, `-`, `*` by
-    an integer and `@`, and `T`, return new matrices and copy no operand. One operand of `+`, `-` and `@` may be a SciPy
-    matrix by rows or by columns, whose arrays are checked and copied. `solve_lower`, `solve_upper` and `factor` copy
-    the matrix.
+    an integer, `@` and `**`, and `T`, return new matrices and copy no operand. One operand of `+`, `-` and `@` may be a
+    SciPy matrix by rows or by columns, whose arrays are checked and copied, and one of `@` a NumPy array, a vector or a
+    matrix: then the result is one too, and the arrays of this matrix are copied. `solve_lower`, `solve_upper` and
+    `factor` copy the matrix.
+
+    `==` says whether two matrices have the same entries. The other operand may be a SciPy matrix on the right alone:
+    with one on the left, SciPy answers, and says False.
 
     The matrix is freed with the object, and several threads may use it at once. Copies share the matrix, and a pickle
     has its arrays.
@@ -40,138 +34,21 @@ class Exact:
     >>> a = Exact.from_scipy(sp.csr_matrix(np.array([[1, 2], [0, 3]])))
     >>> b = 2 * (a @ a) - a.T
     >>> b
-    <Exact: 2 by 2 with 4 places>
-    >>> b.to_scipy().toarray().tolist()
+    <Exact: 2 by 2 with 4 stored entries, modulo 2^64>
+    >>> b.toarray().tolist()
     [[1, 16], [-2, 15]]
+    >>> (a @ np.array([5, 7])).tolist(), a[0, 1].item(), a**2 == a @ a
+    ([19, 21], 2, True)
     """
 
-    __slots__ = ("_handle", "_lock", "_shape", "_nnz", "__weakref__")
+    __slots__ = ()
 
     # The operators of NumPy and of SciPy leave an `Exact` on their right to this class.
     __array_ufunc__ = None
     __array_priority__ = 1000.0
 
-    _handle: Handle
-    _lock: Any
-    _shape: tuple[int, int]
-    _nnz: int
-
-    def __init__(self) -> None:
-        raise TypeError("call Exact.from_scipy, Exact.from_triplets or Exact.from_text")
-
-    @classmethod
-    def _made(cls, name: str, *arguments: Any) -> Exact:
-        """Returns the matrix that a call puts behind the handle which is its last argument."""
-        self = object.__new__(cls)
-        self._handle, self._lock = Handle(), threading.RLock()
-        call(name, *arguments, self._handle)
-        weakref.finalize(self, free, self._handle)
-        rows, cols, places = ctypes.c_size_t(), ctypes.c_size_t(), ctypes.c_size_t()
-        call("matrix_sizes", self._handle, rows, cols, places)
-        self._shape, self._nnz = (rows.value, cols.value), places.value
-        return self
-
-    def _own(self) -> Any:
-        return own("matrix_clone", self._handle, self._lock)
-
-    def _with(self, name: str, *factors: int) -> Exact:
-        with self._own() as a:
-            return Exact._made(name, *factors, a)
-
-    def _and(self, name: str, other: Exact, *factors: int) -> Exact:
-        with self._own() as a, other._own() as b:
-            return Exact._made(name, *factors[:1], a, *factors[1:], b)
-
-    @classmethod
-    def from_scipy(cls, matrix: Matrix) -> Exact:
-        """Returns the matrix with the entries of a SciPy matrix by rows or by columns, whose arrays are copied.
-
-        >>> import numpy as np, scipy.sparse as sp
-        >>> Exact.from_scipy(sp.csc_array(np.array([[0, 5]]))).to_scipy().toarray().tolist()
-        [[0, 5]]
-        """
-        lanes = lanes_of("matrix", matrix, "csr", "csc")
-        made = cls._made("matrix_from_rows", *lanes.sizes, *lanes.arrays)
-        return made if lanes.sizes == lanes.shape and matrix.format == "csr" else made.T
-
-    @classmethod
-    def from_triplets(cls, shape: tuple[int, int], row_indices: Integers, col_indices: Integers, values: Integers) -> Exact:
-        """Returns the matrix of triplets, where values with the same row and column are added. An entry is kept if its
-        sum is 0.
-
-        >>> import numpy as np
-        >>> a = Exact.from_triplets((2, 2), np.array([0, 0, 1]), np.array([0, 0, 1]), np.array([1, 2, 7]))
-        >>> a.to_scipy().toarray().tolist()
-        [[3, 0], [0, 7]]
-        """
-        rows, cols = shape_of("shape", shape)
-        return cls._made("matrix_from_triplets", rows, cols, *triplets_of(row_indices, col_indices, values))
-
-    @classmethod
-    def from_text(cls, text: bytes) -> Exact:
-        """Returns the matrix of the bytes of a Matrix Market text with integers, where values with the same row and
-        column are added.
-
-        >>> a = Exact.from_text(b"%%MatrixMarket matrix coordinate integer symmetric\\n2 2 2\\n1 1 4\\n2 1 -3\\n")
-        >>> a.to_scipy().toarray().tolist()
-        [[4, -3], [-3, 0]]
-        """
-        if not isinstance(text, bytes):
-            raise TypeError(f"text must be bytes, not {type(text).__name__}")
-        made = cls._made("matrix_from_text", bytes(text))
-        shape_of("the shape of the text", made._shape)
-        return made
-
-    def to_text(self) -> bytes:
-        """Returns the bytes of the Matrix Market text of the matrix, with a line for each entry, row by row.
-
-        >>> import numpy as np, scipy.sparse as sp
-        >>> print(Exact.from_scipy(sp.csr_array(np.array([[0, 4]]))).to_text().decode(), end="")
-        %%matrixmarket matrix coordinate integer general
-        % matrixmarket file generated by nalgebra-sparse.
-        1 2 1
-        1 2 4
-        """
-        # A line has at most 63 bytes, and there are at most three lines before those of the entries.
-        text, length = empty(64 * (self._nnz + 3), np.uint8), ctypes.c_size_t()
-        with self._own() as a:
-            call("matrix_to_text", a, text, length)
-        return text[: length.value].tobytes()
-
-    def to_scipy(self) -> sp.csr_array:
-        """Returns the matrix as a SciPy array by rows, with a copy of the arrays."""
-        rows, places = self._shape[0], self._nnz
-        offsets, indices, values = empty(rows + 1), empty(places), empty(places)
-        with self._own() as a:
-            call("matrix_read", a, offsets, indices, values, ctypes.c_size_t())
-        return matrix_of(sp.csr_array, (values, indices, offsets), self._shape)
-
-    @property
-    def shape(self) -> tuple[int, int]:
-        """The number of rows and the number of columns."""
-        return self._shape
-
-    @property
-    def nnz(self) -> int:
-        """The number of entries, those with the value 0 too."""
-        return self._nnz
-
-    @property
-    def T(self) -> Exact:  # noqa: N802
-        """The transpose."""
-        return self._with("matrix_transpose")
-
-    def __copy__(self) -> Exact:
-        return self._with("matrix_clone")
-
-    def __deepcopy__(self, memo: Any) -> Exact:
-        return self.__copy__()
-
-    def __reduce__(self) -> Any:
-        return Exact.from_scipy, (self.to_scipy(),)
-
-    def __repr__(self) -> str:
-        return f"<Exact: {self._shape[0]} by {self._shape[1]} with {self._nnz} places>"
+    # Without this, Python would look for the items 0, 1 and so on.
+    __iter__ = None
 
     def _fits(self, other: Exact) -> None:
         if self._shape != other._shape:
@@ -190,28 +67,39 @@ class Exact:
             raise Error(f"the shapes {self._shape} and {other._shape} do not fit: the inner sizes differ")
         return self._and("matrix_multiply", other)
 
+    def _times_dense(self, b: Integers) -> Integers:
+        rows, inner = self._shape
+        values, cols = dense_of("the operand of @", b, inner)
+        product = empty(rows * cols)
+        call("multiply_dense", rows, inner, cols, *self._arrays(), values, product)
+        return product.reshape((rows, *b.shape[1:]), order="F")
+
     def __add__(self, other: Any) -> Exact:
-        operand = _operand(other)
+        operand = self._operand(other)
         return NotImplemented if operand is None else self._plus(operand)
 
     def __radd__(self, other: Any) -> Exact:
-        operand = _operand(other)
+        operand = self._operand(other)
         return NotImplemented if operand is None else operand._plus(self)
 
     def __sub__(self, other: Any) -> Exact:
-        operand = _operand(other)
+        operand = self._operand(other)
         return NotImplemented if operand is None else self._minus(operand)
 
     def __rsub__(self, other: Any) -> Exact:
-        operand = _operand(other)
+        operand = self._operand(other)
         return NotImplemented if operand is None else operand._minus(self)
 
-    def __matmul__(self, other: Any) -> Exact:
-        operand = _operand(other)
+    def __matmul__(self, other: Any) -> Any:
+        if isinstance(other, np.ndarray):
+            return self._times_dense(other)
+        operand = self._operand(other)
         return NotImplemented if operand is None else self._times(operand)
 
-    def __rmatmul__(self, other: Any) -> Exact:
-        operand = _operand(other)
+    def __rmatmul__(self, other: Any) -> Any:
+        if isinstance(other, np.ndarray):
+            return self.transpose()._times_dense(other.T).T
+        operand = self._operand(other)
         return NotImplemented if operand is None else operand._times(self)
 
     def __neg__(self) -> Exact:
@@ -227,18 +115,55 @@ class Exact:
 
     __rmul__ = __mul__
 
+    def __pow__(self, exponent: Any) -> Exact:
+        if isinstance(exponent, (bool, np.bool_)) or not isinstance(exponent, (int, np.integer)):
+            return NotImplemented
+        size = self._square()
+        if exponent < 0:
+            raise Error(f"the exponent of a matrix must not be negative, as {exponent} is")
+        if exponent == 0:
+            diagonal = np.arange(size)
+            return Exact.from_triplets((size, size), diagonal, diagonal, np.ones(size, np.int64))
+        power = self
+        # The digits after the first one: each doubles the exponent, and a 1 adds one to it.
+        for digit in f"{int(exponent):b}"[1:]:
+            power = power._times(power)
+            if digit == "1":
+                power = power._times(self)
+        return power
+
     def add_scaled(self, alpha: int, other: Exact, beta: int) -> Exact:
         """Returns the sum `alpha * self + beta * other`, on the union of the patterns.
 
         >>> import numpy as np, scipy.sparse as sp
         >>> a = Exact.from_scipy(sp.csr_array(np.array([[1, 2]])))
-        >>> a.add_scaled(3, a, -1).to_scipy().toarray().tolist()
+        >>> a.add_scaled(3, a, -1).toarray().tolist()
         [[2, 4]]
         """
         if not isinstance(other, Exact):
             raise TypeError(f"other must be an Exact, not {type(other).__name__}")
         self._fits(other)
         return self._and("matrix_add_scaled", other, _value("alpha", alpha), _value("beta", beta))
+
+    def getrow(self, i: int) -> Exact:
+        """Returns the row i as a matrix with one row. A negative i counts from the end.
+
+        It is the product with a row that has a 1 in the column i, so its time does not depend on the other rows.
+
+        >>> import numpy as np, scipy.sparse as sp
+        >>> Exact.from_scipy(sp.csr_array(np.array([[1, 2], [0, 7]]))).getrow(1).toarray().tolist()
+        [[0, 7]]
+        """
+        rows = self._shape[0]
+        row, none, one = np.array([_inside(i, rows)]), np.zeros(1, np.int64), np.ones(1, np.int64)
+        return Exact.from_triplets((1, rows), none, row, one)._times(self)
+
+    def __getitem__(self, key: Any) -> np.int64:
+        if not isinstance(key, tuple) or len(key) != 2 or any(isinstance(index, slice) for index in key):
+            raise IndexError("an Exact has its values as a[i, j] and its rows as getrow(i): call tocsr() for other parts")
+        row, j = self.getrow(key[0])._arrays(), _inside(key[1], self._shape[1])
+        at = np.searchsorted(row[1], j)
+        return row[2][at] if at < row[1].size and row[1][at] == j else np.int64(0)
 
     def _square(self) -> int:
         rows, cols = self._shape
@@ -277,6 +202,9 @@ class Exact:
         `assume_symmetric=True` there is no test, and the factors are those of the symmetric matrix with the entries of
         this one on and above the diagonal.
 
+        The factors exist if each pivot is odd, which is seldom so: `Singular` says that they do not. Modulo a prime
+        `factor_symmetric` returns them, and `solve_rational` solves over the rational numbers.
+
         >>> import numpy as np, scipy.sparse as sp
         >>> factors = Exact.from_scipy(sp.csr_array(np.array([[1, 2], [2, 7]]))).factor()
         >>> factors.solve(np.array([3, 9])).tolist()
@@ -287,7 +215,7 @@ class Exact:
         """
         size = self._square()
         if not flag("assume_symmetric", assume_symmetric):
-            check_symmetric((self - self.T).to_scipy())
+            check_symmetric((self - self.T).tocsr())
         with self._own() as a:
             return Factorisation._made("matrix_factor", a, size)
 
@@ -302,3 +230,11 @@ class Exact:
         [1, 2]
         """
         return self.factor(assume_symmetric).solve(b)
+
+
+def _inside(index: Any, size: int) -> int:
+    """Returns an index from 0 to below a size. A negative one counts from the end."""
+    number = integer("an index", index)
+    if not -size <= number < size:
+        raise IndexError(f"the index {number} is out of bounds for a size of {size}")
+    return number % size

@@ -32,7 +32,8 @@ def own(name: str, handle: Any, lock: Any) -> Iterator[Any]:
 def solved(name: str, b: Any, rows: int, *arguments: Any) -> Integers:
     """Calls a solve in place over a copy of b, and returns X in the shape of b."""
     values, cols = dense_of("b", b, rows)
-    values = np.array(values)
+    if np.may_share_memory(values, b):
+        values = np.array(values)
     call(name, *arguments, cols, values)
     return values.reshape(b.shape, order="F")
 

@@ -55,7 +55,7 @@ def transpose(matrix: Matrix) -> Matrix:
     """
     a = lanes_of("matrix", matrix, "csr", "csc")
     lanes, inner = a.sizes
-    return matrix_of(a.kind, filled(inner, a.values.size, "transpose", lanes, inner, *a.arrays), a.shape[::-1])
+    return matrix_of(a.kind, filled(inner, a.values.size, "transpose", lanes, inner, *a.arrays), a.shape[::-1], a.wide)
 
 
 def _merged(name: str, modulus: Any, a: Any, b: Any, *factors: int) -> Any:
@@ -66,7 +66,7 @@ def _merged(name: str, modulus: Any, a: Any, b: Any, *factors: int) -> Any:
         raise Error(f"the shapes {x.shape} and {y.shape} differ")
     operands = (*factors[:1], *x.arrays, *factors[1:], *y.arrays)
     parts = filled(x.sizes[0], x.values.size + y.values.size, *modular(name, modulus), *x.sizes, *operands)
-    return matrix_of(x.kind, parts, x.shape)
+    return matrix_of(x.kind, parts, x.shape, x.wide or y.wide)
 
 
 def _value(name: str, number: Any) -> int:
@@ -113,15 +113,15 @@ def add_scaled(alpha: int, a: Matrix, beta: int, b: Matrix, modulus: Optional[in
     return _merged("add_scaled", modulus, a, b, _value("alpha", alpha), _value("beta", beta))
 
 
-def multiply(a: Matrix, b: Matrix, modulus: Optional[int] = None) -> Matrix:
+def matmul(a: Matrix, b: Matrix, modulus: Optional[int] = None) -> Matrix:
     """Returns the product of two matrices in the same format, with an entry (i, j) wherever some k has an entry (i, k)
     in a and (k, j) in b.
 
     >>> import numpy as np, scipy.sparse as sp
     >>> a = sp.csr_matrix(np.array([[1, 2], [0, 3]]))
-    >>> multiply(a, a).toarray().tolist()
+    >>> matmul(a, a).toarray().tolist()
     [[1, 8], [0, 9]]
-    >>> multiply(a, a, modulus=7).toarray().tolist()
+    >>> matmul(a, a, modulus=7).toarray().tolist()
     [[1, 1], [0, 2]]
     """
     name = modular("multiply", modulus)
@@ -133,7 +133,7 @@ def multiply(a: Matrix, b: Matrix, modulus: Optional[int] = None) -> Matrix:
     first, second = (x, y) if x.sizes == x.shape else (y, x)
     sizes = (first.sizes[0], inner, second.sizes[1])
     parts = filled(sizes[0], _product_room(first, second), *name, *sizes, *first.arrays, *second.arrays)
-    return matrix_of(x.kind, parts, (rows, cols))
+    return matrix_of(x.kind, parts, (rows, cols), x.wide or y.wide)
 
 
 # Up to this many entries, a product is computed into room for one entry for each multiplication. The rest of the room
@@ -183,4 +183,4 @@ def divide(matrix: Matrix, divisor: int, modulus: Optional[int] = None) -> Matri
     a = lanes_of("matrix", matrix, "csr", "csc")
     number = _value("divisor", divisor)
     parts = filled(a.sizes[0], a.values.size, *modular("divide", modulus), *a.sizes, *a.arrays, number)
-    return matrix_of(a.kind, parts, a.shape)
+    return matrix_of(a.kind, parts, a.shape, a.wide)

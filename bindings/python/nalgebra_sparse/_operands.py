@@ -18,13 +18,15 @@ _CLASSES = {"csr": (sp.csr_array, sp.csr_matrix), "csc": (sp.csc_array, sp.csc_m
 
 
 class Lanes(NamedTuple):
-    """The arrays of a matrix by rows or by columns, and the class of matrices for results."""
+    """The arrays of a matrix by rows or by columns, the class of matrices for results, and whether the indices that
+    were given have more than 32 bits."""
 
     shape: tuple[int, int]
     offsets: Integers
     indices: Integers
     values: Integers
     kind: Any
+    wide: bool
 
     @property
     def arrays(self) -> tuple[Integers, Integers, Integers]:
@@ -124,7 +126,19 @@ def lanes_of(name: str, matrix: Any, *forms: str) -> Lanes:
         indices_of(f"{name}.indices", matrix.indices),
         values_of(f"{name}.data", matrix.data),
         of_arrays if isinstance(matrix, of_arrays) else of_matrices,
+        max(matrix.indices.itemsize, matrix.indptr.itemsize) > 4,
     )
+
+
+def sorted_arrays(lanes: Lanes) -> tuple[Integers, Integers, Integers]:
+    """Returns the arrays with the indices of each lane sorted, or as they are if a lane would be out of bounds."""
+    offsets, indices, values = lanes.arrays
+    lengths = np.diff(offsets)
+    sound = offsets.size == lanes.sizes[0] + 1 and offsets[0] == 0 and offsets[-1] == indices.size == values.size
+    if not sound or offsets.dtype.kind == "u" or (lengths < 0).any():
+        return lanes.arrays
+    order = np.lexsort((indices, np.repeat(np.arange(lengths.size), lengths)))
+    return offsets, indices[order], values[order]
 
 
 def pair_of(a: Any, b: Any) -> tuple[Lanes, Lanes]:

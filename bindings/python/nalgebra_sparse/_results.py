@@ -10,6 +10,8 @@ from ._calls import call
 from ._errors import TooSmall
 from ._operands import Integers
 
+_MOST_OF_32_BITS = 2**31 - 1
+
 
 def empty(count: int, dtype: Any = np.int64) -> Integers:
     """Returns an array for a result. Raises a `MemoryError` if it does not fit in memory."""
@@ -30,7 +32,10 @@ def with_room(room: int, dtypes: tuple[Any, ...], name: str, *arguments: Any) ->
     except TooSmall:
         arrays = [empty(count.value, dtype) for dtype in dtypes]
         call(name, *arguments, *arrays, count)
-    return tuple(array[: count.value] for array in arrays)
+    for array in arrays:
+        # Gives back the rest of the room, and moves no element. No other object refers to the array.
+        array.resize(count.value, refcheck=False)
+    return tuple(arrays)
 
 
 def filled(lanes: int, room: int, name: str, *arguments: Any) -> tuple[Integers, Integers, Integers]:
@@ -41,8 +46,14 @@ def filled(lanes: int, room: int, name: str, *arguments: Any) -> tuple[Integers,
     return values, indices, offsets
 
 
-def matrix_of(kind: Any, parts: Any, shape: tuple[int, int]) -> Any:
-    """Returns the matrix of arrays that the library wrote, without a check."""
-    matrix = kind(parts, shape=shape, copy=False)
+def matrix_of(kind: Any, parts: tuple[Integers, Integers, Integers], shape: tuple[int, int], wide: bool = False) -> Any:
+    """Returns the matrix of arrays that the library wrote, without a check. Unless `wide` is set, its indices and
+    offsets have 32 bits if the sizes fit, which SciPy's graph functions require."""
+    values, indices, offsets = parts
+    if not wide and max(*shape, values.size) <= _MOST_OF_32_BITS:
+        indices, offsets = indices.astype(np.int32), offsets.astype(np.int32)
+    # With the arrays SciPy's constructor would read all indices, to choose their type.
+    matrix = kind(shape, dtype=np.int64)
+    matrix.data, matrix.indices, matrix.indptr = values, indices, offsets
     matrix.has_sorted_indices = matrix.has_canonical_format = True
     return matrix

@@ -114,4 +114,4 @@ def factor_symmetric(matrix: Matrix, modulus: Optional[int] = None, assume_symme
     offsets, indices, values, diagonal = empty(size + 1), empty(room), empty(room), empty(size)
     outputs = (offsets, indices, values, diagonal, ctypes.c_size_t())
     call(name, *start, size, *lanes.arrays, *outputs)
-    return matrix_of(lanes.kind, (values, indices, offsets), (size, size)), diagonal
+    return matrix_of(lanes.kind, (values, indices, offsets), (size, size), lanes.wide), diagonal

@@ -1,15 +1,20 @@
-"""Texts in Matrix Market format."""
+"""Texts and files in Matrix Market format."""
 from __future__ import annotations
 
 import ctypes
-from typing import Any
+import os
+from typing import Any, BinaryIO, Union
 
 import numpy as np
 import scipy.sparse as sp
 
 from ._calls import call
 from ._operands import shape_of, triplets_of
+from ._owned import Owned
 from ._results import empty, with_room
+
+# A path, or a binary file that is open.
+File = Union[str, "os.PathLike[str]", BinaryIO]
 
 
 def read(text: bytes) -> sp.coo_matrix:
@@ -49,3 +54,46 @@ def write(matrix: Any) -> bytes:
     # Enough for the first lines and for triplets with 8 bytes for each number: for longer texts the call is repeated.
     (text,) = with_room(256 + 27 * triplets[2].size, (np.uint8,), "write", rows, cols, *triplets)
     return text.tobytes()
+
+
+def mmread(source: File) -> sp.coo_matrix:
+    """Returns the triplets of a Matrix Market file with integers, as `read` does of its bytes.
+
+    `source` is a path, or a binary file that is open. As with SciPy's `mmread`, `.mtx` is added to the path if there is
+    no file of that name.
+
+    >>> import io
+    >>> mmread(io.BytesIO(b"%%MatrixMarket matrix array integer general\\n1 2\\n5\\n7\\n")).toarray().tolist()
+    [[5, 7]]
+    """
+    if isinstance(source, (str, os.PathLike)):
+        path = os.fspath(source)
+        with open(path if os.path.exists(path) else _suffixed(path), "rb") as file:
+            return read(file.read())
+    return read(source.read())
+
+
+def mmwrite(target: File, a: Any) -> None:
+    """Writes the Matrix Market text of a sparse matrix: a SciPy matrix in any format, or an `Exact`.
+
+    `target` is a path, to which `.mtx` is added if it does not end so, or a binary file that is open. There is a line
+    for each triplet, as in `write`. The first line has the capitals without which SciPy's `mmread` refuses a file.
+
+    >>> import io, numpy as np, scipy.sparse as sp
+    >>> file = io.BytesIO()
+    >>> mmwrite(file, sp.csr_array(np.array([[0, 4]])))
+    >>> file.getvalue().split(b"\\n")[0]
+    b'%%MatrixMarket matrix coordinate integer general'
+    """
+    if not sp.issparse(a) and not isinstance(a, Owned):
+        raise TypeError(f"a must be a SciPy matrix or an Exact, not {type(a).__name__}")
+    text = write(a.tocoo()).replace(b"%%matrixmarket", b"%%MatrixMarket", 1)
+    if isinstance(target, (str, os.PathLike)):
+        with open(_suffixed(os.fspath(target)), "wb") as file:
+            file.write(text)
+    else:
+        target.write(text)
+
+
+def _suffixed(path: str) -> str:
+    return path if path.endswith(".mtx") else f"{path}.mtx"

@@ -1,11 +1,10 @@
 //! Solves with matrices that the library owns, and their factors.
 
-use std::cell::UnsafeCell;
 use std::fmt;
-use std::ptr;
 
 use crate::calls::FactorHandle;
 use crate::error::answer;
+use crate::shared::Shared;
 use crate::{calls, Error, Matrix, System};
 
 impl Matrix {
@@ -25,15 +24,15 @@ impl Matrix {
     ///
     /// let l = Matrix::from_triplets((2, 2), &[0, 1, 1], &[0, 0, 1], &[1, 2, 3])?;
     /// let mut x = [5, 16];
-    /// l.solve_lower_mut(System::Lower, 1, &mut x)?;
+    /// l.solve_lower_mut(System::NotTransposed, 1, &mut x)?;
     /// assert_eq!(x, [5, 2]);
     /// # Ok::<(), nalgebra_sparse_exact::Error>(())
     /// ```
     pub fn solve_lower_mut(&self, system: System, cols: usize, values: &mut [i64]) -> Result<(), Error> {
-        let (transposed, count) = (system == System::Transposed, values.len());
-        // SAFETY: the pointer is that of a slice, with the slice's length after it. The handle is as a call left it.
+        let (transposed, count, mut own) = (system == System::Transposed, values.len(), self.handle.second()?);
+        // SAFETY: the pointer is that of a slice, with the slice's length after it, and no other call uses the handle.
         answer(unsafe {
-            calls::nalgebra_sparse_matrix_solve_lower(self.handle.get(), transposed, cols, values.as_mut_ptr(), count)
+            calls::nalgebra_sparse_matrix_solve_lower(own.pointer(), transposed, cols, values.as_mut_ptr(), count)
         })
     }
 
@@ -43,11 +42,23 @@ impl Matrix {
     /// # Errors
     ///
     /// Those of [`Matrix::solve_lower_mut`].
+    ///
+    /// # Examples
+    ///
+    /// ```
+    /// use nalgebra_sparse_exact::{Matrix, System};
+    ///
+    /// let u = Matrix::from_triplets((2, 2), &[0, 0, 1], &[0, 1, 1], &[1, 4, 3])?;
+    /// let mut x = [13, 6];
+    /// u.solve_upper_mut(System::NotTransposed, 1, &mut x)?;
+    /// assert_eq!(x, [5, 2]);
+    /// # Ok::<(), nalgebra_sparse_exact::Error>(())
+    /// ```
     pub fn solve_upper_mut(&self, system: System, cols: usize, values: &mut [i64]) -> Result<(), Error> {
-        let (transposed, count) = (system == System::Transposed, values.len());
-        // SAFETY: the pointer is that of a slice, with the slice's length after it. The handle is as a call left it.
+        let (transposed, count, mut own) = (system == System::Transposed, values.len(), self.handle.second()?);
+        // SAFETY: the pointer is that of a slice, with the slice's length after it, and no other call uses the handle.
         answer(unsafe {
-            calls::nalgebra_sparse_matrix_solve_upper(self.handle.get(), transposed, cols, values.as_mut_ptr(), count)
+            calls::nalgebra_sparse_matrix_solve_upper(own.pointer(), transposed, cols, values.as_mut_ptr(), count)
         })
     }
 
@@ -60,14 +71,15 @@ impl Matrix {
     /// [`Error::OutOfMemory`]; [`Error::ShapeMismatch`] if the matrix is not square; [`Error::Singular`] if no
     /// factorisation exists.
     pub fn factor(&self) -> Result<Factorisation, Error> {
+        let mut own = self.handle.second()?;
         // SAFETY: the handles are different, and no other call uses them.
-        Factorisation::made(|out| unsafe { calls::nalgebra_sparse_matrix_factor(self.handle.get(), out) })
+        Ok(Factorisation { handle: Shared::made(|out| unsafe { calls::nalgebra_sparse_matrix_factor(own.pointer(), out) })? })
     }
 }
 
 /// The exact factors `L D L^T` of a symmetric matrix over the integers modulo 2^64, which the library owns.
 ///
-/// Clones share the factors. They may be sent to another thread; threads that solve at the same time need a clone each.
+/// Clones share the factors. Several threads may solve with them at the same time.
 ///
 /// ```
 /// use nalgebra_sparse_exact::Matrix;
@@ -80,21 +92,11 @@ impl Matrix {
 /// # Ok::<(), nalgebra_sparse_exact::Error>(())
 /// ```
 pub struct Factorisation {
-    // A call replaces the pointer by null while it runs, and restores it. It is never null outside this file.
-    handle: UnsafeCell<FactorHandle>,
+    // It is never empty.
+    handle: Shared<FactorHandle>,
 }
 
-// SAFETY: `Send` is proved for the handle (crates/c_handles). It is not `Sync`, since a call writes its operand.
-unsafe impl Send for Factorisation {}
-
 impl Factorisation {
-    /// Returns the factors that a call puts behind the empty handle that it is given.
-    fn made(call: impl FnOnce(*mut FactorHandle) -> i32) -> Result<Factorisation, Error> {
-        let factors = Factorisation { handle: UnsafeCell::new(FactorHandle { factors: ptr::null_mut() }) };
-        answer(call(factors.handle.get()))?;
-        Ok(factors)
-    }
-
     /// Replaces B by the X for which `L D L^T X = B`. B and X have `cols` columns and are stored column by column.
     ///
     /// # Errors
@@ -102,9 +104,10 @@ impl Factorisation {
     /// [`Error::OutOfMemory`]; [`Error::InvalidStructure`] if B has another number of values. On an error
     /// `values` is unchanged.
     pub fn solve_mut(&self, cols: usize, values: &mut [i64]) -> Result<(), Error> {
-        // SAFETY: the pointer is that of a slice, with the slice's length after it. The handle is as a call left it.
+        let mut own = self.handle.second()?;
+        // SAFETY: the pointer is that of a slice, with the slice's length after it, and no other call uses the handle.
         answer(unsafe {
-            calls::nalgebra_sparse_factors_solve(self.handle.get(), cols, values.as_mut_ptr(), values.len())
+            calls::nalgebra_sparse_factors_solve(own.pointer(), cols, values.as_mut_ptr(), values.len())
         })
     }
 
@@ -114,8 +117,7 @@ impl Factorisation {
     ///
     /// [`Error::OutOfMemory`].
     pub fn try_clone(&self) -> Result<Factorisation, Error> {
-        // SAFETY: the handles are different, and no other call uses them.
-        Factorisation::made(|out| unsafe { calls::nalgebra_sparse_factors_clone(self.handle.get(), out) })
+        Ok(Factorisation { handle: self.handle.try_clone()? })
     }
 }
 
@@ -127,13 +129,6 @@ impl Factorisation {
 impl Clone for Factorisation {
     fn clone(&self) -> Self {
         self.try_clone().expect("an allocation failed")
-    }
-}
-
-impl Drop for Factorisation {
-    fn drop(&mut self) {
-        // SAFETY: the handle is empty or as a call left it, and it is not used again.
-        unsafe { calls::nalgebra_sparse_factors_free(self.handle.get()) }
     }
 }
 

@@ -1,18 +1,17 @@
 //! Matrices that the library owns.
 
-use std::cell::UnsafeCell;
 use std::fmt;
-use std::ptr;
 
 use crate::calls::Handle;
 use crate::error::answer;
+use crate::shared::Shared;
 use crate::{calls, Arrays, Error, Rows};
 
 /// A matrix over the integers modulo 2^64 that the library owns.
 ///
 /// Its arrays are checked once, when it is created. Transposes, multiples, sums and products copy no operand; solves
-/// with a triangle and factorisations copy the matrix. Clones share the arrays. A matrix may be sent to another thread;
-/// threads that use it at the same time need a clone each.
+/// with a triangle and factorisations copy the matrix. Clones share the arrays. Several threads may use a matrix at the
+/// same time, and they compute at the same time.
 ///
 /// ```
 /// use nalgebra_sparse_exact::Matrix;
@@ -23,30 +22,26 @@ use crate::{calls, Arrays, Error, Rows};
 /// # Ok::<(), nalgebra_sparse_exact::Error>(())
 /// ```
 pub struct Matrix {
-    // A call replaces the pointer by null while it runs, and restores it. It is never null outside this file.
-    pub(crate) handle: UnsafeCell<Handle>,
+    // It is never empty.
+    pub(crate) handle: Shared<Handle>,
 }
 
-// SAFETY: `Send` is proved for the handle (crates/c_handles). `Matrix` is not `Sync`, since a call writes its
-// operand.
-unsafe impl Send for Matrix {}
-
 impl Matrix {
-    /// Returns the matrix that a call puts behind the empty handle that it is given.
+    /// Returns the matrix that a call stores in the empty handle that it is given.
     fn made(call: impl FnOnce(*mut Handle) -> i32) -> Result<Matrix, Error> {
-        let matrix = Matrix { handle: UnsafeCell::new(Handle { matrix: ptr::null_mut() }) };
-        answer(call(matrix.handle.get()))?;
-        Ok(matrix)
+        Ok(Matrix { handle: Shared::made(call)? })
     }
 
-    /// Returns the matrix of a call with two operands. If both are the same, the second one is cloned: the handles of a
-    /// call must differ.
+    /// Returns the matrix of a call with one operand.
+    fn computed(&self, call: impl FnOnce(*mut Handle, *mut Handle) -> i32) -> Result<Matrix, Error> {
+        let mut own = self.handle.second()?;
+        Matrix::made(|out| call(own.pointer(), out))
+    }
+
+    /// Returns the matrix of a call with two operands, which may be the same matrix.
     fn combined(&self, other: &Matrix, call: impl FnOnce(*mut Handle, *mut Handle, *mut Handle) -> i32) -> Result<Matrix, Error> {
-        if ptr::eq(self, other) {
-            let other = other.try_clone()?;
-            return Matrix::made(|out| call(self.handle.get(), other.handle.get(), out));
-        }
-        Matrix::made(|out| call(self.handle.get(), other.handle.get(), out))
+        let (mut own, mut second) = (self.handle.second()?, other.handle.second()?);
+        Matrix::made(|out| call(own.pointer(), second.pointer(), out))
     }
 
     /// Returns the matrix with these arrays, which are copied.
@@ -110,10 +105,10 @@ impl Matrix {
     pub fn to_text(&self) -> Result<Vec<u8>, Error> {
         // A line has at most 63 bytes, and there are at most three lines before those of the entries.
         let room = self.nnz()?.checked_add(3).and_then(|lines| lines.checked_mul(64)).ok_or(Error::OutOfMemory)?;
-        let (mut text, mut length) = (crate::room::zeros(room)?, 0);
-        // SAFETY: each pointer is that of a slice, with the slice's length after it. The handle is as a call left it.
+        let (mut text, mut length, mut own) = (crate::room::zeros(room)?, 0, self.handle.second()?);
+        // SAFETY: each pointer is that of a slice, with the slice's length after it, and no other call uses the handle.
         answer(unsafe {
-            calls::nalgebra_sparse_matrix_to_text(self.handle.get(), text.as_mut_ptr(), text.len(), &mut length)
+            calls::nalgebra_sparse_matrix_to_text(own.pointer(), text.as_mut_ptr(), text.len(), &mut length)
         })?;
         text.truncate(length);
         text.shrink_to_fit();
@@ -123,8 +118,9 @@ impl Matrix {
     /// Returns the numbers of rows, columns and entries.
     fn sizes(&self) -> Result<(usize, usize, usize), Error> {
         let (mut rows, mut cols, mut places) = (0, 0, 0);
-        // SAFETY: the handle is as a call left it, and no other call uses it, since `Matrix` is not `Sync`.
-        answer(unsafe { calls::nalgebra_sparse_matrix_sizes(self.handle.get(), &mut rows, &mut cols, &mut places) })?;
+        let mut own = self.handle.lock();
+        // SAFETY: the pointers are those of three numbers, and the lock keeps other calls from the handle.
+        answer(unsafe { calls::nalgebra_sparse_matrix_sizes(own.pointer(), &mut rows, &mut cols, &mut places) })?;
         Ok((rows, cols, places))
     }
 
@@ -154,12 +150,13 @@ impl Matrix {
     /// [`Error::OutOfMemory`].
     pub fn to_arrays(&self) -> Result<Arrays, Error> {
         let (rows, cols, places) = self.sizes()?;
+        let mut own = self.handle.second()?;
         let parts = crate::room::into_parts(rows, places, |o, x, v, count| {
-            // SAFETY: each pointer is that of a slice, with the slice's length behind it. The handle is as a call left
-            // it.
+            // SAFETY: each pointer is that of a slice, with the slice's length after it, and no other call uses the
+            // handle.
             unsafe {
                 calls::nalgebra_sparse_matrix_read(
-                    self.handle.get(), o.as_mut_ptr(), o.len(), x.as_mut_ptr(), x.len(), v.as_mut_ptr(), v.len(), count,
+                    own.pointer(), o.as_mut_ptr(), o.len(), x.as_mut_ptr(), x.len(), v.as_mut_ptr(), v.len(), count,
                 )
             }
         })?;
@@ -173,7 +170,7 @@ impl Matrix {
     /// [`Error::OutOfMemory`].
     pub fn transpose(&self) -> Result<Matrix, Error> {
         // SAFETY: the handles are different, and no other call uses them.
-        Matrix::made(|out| unsafe { calls::nalgebra_sparse_matrix_transpose(self.handle.get(), out) })
+        self.computed(|a, out| unsafe { calls::nalgebra_sparse_matrix_transpose(a, out) })
     }
 
     /// Returns the product of a number and the matrix, with the same pattern.
@@ -183,7 +180,7 @@ impl Matrix {
     /// [`Error::OutOfMemory`].
     pub fn scale(&self, factor: i64) -> Result<Matrix, Error> {
         // SAFETY: the handles are different, and no other call uses them.
-        Matrix::made(|out| unsafe { calls::nalgebra_sparse_matrix_scale(factor, self.handle.get(), out) })
+        self.computed(|a, out| unsafe { calls::nalgebra_sparse_matrix_scale(factor, a, out) })
     }
 
     /// Returns the sum `self + b`, on the union of the patterns.
@@ -234,8 +231,7 @@ impl Matrix {
     ///
     /// [`Error::OutOfMemory`].
     pub fn try_clone(&self) -> Result<Matrix, Error> {
-        // SAFETY: the handles are different, and no other call uses them.
-        Matrix::made(|out| unsafe { calls::nalgebra_sparse_matrix_clone(self.handle.get(), out) })
+        Ok(Matrix { handle: self.handle.try_clone()? })
     }
 }
 
@@ -247,13 +243,6 @@ impl Matrix {
 impl Clone for Matrix {
     fn clone(&self) -> Self {
         self.try_clone().expect("an allocation failed")
-    }
-}
-
-impl Drop for Matrix {
-    fn drop(&mut self) {
-        // SAFETY: the handle is empty or as a call left it, and it is not used again.
-        unsafe { calls::nalgebra_sparse_matrix_free(self.handle.get()) }
     }
 }
 

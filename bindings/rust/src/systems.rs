@@ -4,12 +4,13 @@ use crate::error::answer;
 use crate::room::{cut, into_values, with_room, zeros};
 use crate::{calls, Columns, Error};
 
-/// Which triangular system is solved.
+/// Which system of a triangle is solved: that of the triangle itself, or that of its transpose. The name of a call says
+/// which triangle.
 #[derive(Clone, Copy, Debug, PartialEq, Eq)]
 pub enum System {
-    /// `L X = B`.
-    Lower,
-    /// `L^T X = B`.
+    /// `L X = B`, or `U X = B`.
+    NotTransposed,
+    /// `L^T X = B`, or `U^T X = B`.
     Transposed,
 }
 

@@ -224,7 +224,7 @@ fn dense_products_quotients_and_solves_equal_plain_ones() {
         let b: Vec<i64> = (0..a.rows * cols).map(|_| random.value()).collect();
         let lower = kept(&a, |i, j| j <= i);
         let pivots = (0..a.rows).all(|k| a.at(k, k).is_some_and(|value| value % 2 != 0));
-        for (system, part) in [(System::Lower, lower.clone()), (System::Transposed, lower.transposed())] {
+        for (system, part) in [(System::NotTransposed, lower.clone()), (System::Transposed, lower.transposed())] {
             match solve_lower(columns.as_columns(), system, cols, &b) {
                 Ok(solution) => assert_eq!(times_dense(&part, cols, &solution), b),
                 Err(error) => assert!(error == Error::Singular && cols > 0 && !pivots),
@@ -298,10 +298,10 @@ fn each_fault_is_an_error() {
     assert_eq!(multiply_dense(out.transposed(), 1, &[1, 2]), Err(Error::IndexOutOfBounds));
     assert_eq!(divide(odd.transposed(), 2), Err(Error::Singular));
     assert_eq!(divide(out.transposed(), 3), Err(Error::IndexOutOfBounds));
-    assert_eq!(solve_lower(even, System::Lower, 1, &[1, 2]), Err(Error::Singular));
-    assert_eq!(solve_lower(out, System::Lower, 1, &[1, 2]), Err(Error::IndexOutOfBounds));
+    assert_eq!(solve_lower(even, System::NotTransposed, 1, &[1, 2]), Err(Error::Singular));
+    assert_eq!(solve_lower(out, System::NotTransposed, 1, &[1, 2]), Err(Error::IndexOutOfBounds));
     assert_eq!(solve_lower(odd, System::Transposed, 2, &[1, 2]), Err(Error::InvalidStructure));
-    assert_eq!(solve_lower(wide, System::Lower, 1, &[1, 2]), Err(Error::ShapeMismatch));
+    assert_eq!(solve_lower(wide, System::NotTransposed, 1, &[1, 2]), Err(Error::ShapeMismatch));
     assert_eq!(solve_symmetric(even, 1, &[1, 2]), Err(Error::Singular));
     assert_eq!(solve_symmetric(out, 1, &[1, 2]), Err(Error::IndexOutOfBounds));
     assert_eq!(solve_symmetric(odd, 2, &[1, 2]), Err(Error::InvalidStructure));

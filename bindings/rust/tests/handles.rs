@@ -58,6 +58,56 @@ fn refusals_are_errors() {
 }
 
 #[test]
+fn operators_are_the_methods() {
+    let mut random = Random(5);
+    for _ in 0..100 {
+        let (a, b) = (owned(&random.matrix(5)), owned(&random.matrix(5)));
+        let arrays = |of: &Matrix| of.to_arrays().unwrap();
+        assert_eq!(arrays(&(&a + &b)), arrays(&a.add(&b).unwrap()));
+        assert_eq!(arrays(&(&a - &b)), arrays(&a.subtract(&b).unwrap()));
+        assert_eq!(arrays(&(&a * &b)), arrays(&a.multiply(&b).unwrap()));
+        assert_eq!(arrays(&(&a * &a)), arrays(&a.multiply(&a).unwrap()));
+        assert_eq!(arrays(&-&a), arrays(&a.scale(-1).unwrap()));
+    }
+}
+
+#[test]
+#[should_panic(expected = "the shapes of the operands do not fit")]
+fn operators_panic_at_shapes_that_do_not_fit() {
+    let wide = Matrix::from_triplets((1, 2), &[0], &[1], &[5]).unwrap();
+    let _ = &wide * &wide;
+}
+
+/// A matrix and its factors are used by threads at once, without clones: also where both operands are the same one.
+#[test]
+fn threads_share_a_matrix_and_its_factors() {
+    fn is_shared<T: Send + Sync>(_: &T) {}
+    let mut random = Random(9);
+    let (a, b) = (owned(&random.matrix(40)), owned(&random.matrix(40)));
+    let (square, product) = (a.multiply(&a).unwrap().to_arrays().unwrap(), a.multiply(&b).unwrap().to_arrays().unwrap());
+    let factors = Matrix::from_triplets((2, 2), &[0, 0, 1], &[0, 1, 1], &[1, 2, 7]).unwrap().factor().unwrap();
+    is_shared(&a);
+    is_shared(&factors);
+    thread::scope(|scope| {
+        for k in 0..4 {
+            let (a, b, square, product, factors) = (&a, &b, &square, &product, &factors);
+            scope.spawn(move || {
+                for _ in 0..100 {
+                    assert_eq!((a * a).to_arrays().unwrap(), *square);
+                    // In either order, so that a thread that held one lock and waited for the other would stop.
+                    let (first, second) = if k % 2 == 0 { (a, b) } else { (b, a) };
+                    assert_eq!((first + second).to_arrays().unwrap(), (a + b).to_arrays().unwrap());
+                    assert_eq!((a * b).to_arrays().unwrap(), *product);
+                    let mut x = [3, 9];
+                    factors.solve_mut(1, &mut x).unwrap();
+                    assert_eq!(x, [1, 1]);
+                }
+            });
+        }
+    });
+}
+
+#[test]
 fn clones_go_to_other_threads() {
     let mut random = Random(7);
     let a = owned(&random.matrix(40));
@@ -106,13 +156,13 @@ fn solutions_solve() {
         let (a, l) = with_unit_diagonal(&mut random, size);
         let b: Vec<i64> = (0..2 * size).map(|_| i64::try_from(random.below(1 << 50)).unwrap() - (1 << 49)).collect();
         let turned = l.transpose().unwrap();
-        for (t, system) in [(&l, System::Lower), (&turned, System::Transposed)] {
+        for (t, system) in [(&l, System::NotTransposed), (&turned, System::Transposed)] {
             let mut x = b.clone();
             a.solve_lower_mut(system, 2, &mut x).unwrap();
             assert_eq!(times(t, &x), b);
         }
         let flipped = a.transpose().unwrap();
-        for (t, system) in [(&turned, System::Lower), (&l, System::Transposed)] {
+        for (t, system) in [(&turned, System::NotTransposed), (&l, System::Transposed)] {
             let mut x = b.clone();
             flipped.solve_upper_mut(system, 2, &mut x).unwrap();
             assert_eq!(times(t, &x), b);
@@ -135,11 +185,11 @@ fn systems_are_refused() {
     let wide = Matrix::from_triplets((1, 2), &[0], &[1], &[5]).unwrap();
     let even = Matrix::from_triplets((1, 1), &[0], &[0], &[2]).unwrap();
     let mut x = [7];
-    assert_eq!(wide.solve_lower_mut(System::Lower, 1, &mut x), Err(Error::ShapeMismatch));
-    assert_eq!(wide.solve_upper_mut(System::Lower, 1, &mut x), Err(Error::ShapeMismatch));
+    assert_eq!(wide.solve_lower_mut(System::NotTransposed, 1, &mut x), Err(Error::ShapeMismatch));
+    assert_eq!(wide.solve_upper_mut(System::NotTransposed, 1, &mut x), Err(Error::ShapeMismatch));
     assert_eq!(wide.factor().unwrap_err(), Error::ShapeMismatch);
-    assert_eq!(even.solve_lower_mut(System::Lower, 2, &mut x), Err(Error::InvalidStructure));
-    assert_eq!(even.solve_lower_mut(System::Lower, 1, &mut x), Err(Error::Singular));
+    assert_eq!(even.solve_lower_mut(System::NotTransposed, 2, &mut x), Err(Error::InvalidStructure));
+    assert_eq!(even.solve_lower_mut(System::NotTransposed, 1, &mut x), Err(Error::Singular));
     assert_eq!(even.solve_upper_mut(System::Transposed, 1, &mut x), Err(Error::Singular));
     assert_eq!(even.factor().unwrap_err(), Error::Singular);
     let upper = Matrix::from_triplets((2, 2), &[0, 0, 1], &[0, 1, 1], &[1, 2, 7]).unwrap();

@@ -122,9 +122,9 @@ fn quotients_and_solves_satisfy_their_equations() {
         let pivots = (0..n).all(|k| has_inverse(m, dense[k][k].into()));
         let lower = |i: usize, k: usize| if k <= i { dense[i][k] } else { 0 };
         let symmetric = |i: usize, k: usize| dense[i.min(k)][i.max(k)];
-        for system in [System::Lower, System::Transposed] {
+        for system in [System::NotTransposed, System::Transposed] {
             match solve_lower_mod(m, a, system, cols, &b) {
-                Ok(x) if system == System::Lower => assert!(are_reduced(m, &x) && solves(m, n, lower, &x, &b)),
+                Ok(x) if system == System::NotTransposed => assert!(are_reduced(m, &x) && solves(m, n, lower, &x, &b)),
                 Ok(x) => assert!(are_reduced(m, &x) && solves(m, n, |i, k| lower(k, i), &x, &b)),
                 Err(error) => assert!(error == Error::Singular && cols > 0 && !pivots),
             }
@@ -214,7 +214,7 @@ fn each_fault_is_an_error() {
     let (sound, out, wide) = (square(&[0, 1], &[5, 8]), square(&[0, 2], &[5, 8]), Columns { cols: 3, ..square(&[0, 1], &[5, 8]) });
     for m in [0, 1, 4, 65536, u64::MAX] {
         assert_eq!(divide_mod(m, sound.transposed(), 3), Err(Error::UnknownModulus));
-        assert_eq!(solve_lower_mod(m, sound, System::Lower, 1, &[1, 2]), Err(Error::UnknownModulus));
+        assert_eq!(solve_lower_mod(m, sound, System::NotTransposed, 1, &[1, 2]), Err(Error::UnknownModulus));
         assert_eq!(solve_symmetric_mod(m, sound, 1, &[1, 2]), Err(Error::UnknownModulus));
         assert_eq!(factor_symmetric_mod(m, sound), Err(Error::UnknownModulus));
     }
@@ -224,12 +224,12 @@ fn each_fault_is_an_error() {
     assert_eq!(factor_symmetric_mod(2, sound), Err(Error::Singular));
     assert_eq!(factor_symmetric(sound), Err(Error::Singular));
     assert_eq!(divide_mod(7, out.transposed(), 3), Err(Error::IndexOutOfBounds));
-    assert_eq!(solve_lower_mod(7, out, System::Lower, 1, &[1, 2]), Err(Error::IndexOutOfBounds));
+    assert_eq!(solve_lower_mod(7, out, System::NotTransposed, 1, &[1, 2]), Err(Error::IndexOutOfBounds));
     assert_eq!(solve_symmetric_mod(7, out, 1, &[1, 2]), Err(Error::IndexOutOfBounds));
     assert_eq!(factor_symmetric_mod(7, out), Err(Error::IndexOutOfBounds));
     assert_eq!(factor_symmetric(out), Err(Error::IndexOutOfBounds));
-    assert_eq!(solve_lower_mod(7, sound, System::Lower, 1, &[1]), Err(Error::InvalidStructure));
+    assert_eq!(solve_lower_mod(7, sound, System::NotTransposed, 1, &[1]), Err(Error::InvalidStructure));
     assert_eq!(solve_symmetric_mod(7, sound, 1, &[1]), Err(Error::InvalidStructure));
-    assert_eq!(solve_lower_mod(7, wide, System::Lower, 1, &[1, 2]), Err(Error::ShapeMismatch));
+    assert_eq!(solve_lower_mod(7, wide, System::NotTransposed, 1, &[1, 2]), Err(Error::ShapeMismatch));
     assert_eq!(factor_symmetric(wide), Err(Error::ShapeMismatch));
 }

@@ -125,7 +125,7 @@ fn each_ring_equals_plain_matrices() -> Result<(), Error> {
 #[test]
 fn a_solution_is_checked_in_its_ring() -> Result<(), Error> {
     let a = assemble_csc(2, 2, &[0, 1, 1], &[0, 0, 1], &[3, 1, -2])?;
-    let x = solve_lower_mod(101, a.as_columns(), System::Lower, 1, &[1, 5])?;
+    let x = solve_lower_mod(101, a.as_columns(), System::NotTransposed, 1, &[1, 5])?;
     let by_rows = assemble_csr(2, 2, &[0, 1, 1], &[0, 0, 1], &[3, 1, -2])?;
     assert_eq!(multiply_dense_mod(101, by_rows.as_rows(), 1, &x)?, [1, 5]);
     Ok(())
