@@ -5,11 +5,8 @@ use Rattle.sparse_parser.specs.Grammar.{AreLines}
 use Rattle.sparse_parser.specs.InnerReading.{words_of}
 use Rattle.sparse_parser.proofs.LineLaws.{some_lines}
 use Rattle.sparse_parser.proofs.WordLaws.{words_are}
-use Rattle.mtxkit_matrices.specs.declared.decimals.stage.Stage.{Stage}
-use Rattle.mtxkit_matrices.specs.InnerRewriting.{IsTextWritten}
-use Rattle.mtxkit_matrices.specs.ScaleFailures.{HasLine}
-use Rattle.mtxkit_matrices.specs.InnerLines.{IsCut, IsEnded, IsAfterLine, IsBelowLine}
-use Rattle.mtxkit_matrices.specs.Lines.{HasLineNumber}
+use Rattle.mtxkit_matrices.specs.InnerLines.{IsCut, IsEnded, AreAbove}
+use Rattle.mtxkit_matrices.specs.Lines.{HasLine}
 use Rattle.mtxkit_matrices.proofs.LineEnds.{cut_whole, cut_plain, cut_ends}
 use Rattle.mtxkit_matrices.proofs.LineEnds.{some_end, some_next}
 
@@ -33,59 +30,52 @@ module _ {rest line others : List ℕ} (c : IsCut rest line others) where
   AreLines-first_line next behind (inr (end, is, o)) h =
       (cut_plain c, inr (end, next, is, sym (cut_whole c) ∙ rw o refl, h))
 
+  -- the line above the text after its end
+  pub above_line : {text : List ℕ} {first : ℕ} {before : List (List ℕ)} {number : ℕ}
+      (next : List ℕ) → AreAbove text first before number rest → IsEnded others next
+      → AreAbove text first (before ++ (line ∷ [])) (number + 1) next
+  above_line {before = before} next a e = record {
+    counted =
+        let n = length-append before (line ∷ []) in
+        let m = a.counted in
+        omega arith;
+    read_is = λ behind h. rw append_assoc
+        (a.read_is (line ∷ behind) (AreLines-first_line next behind e h));
+  }
+
   -- the text has a line with this number
-  pub has_line : {scale : ℕ} {text : List ℕ} {stage : Stage} {number : ℕ} {old : List ℕ}
-      → (t : IsTextWritten scale text stage number rest old) → (n : ℕ) → n ≡ number
-      → (P : List (List ℕ) → List (List ℕ) → Type 0) → P t.before (words_of line)
+  pub has_line : {text : List ℕ} {before : List (List ℕ)} {number : ℕ}
+      → (a : AreAbove text 1 before number rest) → (n : ℕ) → n ≡ number
+      → (P : List (List ℕ) → List (List ℕ) → Type 0) → P before (words_of line)
       → HasLine text n P
-  has_line t n e P h =
+  has_line {before = before} a n e P h =
       let next = some_next others (cut_ends c) in
       let lines = some_lines next.0 in (
         line,
         words_of line,
         record {
-          before = t.before;
+          before = before;
           behind = lines.0;
-          lines = t.read_is (line ∷ lines.0) (AreLines-first_line next.0 lines.0 next.1 lines.1);
-          counted = e ∙ t.counted;
+          lines = a.read_is (line ∷ lines.0) (AreLines-first_line next.0 lines.0 next.1 lines.1);
+          counted = let m = a.counted in omega arith;
         },
         words_are line,
         h,
       )
 
--- ---- line numbers
+-- ---- the lines above a text
 
-pub first_line : (text next : List ℕ) → IsAfterLine text next → IsBelowLine text next 1
-first_line text next a = record {
-  before = [];
-  line = a.line;
-  counted = refl;
-  read_is = λ behind h. AreLines-first_line a.cut next behind a.ended h;
-}
+pub above_none : (text : List ℕ) (first : ℕ) → AreAbove text first [] first text
+above_none text first = record { counted = omega arith; read_is = λ behind h. h }
 
-pub next_line : {text rest : List ℕ} {number : ℕ} (next : List ℕ) → IsBelowLine text rest number
-    → IsAfterLine rest next → IsBelowLine text next (number + 1)
-next_line next b a = record {
-  before = b.before ++ (b.line ∷ []);
-  line = a.line;
+pub above_both : {text middle rest : List ℕ} {first number last : ℕ} {before more : List (List ℕ)}
+    → AreAbove text first before number middle → AreAbove middle number more last rest
+    → AreAbove text first (before ++ more) last rest
+above_both {before = before} {more = more} a b = record {
   counted =
-      let n = length-append b.before (b.line ∷ []) in
-      let m = b.counted in
+      let n = length-append before more in
+      let m = a.counted in
+      let k = b.counted in
       omega arith;
-  read_is = λ behind h. rw append_assoc
-      (b.read_is (a.line ∷ behind) (AreLines-first_line a.cut next behind a.ended h));
+  read_is = λ behind h. rw append_assoc (a.read_is (more ++ behind) (b.read_is behind h));
 }
-
-pub numbered : {text rest : List ℕ} {number : ℕ} → IsBelowLine text rest number
-    → HasLineNumber text number
-numbered {rest = rest} b =
-    let lines = some_lines rest in
-    inr (
-      b.line,
-      record {
-        before = b.before;
-        behind = lines.0;
-        lines = b.read_is lines.0 lines.1;
-        counted = b.counted;
-      },
-    )

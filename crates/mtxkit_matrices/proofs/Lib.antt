@@ -13,12 +13,12 @@ mod DecimalValues
 mod Magnitudes
 mod TrimmedDigits
 -- decimals: lines and texts
-mod CopiedLines
-mod CountedLines
+pub mod CopiedLines
+pub mod CountedLines
 mod HeaderLines
-mod KeptLines
-mod LineEnds
-mod LineLists
+pub mod KeptLines
+pub mod LineEnds
+pub mod LineLists
 mod Rewriting
-mod ScaleRefusals
+pub mod ScaleRefusals
 mod WrittenLines

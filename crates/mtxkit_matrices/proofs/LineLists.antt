@@ -1,15 +1,16 @@
 -- Lists of lines that grow by one line.
-use Rattle.std.proofs.Common.{◌≡◌, ℕ, Bool, true, List, [], ◌∷◌, ◌++◌, Some, refl, inl, inr}
-use Rattle.std.proofs.Common.{append-nil}
+use Rattle.std.proofs.Common.{◌≡◌, ℕ, Bool, true, List, [], ◌∷◌, ◌++◌, map, Some, refl, ap, ◌∙◌}
+use Rattle.std.proofs.Common.{inl, inr, append-nil}
 use Rattle.std.specs.Prelude.{filter}
 use Rattle.std.specs.List.{list_all}
+use Rattle.std.proofs.lemmas.List.{map-append}
 use Rattle.std.proofs.lemmas.List.Elements.{filter-append}
 use Rattle.std.proofs.lemmas.List.Folds.{list_all-append}
 use Rattle.sparse_parser.specs.declared.header.Header.{Header}
 use Rattle.sparse_parser.specs.declared.header.Format.{Format}
 use Rattle.sparse_parser.specs.Header.{header_of}
 use Rattle.sparse_parser.specs.Grammar.{is_size, is_entry}
-use Rattle.sparse_parser.specs.InnerReading.{is_content, words_of}
+use Rattle.sparse_parser.specs.InnerReading.{is_content, is_some_line, words_of, written_lines}
 use Rattle.sparse_parser.proofs.LineLaws.{add}
 use Rattle.sparse_parser.proofs.LineShapes.{entry_nil}
 use Rattle.mtxkit_matrices.specs.ScaledTexts.{IsScaledEntry, AreScaled}
@@ -27,6 +28,17 @@ add-ones line lines = by (words_of line) refl
     by : (ws : List (List ℕ)) → words_of line ≡ ws → add line lines ≡ ones (words_of line) ++ lines
     by [] e = rw e refl
     by (word ∷ words) e = rw e refl
+
+-- the words of the lines, after one more line
+pub lines_more : (lines : List (List ℕ)) (line : List ℕ)
+    → written_lines (lines ++ (line ∷ [])) ≡ written_lines lines ++ ones (words_of line)
+lines_more lines line = ap (filter is_some_line) (map-append words_of lines (line ∷ []))
+    ∙ filter-append is_some_line (map words_of lines) (words_of line ∷ [])
+    ∙ ap (λ (x : List (List (List ℕ))). written_lines lines ++ x) (one (words_of line))
+  where
+    one : (words : List (List ℕ)) → filter is_some_line (words ∷ []) ≡ ones words
+    one [] = refl
+    one (word ∷ words) = refl
 
 pub ones-some : (words : List (List ℕ)) → ¬ (words ≡ []) → ones words ≡ words ∷ []
 ones-some [] n = absurd (n refl)

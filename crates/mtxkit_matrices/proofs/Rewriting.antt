@@ -1,12 +1,10 @@
 -- A text is written again line by line.
-use Rattle.std.proofs.Common.{◌≡◌, ℕ, ◌+◌, List, [], ◌∷◌, ◌++◌, length, map, refl, sym, ap, subst}
-use Rattle.std.proofs.Common.{◌∙◌, arith, inl, inr, append_assoc, append-nil, length-append}
-use Rattle.std.specs.Prelude.{filter}
-use Rattle.std.proofs.lemmas.List.{nil_from_length, map-append}
-use Rattle.std.proofs.lemmas.List.Elements.{filter-append}
+use Rattle.std.proofs.Common.{◌≡◌, ℕ, ◌+◌, List, [], ◌∷◌, ◌++◌, length, refl, sym, ap, subst}
+use Rattle.std.proofs.Common.{◌∙◌, inl, inr, append_assoc, append-nil}
+use Rattle.std.proofs.lemmas.List.{nil_from_length}
 use Rattle.sparse_parser.specs.declared.header.Header.{Header}
 use Rattle.sparse_parser.specs.Grammar.{AreLines, is_entry}
-use Rattle.sparse_parser.specs.InnerReading.{is_some_line, words_of, written_lines, written_of}
+use Rattle.sparse_parser.specs.InnerReading.{words_of, written_lines, written_of}
 use Rattle.sparse_parser.proofs.ContentLaws.{lines_headed}
 use Rattle.sparse_parser.proofs.LineLaws.{lines_only}
 use Rattle.mtxkit_matrices.specs.declared.decimals.stage.Stage.{Stage}
@@ -15,9 +13,9 @@ use Rattle.mtxkit_matrices.specs.ScaledTexts.{IsScaledText, with_integers}
 use Rattle.mtxkit_matrices.specs.InnerLines.{IsCut, IsEnded}
 use Rattle.mtxkit_matrices.specs.InnerRewriting.{IsStep, AreBelow}
 use Rattle.mtxkit_matrices.specs.InnerRewriting.{AreRewritten, IsLineWritten, IsTextWritten}
-use Rattle.mtxkit_matrices.proofs.CountedLines.{AreLines-first_line}
+use Rattle.mtxkit_matrices.proofs.CountedLines.{above_none, above_line}
 use Rattle.mtxkit_matrices.proofs.KeptLines.{kept_more}
-use Rattle.mtxkit_matrices.proofs.LineLists.{ones, ones-some, nothing-more, one-more}
+use Rattle.mtxkit_matrices.proofs.LineLists.{ones, ones-some, lines_more, nothing-more, one-more}
 use Rattle.mtxkit_matrices.proofs.LineLists.{all_more, scaled_more, some_header, some_size, some_entry}
 
 -- ---- after one more line
@@ -117,24 +115,12 @@ module _ (scale : ℕ) (next : Stage) (read wrote : List (List (List ℕ)))
 
 -- ---- the text
 
--- the words of the lines, after one more line
-lines_more : (lines : List (List ℕ)) (line : List ℕ)
-    → written_lines (lines ++ (line ∷ [])) ≡ written_lines lines ++ ones (words_of line)
-lines_more lines line = ap (filter is_some_line) (map-append words_of lines (line ∷ []))
-    ∙ filter-append is_some_line (map words_of lines) (words_of line ∷ [])
-    ∙ ap (λ (x : List (List (List ℕ))). written_lines lines ++ x) (one (words_of line))
-  where
-    one : (words : List (List ℕ)) → filter is_some_line (words ∷ []) ≡ ones words
-    one [] = refl
-    one (word ∷ words) = refl
-
 module _ (scale : ℕ) (text : List ℕ) where
   pub text_begins : IsTextWritten scale text Head 1 text []
   text_begins = record {
     before = [];
     wrote = [];
-    counted = refl;
-    read_is = λ behind h. h;
+    above = above_none text 1;
     wrote_is = λ more behind h. h;
     are = (refl, refl);
     kept = (refl, tt);
@@ -147,12 +133,7 @@ module _ (scale : ℕ) (text : List ℕ) where
   text_more {stage} {next} {number} {rest} {line} {others} {rest'} {old} {new} t c e w = record {
     before = t.before ++ (line ∷ []);
     wrote = t.wrote ++ (w.written ∷ []);
-    counted =
-        let n = length-append t.before (line ∷ []) in
-        let m = t.counted in
-        omega arith;
-    read_is = λ behind h. rw append_assoc
-        (t.read_is (line ∷ behind) (AreLines-first_line c rest' behind e h));
+    above = above_line c rest' t.above e;
     wrote_is = λ more behind h. rw (append_assoc t.wrote (w.written ∷ []) behind)
         (subst (λ (x : List ℕ). AreLines x (t.wrote ++ (w.written ∷ behind)))
         (sym (whole more)) (t.wrote_is (w.written ++ (10 ∷ more)) (w.written ∷ behind)
@@ -180,7 +161,7 @@ module _ {scale : ℕ} {text : List ℕ} {stage : Stage} {number : ℕ} {rest wr
     (t : IsTextWritten scale text stage number rest written) (empty : length rest ≡ 0) where
   pub lines_read : AreLines text t.before
   lines_read = subst (AreLines text) (append-nil t.before)
-      (t.read_is [] (nil_from_length rest empty))
+      (t.above.read_is [] (nil_from_length rest empty))
 
   lines_wrote : AreLines written t.wrote
   lines_wrote = subst (λ (x : List ℕ). AreLines x t.wrote) (append-nil written)

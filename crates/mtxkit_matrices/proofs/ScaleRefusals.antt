@@ -14,7 +14,8 @@ use Rattle.mtxkit_matrices.specs.declared.decimals.error.ScaleError.{ScaleError}
 use Rattle.mtxkit_matrices.specs.declared.decimals.error.ScaleError.TheVariants as errors
 use Rattle.mtxkit_matrices.specs.declared.decimals.stage.Stage.{Stage}
 use Rattle.mtxkit_matrices.specs.declared.decimals.stage.Stage.TheVariants.{Head, Sizes, Entries}
-use Rattle.mtxkit_matrices.specs.ScaleFailures.{IsContent, AreBelowHeader, AreBelowSizes}
+use Rattle.mtxkit_matrices.specs.Lines.{IsContent}
+use Rattle.mtxkit_matrices.specs.ScaleFailures.{AreBelowHeader, AreBelowSizes}
 use Rattle.mtxkit_matrices.specs.ScaleFailures.{is_decimal_entry, EndsEarly, IsScaleFailure}
 use Rattle.mtxkit_matrices.specs.InnerRewriting.{AreBelow, AreRewritten, IsTextWritten}
 use Rattle.mtxkit_matrices.specs.InnerScaleFailures.{IsValueFailure, IsHeadFailure, IsSizesFailure}
@@ -93,7 +94,7 @@ module _ (scale : ℕ) (lines : List (List ℕ)) (wrote : List (List (List ℕ))
     values = es.values;
   }
 
-content_words : (words : List (List ℕ)) → AreContent words → IsContent words
+pub content_words : (words : List (List ℕ)) → AreContent words → IsContent words
 unfolding is_content
 content_words [] a = a.some refl
 content_words (word ∷ words) a = eqb-false _ _ (not-true (eqb (get_or word 0 0) 37) a.content)
@@ -104,8 +105,8 @@ module _ {rest line others : List ℕ} (c : IsCut rest line others) where
   module _ {scale : ℕ} {text : List ℕ} {number : ℕ} {old : List ℕ} where
     head_failed : (t : IsTextWritten scale text Head number rest old) (e : ScaleError)
         → IsHeadFailure number (words_of line) e → IsScaleFailure scale text e
-    head_failed t (errors.Header n fault) h = has_line c t n h.0 _ (t.kept.1, h.1)
-    head_failed t (errors.Field n) h = has_line c t n h.0 _ (t.kept.1, h.1)
+    head_failed t (errors.Header n fault) h = has_line c t.above n h.0 _ (t.kept.1, h.1)
+    head_failed t (errors.Field n) h = has_line c t.above n h.0 _ (t.kept.1, h.1)
     head_failed t (errors.Sizes n fault) h = absurd h
     head_failed t (errors.Entry n) h = absurd h
     head_failed t (errors.Fraction n) h = absurd h
@@ -116,7 +117,7 @@ module _ {rest line others : List ℕ} (c : IsCut rest line others) where
     sizes_failed : (header : Header) (t : IsTextWritten scale text (Sizes header) number rest old)
         (e : ScaleError) → AreContent (words_of line)
         → IsSizesFailure header number (words_of line) e → IsScaleFailure scale text e
-    sizes_failed header t (errors.Sizes n fault) a h = has_line c t n h.0 _
+    sizes_failed header t (errors.Sizes n fault) a h = has_line c t.above n h.0 _
         (header, above_sizes scale t.before _ header t.are, content_words _ a, h.1)
     sizes_failed header t (errors.Header n fault) a h = absurd h
     sizes_failed header t (errors.Field n) a h = absurd h
@@ -130,11 +131,11 @@ module _ {rest line others : List ℕ} (c : IsCut rest line others) where
         (e : ScaleError) → AreContent (words_of line)
         → IsEntryFailure scale header.format number (words_of line) e
         → IsScaleFailure scale text e
-    entry_failed header t (errors.Entry n) a h = has_line c t n h.0 _
+    entry_failed header t (errors.Entry n) a h = has_line c t.above n h.0 _
         (header, above_entries scale t.before _ header t.are, content_words _ a, h.1)
-    entry_failed header t (errors.Fraction n) a h = has_line c t n h.0 _
+    entry_failed header t (errors.Fraction n) a h = has_line c t.above n h.0 _
         (header, above_entries scale t.before _ header t.are, content_words _ a, h.1)
-    entry_failed header t (errors.Range n) a h = has_line c t n h.0 _
+    entry_failed header t (errors.Range n) a h = has_line c t.above n h.0 _
         (header, above_entries scale t.before _ header t.are, content_words _ a, h.1)
     entry_failed header t (errors.Header n fault) a h = absurd h
     entry_failed header t (errors.Field n) a h = absurd h

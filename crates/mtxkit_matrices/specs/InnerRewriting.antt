@@ -1,5 +1,5 @@
 -- A text that is written again line by line: what holds after some of its lines.
-use Rattle.std.specs.Prelude.{◌≡◌, ◌⊎◌, ℕ, ℤ, ◌+◌, true, false, List, [], ◌∷◌, ◌++◌, length}
+use Rattle.std.specs.Prelude.{◌≡◌, ◌⊎◌, ℕ, ℤ, true, false, List, [], ◌∷◌, ◌++◌}
 use Rattle.std.specs.Prelude.{Some, filter}
 use Rattle.std.specs.Fmt.{signed_decimal}
 use Rattle.std.specs.Int.{w128}
@@ -14,6 +14,7 @@ use Rattle.sparse_parser.specs.Grammar.{IsOneLine, AreLines, AreBlanks}
 use Rattle.sparse_parser.specs.Grammar.{is_index, is_number, is_size, is_entry}
 use Rattle.sparse_parser.specs.InnerReading.{is_content, words_of, written_lines}
 use Rattle.mtxkit_matrices.specs.Decimals.{IsScaled}
+use Rattle.mtxkit_matrices.specs.InnerLines.{AreAbove}
 use Rattle.mtxkit_matrices.specs.ScaledTexts.{IsScaledEntry, AreScaled, is_decimal, with_integers}
 use Rattle.mtxkit_matrices.specs.ScaledTexts.{IsSized, AreKeptBelowHeader}
 use Rattle.mtxkit_matrices.specs.declared.decimals.stage.Stage.{Stage}
@@ -141,8 +142,7 @@ pub record IsTextWritten (scale : ℕ) (text : List ℕ) (stage : Stage) (number
     (rest written : List ℕ) : Type 0 where
   pub before : List (List ℕ)
   pub wrote : List (List ℕ)
-  pub counted : number ≡ length before + 1
-  pub read_is : (behind : List (List ℕ)) → AreLines rest behind → AreLines text (before ++ behind)
+  pub above : AreAbove text 1 before number rest
   pub wrote_is : (more : List ℕ) (behind : List (List ℕ)) → AreLines more behind
       → AreLines (written ++ more) (wrote ++ behind)
   pub are : AreRewritten scale stage (written_lines before) (written_lines wrote)

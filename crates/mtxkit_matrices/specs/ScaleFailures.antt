@@ -1,12 +1,11 @@
 -- Why the numbers of a text are not scaled.
 use Rattle.std.specs.Prelude.{◌≡◌, ◌≢◌, ◌⊎◌, ℕ, Bool, true, false, ◌&&◌, List, [], ◌∷◌, ◌++◌}
-use Rattle.std.specs.Prelude.{slice_index, Some, None}
-use Rattle.std.specs.List.{AllByRecursion}
+use Rattle.std.specs.Prelude.{Some, None}
 use Rattle.sparse_parser.specs.declared.header.Format.{Format}
 use Rattle.sparse_parser.specs.declared.header.Format.TheVariants.{Coordinate, Array}
 use Rattle.sparse_parser.specs.declared.header.Header.{Header}
 use Rattle.sparse_parser.specs.Header.{header_of, is_allowed}
-use Rattle.sparse_parser.specs.Grammar.{AreLines, AreWords, AreBlanks, AreHeaded}
+use Rattle.sparse_parser.specs.Grammar.{AreLines, AreHeaded}
 use Rattle.sparse_parser.specs.Grammar.{is_index, is_number, is_size}
 use Rattle.mtxkit_matrices.specs.declared.decimals.error.ScaleError.{ScaleError}
 use Rattle.mtxkit_matrices.specs.declared.decimals.error.ScaleError.TheVariants as errors
@@ -16,25 +15,10 @@ use Rattle.mtxkit_matrices.specs.declared.line_faults.LineFault.{LineFault}
 use Rattle.mtxkit_matrices.specs.declared.line_faults.LineFault.TheVariants as faults
 use Rattle.mtxkit_matrices.specs.Decimals.{IsMisfit}
 use Rattle.mtxkit_matrices.specs.LineFaults.{IsSizesFault}
-use Rattle.mtxkit_matrices.specs.Lines.{IsLineOf}
+use Rattle.mtxkit_matrices.specs.Lines.{HasLine, IsContent, AreBlankLines}
 use Rattle.mtxkit_matrices.specs.ScaledTexts.{is_decimal, IsSized, AreScaled}
 
--- ---- lines
-
--- the text has a line with this number, and `AreSuch` holds of the lines above it and of its words
-abbrev pub HasLine : List ℕ → ℕ → (List (List ℕ) → List (List ℕ) → Type 0) → Type 0
-HasLine text number AreSuch = (line : List ℕ) × (words : List (List ℕ))
-    × (l : IsLineOf text number line) × AreWords line words × AreSuch l.before words
-
--- the words are those of a line that is neither blank nor a comment
-abbrev pub IsContent : List (List ℕ) → Type 0
-IsContent [] = ⊥
-IsContent (word ∷ words) = slice_index word 0 ≢ 37
-
 -- ---- the lines above one
-
-abbrev pub AreBlankLines : List (List ℕ) → Type 0
-AreBlankLines lines = AllByRecursion AreBlanks lines
 
 -- the lines have this header, which is that of a matrix of decimal numbers, and these contents below
 -- it

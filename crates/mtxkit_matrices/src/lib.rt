@@ -17,7 +17,7 @@ pub use facts::{
     push_count, push_facts, push_line,
 };
 pub use line_faults::LineFault;
-pub use lines::line_number;
+pub use lines::{after_end, is_comment};
 pub use pictures::{Picture, bitmap_text, block_text, draw, scaled_sizes};
 pub use systems::{SystemError, is_solution, solve, solve_listed};
 pub use triangle::lower_of;

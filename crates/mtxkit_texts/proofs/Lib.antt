@@ -4,7 +4,18 @@ mod HighSums
 mod ListedEntries
 pub mod Revalued
 mod SumRoom
+mod TextFaults
 mod UnsupportedTexts
 mod WideLists
 mod EntryLines
 mod ShapeParts
+mod ArrayPlaces
+mod DocumentSizes
+mod EntryFaults
+mod FirstFault
+mod LineTriplets
+mod LineWords
+mod PassedLines
+mod SearchedLines
+mod SizedLines
+mod SkippedLines

@@ -32,7 +32,8 @@ use Rattle.mtxkit_texts.specs.declared.failure.Failure.TheVariants.{NotSupported
 module _ (text : List ℕ) (n : ℕ) where
   by_field : (h : Header) (f : Field) → header_in text ≡ Some h → h.field ≡ f
       → Means (scalar_read (is_pattern_field f)) text (Err kinds.TypeMismatch)
-      → IsMismatch (is_supported_field f) 1 text (NotSupported n) → IsUnsupported text
+      → IsMismatch (scalar_read (is_pattern_field f)) (is_supported_field f) 1 text
+      (NotSupported n) → IsUnsupported text
   by_field h Real e f m is =
       record { field = ap is_supported e ∙ ap is_supported_field f; means = m }
   by_field h Complex e f m is =
@@ -42,13 +43,15 @@ module _ (text : List ℕ) (n : ℕ) where
 
   by_header : (h : Option Header) → header_in text ≡ h
       → Means (scalar_read (is_pattern h)) text (Err kinds.TypeMismatch)
-      → IsMismatch (is_supported h) 1 text (NotSupported n) → IsUnsupported text
+      → IsMismatch (scalar_read (is_pattern h)) (is_supported h) 1 text (NotSupported n)
+      → IsUnsupported text
   by_header None e m (location, q) = absurd (let e = q.1 in cc)
   by_header (Some h) e m is = by_field h h.field e refl m is
 
   misread : (fault : MatrixMarketErrorKind)
       → Means (scalar_read (is_pattern (header_in text))) text (Err fault)
-      → IsTextFault 1 text fault (NotSupported n) → IsUnsupported text
+      → IsTextFault (scalar_read (is_pattern (header_in text))) 1 text fault (NotSupported n)
+      → IsUnsupported text
   misread kinds.ParsingError m (location, q) = absurd (let e = q.1 in cc)
   misread kinds.InvalidHeader m (location, q) = absurd (let e = q.1 in cc)
   misread kinds.EntryMismatch m (location, q) = absurd (let e = q.1 in cc)

@@ -132,7 +132,7 @@ scalar_read false = signed_scalar w128
 pub record IsRefused (S : Scalar) (number : ℕ) (text : List ℕ) (failure : Failure) : Type 0 where
   pub fault : MatrixMarketErrorKind
   pub means : Means S text (Err fault)
-  pub is : IsTextFault number text fault failure
+  pub is : IsTextFault S number text fault failure
 
 -- the same, read with values of the field that its header names
 abbrev pub IsMisread : ℕ → List ℕ → Failure → Type 0

@@ -2,6 +2,7 @@
 //! writes it again; and the progress of reading large files.
 #![tactic(auto)]
 
+mod counted_lines;
 mod exact;
 mod fact_lines;
 mod failure;

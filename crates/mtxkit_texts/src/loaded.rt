@@ -1,12 +1,14 @@
 //! Reads matrices from texts.
 
-ghost use Rattle.std.specs.Prelude.{◌≡◌, ◌⊎◌, Ok, IfOk, IfErr, length};
+ghost use Rattle.std.specs.Prelude.{◌≡◌, ◌⊎◌, Ok, Err, IfOk, IfErr, length};
 ghost use Rattle.sparse_compressed.specs.Compressed.{IsSound};
 ghost use Rattle.sparse_market_scalar.specs.ScalarTypes.{pattern_scalar, signed_scalar};
+ghost use Rattle.sparse_parser.specs.declared.error.MatrixMarketErrorKind.TheVariants as kinds;
 ghost use Rattle.sparse_parser.specs.Meaning.{Means};
 ghost use Rattle.std.specs.Int.{w128};
-ghost use Rattle.mtxkit_texts.specs.Faults.{IsTextFault};
+ghost use Rattle.mtxkit_texts.specs.Faults.{IsMismatch, IsTextFault};
 ghost use Rattle.mtxkit_texts.specs.Headers.{header_in, is_supported, is_supported_field};
+ghost use Rattle.mtxkit_texts.specs.InnerFirstFaults.{HasError, scalar_as};
 ghost use Rattle.mtxkit_texts.specs.Headers.{is_pattern, is_pattern_field};
 ghost use Rattle.mtxkit_texts.specs.Loaded.{MeansMatrix, MeansOnes, MeansSums, MeansIntegers};
 ghost use Rattle.mtxkit_texts.specs.Loaded.{IsRefused, IsLoadFailure, ring128, value128};
@@ -139,14 +141,29 @@ pub fn read_integers(alloc: Global, number: usize, text: &str) -> Result<CooMatr
     }
 }
 
-// Returns the failure for a text that has an error of this kind, read as integers or else as the field of its header.
+// Returns the failure for a text that has an error of this kind, read as integers or else as a pattern.
 fn unread(number: usize, kind: MatrixMarketErrorKind, text: &str, as_integers: bool) -> Failure
-    ensures { IsTextFault number text.now kind result }
+    requires { (kind ≡ kinds.OutOfMemory) ⊎ Means (scalar_as as_integers) text.now (Err kind) }
+    ensures { IsTextFault (scalar_as as_integers) number text.now kind result }
 {
     match kind {
         MatrixMarketErrorKind::OutOfMemory => Failure::OutOfMemory,
-        MatrixMarketErrorKind::TypeMismatch if !is_supported(text) => Failure::NotSupported(number),
+        MatrixMarketErrorKind::TypeMismatch => mismatch(number, text, as_integers),
         kind => Failure::Input(number, kind, location_of(text, as_integers)),
+    }
+}
+
+// Returns the failure for a text with a value of another type than the one that is read.
+fn mismatch(number: usize, text: &str, as_integers: bool) -> Failure
+    requires { HasError (scalar_as as_integers) text.now }
+    ensures { IsMismatch (scalar_as as_integers) (is_supported (header_in text.now)) number
+        text.now result }
+{
+    if is_supported(text) {
+        let location = location_of(text, as_integers);
+        Failure::Input(number, MatrixMarketErrorKind::TypeMismatch, location)
+    } else {
+        Failure::NotSupported(number)
     }
 }
 

@@ -1,18 +1,18 @@
-//! Finds the first line of a text that has a fault, for the message about a text that was refused. It is proved that it
-//! is a line of the text; that it is the first with a fault is tested.
+//! Finds the first line of a text that has a fault, for the message about a text that was refused.
 
-ghost use Rattle.std.specs.Prelude.{◌<◌, IfSome, length};
-ghost use Rattle.sparse_parser.specs.InnerBytes.{BeginsLine};
-ghost use Rattle.sparse_parser.specs.InnerLines.{AreNumbers};
-ghost use Rattle.mtxkit_matrices.specs.Lines.{HasLineNumber};
+ghost use Rattle.std.specs.Prelude.{◌≡◌, ◌+◌, ◌<◌, ◌^◌, ℕ, List, true, IfOk, IfErr, length};
+ghost use Rattle.std.specs.Prelude.{if◌then◌else◌, Ok};
+ghost use Rattle.sparse_parser.specs.Header.{is_allowed};
+ghost use Rattle.mtxkit_texts.specs.declared.line_faults.Search.TheVariants.{Grammar};
+ghost use Rattle.mtxkit_texts.specs.FirstFaults.{IsFirstFault, IsGrammarFault};
+ghost use Rattle.mtxkit_texts.specs.InnerFirstFaults.{AllPass, AreSizes, HasError, IsAllowed};
+ghost use Rattle.mtxkit_texts.specs.InnerFirstFaults.{IsFailing, IsHead, scalar_as};
 
-use crate::line_faults::{array_fault, bounds_fault, coordinate_fault};
-use mtxkit_matrices::{LineFault, line_number};
-use sparse_io::count_entries;
-use sparse_parser::data_lines::{Line, data_line};
+use crate::counted_lines::{first_content, last_line};
+use crate::line_faults::{Search, line_fault};
+use mtxkit_matrices::LineFault;
 use sparse_parser::error::Cause;
-use sparse_parser::header::{Format, Header};
-use sparse_parser::lines::{after_space, next_line, split_line};
+use sparse_parser::header::Header;
 use sparse_parser::size::Size;
 
 /// A line of a text and its fault.
@@ -24,119 +24,180 @@ pub struct Location {
     pub fault: LineFault,
 }
 
-// The faults that data lines are searched for.
+// The header of a text, the number of its line, and the text below it.
 #[derive(Clone, Copy)]
-enum Search {
-    // Lines that are not data lines.
-    Grammar,
-    // Faults of entries below this header, whatever the sizes are. If the flag is set, an entry of a pattern has one,
-    // since it has no value.
-    Entries(Header, bool),
-    // Rows and columns that exceed these sizes.
-    Bounds(Size),
-}
-
-/// Returns the first line with a fault of a text that has an error, read as integers or else as the field of its
-/// header. The text is read again, up to three times.
-pub(crate) fn location_of(text: &str, as_integers: bool) -> Location
-    ensures { HasLineNumber text.now result.line }
-{
-    let text = text.as_bytes();
-    let (fault, rest) = fault_of(text, as_integers);
-    Location {
-        line: line_number(text, text.len().saturating_sub(rest.len())),
-        fault,
-    }
-}
-
-// Returns the fault of a text, and the text from the line with the fault on.
-fn fault_of(text: &[u8], as_integers: bool) -> (LineFault, &[u8]) {
-    let start = after_space(text);
-    let (line, below) = split_line(start);
-    let Some(header) = Header::from_line(line) else {
-        return (LineFault::Header, start);
-    };
-    let sizes = next_line(below);
-    let (line, entries) = split_line(sizes);
-    match Size::from_line(header, line) {
-        None => (LineFault::Size, sizes),
-        Some(Err(cause)) => first_fault(Search::Grammar, entries).unwrap_or(size_fault(
-            cause, start, sizes,
-        )),
-        Some(Ok(size)) => fault_below(header, size, sizes, entries, as_integers),
-    }
-}
-
-// Returns the fault of the header or the size line that causes this error, and the text from this line on.
-fn size_fault<'a>(cause: Cause, start: &'a [u8], sizes: &'a [u8]) -> (LineFault, &'a [u8]) {
-    match LineFault::of_size(cause) {
-        LineFault::Hermitian => (LineFault::Hermitian, start),
-        LineFault::Pattern => (LineFault::Pattern, start),
-        fault => (fault, sizes),
-    }
-}
-
-// Returns the fault below the size line, and the text from the line with the fault on.
-fn fault_below<'a>(
+pub(crate) struct Head<'a> {
     header: Header,
-    size: Size,
-    sizes: &'a [u8],
-    entries: &'a [u8],
-    as_integers: bool,
-) -> (LineFault, &'a [u8]) {
-    if let Some(found) = first_fault(Search::Grammar, entries) {
-        return found;
-    }
-    match (size.count, count_entries(entries)) {
-        (Some(wanted), Some(count)) if wanted != count => {
-            return (LineFault::Count(wanted, count), sizes);
-        }
-        (Some(_), _) => {}
-        (None, _) => return (LineFault::TooMany, sizes),
-    }
-    if let Some(found) = first_fault(Search::Entries(header, as_integers), entries) {
-        return found;
-    }
-    first_fault(Search::Bounds(size), entries).unwrap_or((LineFault::Value, entries))
+    number: usize,
+    below: &'a [u8],
 }
 
-// Returns the first fault of a data line, if there is one, and the text from this line on.
-fn first_fault(search: Search, text: &[u8]) -> Option<(LineFault, &[u8])> {
-    let mut rest = next_line(text);
-    while !rest.is_empty() {
-        let Some((line, after)) = entry(rest) else {
-            return Some((LineFault::Entry, rest));
-        };
-        if let Some(fault) = fault_in(search, line) {
-            return Some((fault, rest));
-        }
-        rest = after;
-    }
-    None
+// The header of a text and its sizes or their error, the numbers of both lines, and the text below.
+#[derive(Clone, Copy)]
+pub(crate) struct Sizes<'a> {
+    header: Header,
+    header_line: usize,
+    size: Result<Size, Cause>,
+    size_line: usize,
+    below: &'a [u8],
 }
 
-// Returns the fault of a data line, if it has one.
-fn fault_in(search: Search, line: Line<'_>) -> Option<LineFault>
-    requires { AreNumbers line }
+/// Returns the first line with a fault of a text that has an error, read as integers or else as a pattern. The text is
+/// read line by line, and the lines below its size line up to three times.
+pub(crate) fn location_of(text: &str, as_integers: bool) -> Location
+    ensures { HasError (scalar_as as_integers) text.now
+        → IsFirstFault (scalar_as as_integers) text.now result.line }
 {
-    match search {
-        Search::Grammar => None,
-        Search::Entries(header, as_integers) => match header.format {
-            Format::Coordinate => coordinate_fault(header, as_integers, line),
-            Format::Array => array_fault(header, line),
+    let sizes = match sizes_of(text.as_bytes()) {
+        Ok(sizes) => sizes,
+        Err(location) => return location,
+    };
+    let count = match first_fault(Search::Grammar, sizes.below, sizes.size_line + 1) {
+        Ok(count) => count,
+        Err(location) => return location,
+    };
+    match sizes.size {
+        Ok(size) => entries_fault(sizes, size, count, as_integers),
+        Err(cause) => sizes_fault(sizes, cause),
+    }
+}
+
+// Returns the header and the sizes of a text, or the line that is no header or no size line.
+fn sizes_of(text: &[u8]) -> Result<Sizes<'_>, Location>
+    ensures sizes { IfOk result (λ s. AreSizes text.now s.header s.header_line s.size s.size_line
+        s.below.now) }
+    ensures fault { IfErr result (λ location. IsGrammarFault text.now location.line) }
+{
+    let head = match head_of(text) {
+        Ok(head) => head,
+        Err(location) => return Err(location),
+    };
+    let found = match first_content(head.below, head.number + 1, true) {
+        Ok(found) => found,
+        Err(end) => return Err(Location {
+            line: last_line(end),
+            fault: LineFault::Size,
+        }),
+    };
+    match Size::from_line(head.header, found.line) {
+        Some(size) => Ok(Sizes {
+            header: head.header,
+            header_line: head.number,
+            size,
+            size_line: found.number,
+            below: found.below,
+        }),
+        None => Err(Location {
+            line: found.number,
+            fault: LineFault::Size,
+        }),
+    }
+}
+
+// Returns the header of a text, or the line that is none.
+fn head_of(text: &[u8]) -> Result<Head<'_>, Location>
+    ensures head { IfOk result (λ h. IsHead text.now h.header h.number h.below.now) }
+    ensures fault { IfErr result (λ location. IsGrammarFault text.now location.line) }
+{
+    let found = match first_content(text, 1, false) {
+        Ok(found) => found,
+        Err(end) => return Err(Location {
+            line: last_line(end),
+            fault: LineFault::Header,
+        }),
+    };
+    match Header::from_line(found.line) {
+        Some(header) => Ok(Head {
+            header,
+            number: found.number,
+            below: found.below,
+        }),
+        None => Err(Location {
+            line: found.number,
+            fault: LineFault::Header,
+        }),
+    }
+}
+
+// Returns the line that causes an error of the header or the size line.
+fn sizes_fault(sizes: Sizes<'_>, cause: Cause) -> Location
+    ensures { result.line ≡ (if is_allowed sizes.entry.header then sizes.entry.size_line
+        else sizes.entry.header_line) }
+{
+    let line = match sizes.header.fault() {
+        Some(_) => sizes.header_line,
+        None => sizes.size_line,
+    };
+    Location {
+        line,
+        fault: LineFault::of_size(cause),
+    }
+}
+
+// Returns the first fault of a text that has an error and matches the grammar, given its number of data lines.
+fn entries_fault(sizes: Sizes<'_>, size: Size, count: usize, as_integers: bool) -> Location
+    requires room { sizes.size_line + 1 + length sizes.below.now < 2 ^ 64 }
+    requires allowed { is_allowed sizes.header ≡ true }
+    ensures { (text : List ℕ)
+        → AreSizes text sizes.entry.header sizes.entry.header_line (Ok size) sizes.entry.size_line
+        sizes.entry.below.now → AllPass Grammar sizes.entry.below.now count
+        → HasError (scalar_as as_integers) text
+        → IsFirstFault (scalar_as as_integers) text result.line }
+{
+    let line = sizes.size_line;
+    match size.count {
+        Some(wanted) if wanted == count => {}
+        Some(wanted) => return Location {
+            line,
+            fault: LineFault::Count(wanted, count),
         },
-        Search::Bounds(size) => bounds_fault(size, line),
+        None => return Location {
+            line,
+            fault: LineFault::TooMany,
+        },
+    }
+    match first_fault(
+        Search::Entries(sizes.header, as_integers),
+        sizes.below,
+        line + 1,
+    ) {
+        Ok(_) => {}
+        Err(location) => return location,
+    }
+    match first_fault(Search::Bounds(size), sizes.below, line + 1) {
+        // The text has no error.
+        Ok(_) => Location {
+            line,
+            fault: LineFault::Value,
+        },
+        Err(location) => location,
     }
 }
 
-// Reads a data line. Returns its numbers and the text from the next line on, or `None` if it is not a data line.
-fn entry(text: &[u8]) -> Option<(Line<'_>, &[u8])>
-    requires begins { BeginsLine text.now }
-    requires some { 0 < length text.now }
-    ensures numbers { IfSome result (λ read. AreNumbers read.0) }
-    ensures next { IfSome result (λ read. BeginsLine read.1.now) }
-    ensures shorter { IfSome result (λ read. length read.1.now < length text.now) }
+// Returns the first line of a text below a size line in which the search finds a fault, or the number of data lines.
+// `first` is the number of the text's first line.
+fn first_fault(search: Search, text: &[u8], first: usize) -> Result<usize, Location>
+    requires room { first + length text.now < 2 ^ 64 }
+    requires allowed { IsAllowed search }
+    ensures passed { IfOk result (AllPass search text.now) }
+    ensures fault { IfErr result (λ location. IsFailing search text.now first location.line) }
 {
-    let (line, after) = data_line(text)?;
-    Some((line, next_line(after)))
+    let mut rest = text;
+    let mut number = first;
+    let mut count = 0;
+    loop {
+        let found = match first_content(rest, number, true) {
+            Ok(found) => found,
+            Err(_) => return Ok(count),
+        };
+        if let Some(fault) = line_fault(search, found.line) {
+            return Err(Location {
+                line: found.number,
+                fault,
+            });
+        }
+        rest = found.below;
+        number = found.number + 1;
+        count += 1;
+    }
 }

@@ -1,7 +1,6 @@
 //! Writes one line of a text. What a line is depends on the lines above it.
 
-ghost use Rattle.std.specs.Prelude.{◌≡◌, ◌≢◌, ◌++◌, ℕ, [], true, nat_eq, slice_index};
-ghost use Rattle.std.specs.Prelude.{MatchOption, IfOk, IfErr};
+ghost use Rattle.std.specs.Prelude.{◌≡◌, ◌≢◌, ◌++◌, ℕ, [], true, MatchOption, IfOk, IfErr};
 ghost use Rattle.sparse_parser.specs.declared.header.Symmetry.TheVariants.{Hermitian};
 ghost use Rattle.sparse_parser.specs.Grammar.{IsOneLine};
 ghost use Rattle.sparse_parser.specs.InnerReading.{is_content, words_of};
@@ -15,6 +14,7 @@ ghost use Rattle.mtxkit_matrices.specs.InnerScaleFailures.{IsHeadFailure};
 use crate::decimals::entry::push_entry;
 use crate::decimals::error::ScaleError;
 use crate::line_faults::LineFault;
+use crate::lines::is_comment;
 use sparse_parser::header::{Field, Format, Header, Symmetry};
 use sparse_parser::lines::next_word;
 use sparse_parser::size::Size;
@@ -69,16 +69,6 @@ pub(crate) fn push_bytes(
     match written.extend_from_slice(bytes) {
         Ok(()) => Ok(next),
         Err(_) => Err(ScaleError::OutOfMemory),
-    }
-}
-
-// Returns whether a word begins a comment.
-fn is_comment(word: &[u8]) -> bool
-    ensures { result ≡ nat_eq (slice_index word.now 0) 37 }
-{
-    match word {
-        [first, ..] => *first == b'%',
-        [] => false,
     }
 }
 
