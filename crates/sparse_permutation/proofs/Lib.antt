@@ -7,3 +7,4 @@ pub mod PermutedTriplets
 mod RenumberedLists
 mod PermutedEntries
 mod PermutedColumns
+mod DenseRows

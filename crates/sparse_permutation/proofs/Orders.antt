@@ -4,7 +4,7 @@ use Rattle.std.proofs.Common.{get_or, sym, ap, ◌∙◌, refl, arith}
 use Rattle.std.specs.Prelude.{nat_eq, if◌then◌else◌}
 use Rattle.std.proofs.lemmas.Bool.{cases_eq}
 use Rattle.std.proofs.lemmas.Bool.Decides.{Decides-eqb, nat_tests}
-use Rattle.std.proofs.lemmas.List.{get_or-map, length-append, length-map}
+use Rattle.std.proofs.lemmas.List.{get_or-map, get_or_default, length-append, length-map, same_lists}
 use Rattle.std.proofs.Math.ListN.{get_or-append}
 use Rattle.std.proofs.Math.Seq.{get_or-append_seam}
 use Rattle.sparse_algebra.specs.Plain.{below}
@@ -101,6 +101,24 @@ identity_order n k less =
       below = omega (arith, count, at);
       new = λ l before e. omega (arith, below_at n l (omega (arith, count)), at);
     }
+
+-- the inverse of the inverse, and that there is one inverse
+pub inverse_back : (p q : List ℕ) → IsInverse p q → IsInverse q p
+inverse_back p q inverse = record {
+  count = sym inverse.count;
+  left = λ i less. inverse.right i (omega (arith, inverse.count));
+  right = λ k less. inverse.left k (omega (arith, inverse.count));
+}
+
+pub one_inverse : (p q r : List ℕ) → IsOrder p → IsInverse p q → IsInverse p r → q ≡ r
+one_inverse p q r order first second =
+    same_lists q r (first.count ∙ sym second.count) (λ i z less.
+    let inside : i < length p = omega (arith, first.count) in
+    let at = order_occurs order i inside in
+    let here : get_or q i 0 ≡ at.0 = ap (λ x. get_or q x 0) (sym at.2) ∙ first.left at.0 at.1 in
+    let there : get_or r i 0 ≡ at.0 = ap (λ x. get_or r x 0) (sym at.2) ∙ second.left at.0 at.1 in
+    get_or_default q i z 0 less ∙ here ∙ sym there
+    ∙ get_or_default r i 0 z (omega (arith, second.count)))
 
 -- ---- every permutation has an inverse
 

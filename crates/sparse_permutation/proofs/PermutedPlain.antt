@@ -10,7 +10,7 @@ use Rattle.sparse_algebra.proofs.Cases.{and_both, and_parts, true_or_false}
 use Rattle.sparse_algebra.proofs.PlainLemmas.{same_plain, and_comm}
 use Rattle.sparse_permutation.specs.Permutations.{IsOrder, IsInverse, composed}
 use Rattle.sparse_permutation.specs.PermutedPlain.{plain_rows_permuted, plain_permuted, IsSymmetric}
-use Rattle.sparse_permutation.proofs.Orders.{order_below, inverse_exists}
+use Rattle.sparse_permutation.proofs.Orders.{order_below, inverse_exists, composed_at}
 
 -- a test that i is below n, met
 pub is_below : (i n : ℕ) → i < n → nat_lt i n ≡ true
@@ -94,6 +94,63 @@ module _ (R : CommRing) where
                 rw (inside, back_both i j first second, back i first, back j (omega (arith, square)))
                 refl
             | inr outside ↦ rw outside (sym (proper i j (no_place a within i j outside)))
+          ])
+
+  -- ---- one permutation followed by another
+
+  module _ {p q : List ℕ} (first : IsOrder p) (next : IsOrder q) (same : length p ≡ length q)
+      (a : Plain R) (rows : a.rows ≡ length p) where
+    next_below : (i : ℕ) → i < a.rows → nat_lt (get_or q i 0) a.rows ≡ true
+    next_below i less = is_below (get_or q i 0) a.rows
+        (omega (arith, rows, same, order_below next i (omega (arith, rows, same))))
+
+    both_at : (i : ℕ) → i < a.rows → get_or (composed p q) i 0 ≡ get_or p (get_or q i 0) 0
+    both_at i less = composed_at first q i (omega (arith, rows, same))
+
+    pub rows_composed : plain_rows_permuted R q (plain_rows_permuted R p a)
+        ≡ plain_rows_permuted R (composed p q) a
+    rows_composed = same_plain (plain_rows_permuted R q (plain_rows_permuted R p a))
+        (plain_rows_permuted R (composed p q) a) refl refl
+        (λ i j. elim (true_or_false (nat_lt i a.rows)) [
+          | inl inside ↦
+              let less = below_is i a.rows inside in
+              rw (inside, next_below i less, both_at i less) refl
+          | inr outside ↦ rw outside refl
+        ])
+        (λ i j. elim (true_or_false (nat_lt i a.rows)) [
+          | inl inside ↦
+              let less = below_is i a.rows inside in
+              rw (inside, next_below i less, both_at i less) refl
+          | inr outside ↦ rw outside refl
+        ])
+
+    module _ (square : a.rows ≡ a.cols) where
+      next_both : (i j : ℕ) → i < a.rows → j < a.cols
+          → (nat_lt (get_or q i 0) a.rows && nat_lt (get_or q j 0) a.cols) ≡ true
+      next_both i j row col = and_both _ _ (next_below i row)
+          (ap (nat_lt (get_or q j 0)) (sym square) ∙ next_below j (omega (arith, square)))
+
+      pub permuted_composed : plain_permuted R q (plain_permuted R p a)
+          ≡ plain_permuted R (composed p q) a
+      permuted_composed = same_plain (plain_permuted R q (plain_permuted R p a))
+          (plain_permuted R (composed p q) a) refl refl
+          (λ i j. elim (true_or_false (nat_lt i a.rows && nat_lt j a.cols)) [
+            | inl inside ↦
+                let both = and_parts _ _ inside in
+                let row = below_is i a.rows both.0 in
+                let col = below_is j a.cols both.1 in
+                rw (inside, next_both i j row col, both_at i row, both_at j (omega (arith, square)))
+                refl
+            | inr outside ↦ rw outside refl
+          ])
+          (λ i j. elim (true_or_false (nat_lt i a.rows && nat_lt j a.cols)) [
+            | inl inside ↦
+                let both = and_parts _ _ inside in
+                let row = below_is i a.rows both.0 in
+                let col = below_is j a.cols both.1 in
+                rw (inside, next_both i j row col, both_at i row, both_at j (omega (arith, square)))
+                refl
+            | inr outside ↦ rw outside refl
           ])
 
   -- ---- a permuted matrix determines the matrix

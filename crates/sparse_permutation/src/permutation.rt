@@ -68,8 +68,8 @@ impl Permutation {
     ///
     /// # Errors
     ///
-    /// Returns `OutOfMemory` if the allocation of the marks fails. Otherwise returns the first fault, index by index: an
-    /// index that is not less than the length, or one that occurs before. The order is dropped.
+    /// Returns `OutOfMemory` if the allocation of the marks fails. Otherwise returns the first fault, index by index:
+    /// an index that is not less than the length, or one that occurs before. The order is dropped.
     ///
     /// # Examples
     ///
@@ -138,8 +138,8 @@ impl Permutation {
         Ok(Permutation { order: inverse })
     }
 
-    /// Returns the permutation that has the effect of this one followed by `next`: its index at `k` is the index of this
-    /// order at `next.order()[k]`.
+    /// Returns the permutation that has the effect of this one followed by `next`: its index at `k` is the index of
+    /// this order at `next.order()[k]`.
     ///
     /// Linear in the length.
     ///

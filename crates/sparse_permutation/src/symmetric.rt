@@ -39,7 +39,7 @@ use std::alloc::{AllocError, Global};
 ///     let a = convert_coo_csr(alloc, &list)?;
 ///     let order = Permutation::try_from_order(alloc, Vec::from_slice(alloc, &[2, 0, 1])?)?;
 ///     let permuted = permute_symmetric_csr(alloc, &a, &order)?;
-///     Ok(permuted.row(0).cols() == [0, 1].as_slice()
+///     Ok(permuted.row_offsets() == [0, 2, 2, 2].as_slice()
 ///         && permuted.values() == [W64::new(5), W64::new(7)].as_slice())
 /// }
 /// ```
