@@ -59,7 +59,8 @@ impl<W: Word> BreadthFirst<W> {
                 levels.last = offset;
                 next_level = self.end;
             }
-            self.visit_neighbours(graph, at(&self.queue, offset));
+            let vertex = at(&self.queue, offset);
+            self.visit_neighbours(graph, vertex);
         }
         levels
     }

@@ -9,4 +9,5 @@ mod postorder;
 pub mod reverse_cuthill_mckee;
 #[cfg(test)]
 mod tests;
+mod vertices;
 mod words;

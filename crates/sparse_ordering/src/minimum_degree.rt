@@ -34,8 +34,8 @@ use update::{measure_elements, update_degrees};
 /// Rows with more than max(16, 10 √n) entries come last. Among the variables of least degree, the one whose degree was
 /// computed last comes first, so the order depends on the pattern alone. It is a postorder of the assembly tree.
 ///
-/// Memory is linear in the numbers of rows and entries. Time is mostly a small multiple of them; the bound is the
-/// product of both. Fails only if an allocation fails.
+/// Memory is linear in the numbers of rows and entries. Time is close to linear in them on most patterns; no better
+/// bound than their product is known. Fails only if an allocation fails.
 ///
 /// # Examples
 ///
@@ -51,37 +51,38 @@ use update::{measure_elements, update_degrees};
 pub fn minimum_degree(alloc: Global, pattern: &SparsityPattern) -> Result<Vec<usize>, AllocError>
     requires square { pattern.now.major_dim ≡ pattern.now.minor_dim }
 {
+    let elbow_room = (pattern.nnz() / 5).saturating_add(pattern.major_dim());
     if fits_in_32_bits(pattern) {
-        eliminate_all::<u32>(alloc, pattern)
+        eliminate_all::<u32>(alloc, pattern, elbow_room)
     } else {
-        eliminate_all::<usize>(alloc, pattern)
+        eliminate_all::<usize>(alloc, pattern, elbow_room)
     }
 }
 
-// Eliminates all variables, and returns them in the order of the assembly tree.
-fn eliminate_all<W: Word>(
+// Eliminates all variables, and returns them in a postorder of the assembly tree. The lists of the quotient graph have
+// room for `elbow_room` more elements than at the beginning, at least as many as there are rows.
+pub(crate) fn eliminate_all<W: Word>(
     alloc: Global,
     pattern: &SparsityPattern,
+    elbow_room: usize,
 ) -> Result<Vec<usize>, AllocError>
     requires square { pattern.now.major_dim ≡ pattern.now.minor_dim }
 {
     let size = pattern.major_dim();
-    let elbow_room = (pattern.nnz() / 5).saturating_add(size);
     let adjacency = Adjacency::<W>::new(alloc, pattern, elbow_room)?;
     let mut graph = QuotientGraph::new(alloc, adjacency, elbow_room)?;
     let mut lists = DegreeLists::new(alloc, size)?;
     let mut buckets = HashBuckets::new(alloc, size)?;
     graph.list_variables(&mut lists);
     for _ in 0..size {
-        match lists.take_least() {
+        match lists.take_least(&mut graph.vertices) {
             Some(variable) => eliminate(&mut graph, &mut lists, &mut buckets, variable),
             None => break,
         }
     }
     let tree = AssemblyTree {
         parents: &graph.parents,
-        weights: &graph.weights,
-        degrees: &graph.degrees,
+        vertices: &graph.vertices,
     };
     postorder(alloc, &tree)
 }

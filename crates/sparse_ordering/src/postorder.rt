@@ -1,5 +1,6 @@
 //! A postorder of a forest.
 
+use crate::vertices::Vertices;
 use crate::words::{Word, at, filled, set};
 use std::alloc::{AllocError, Global};
 
@@ -18,8 +19,7 @@ struct Forest<W: Word> {
 #[derive(Drop)]
 pub(crate) struct AssemblyTree<'a, W: Word> {
     pub(crate) parents: &'a [W],
-    pub(crate) weights: &'a [W],
-    pub(crate) degrees: &'a [W],
+    pub(crate) vertices: &'a Vertices<W>,
 }
 
 // Returns the vertices of an assembly tree in postorder: each vertex comes after its children, and among the children
@@ -63,9 +63,10 @@ fn largest_children<W: Word>(
 
 // Returns the number of rows of the front of a vertex; 0 for a variable, and for the root above the roots.
 fn front<W: Word>(tree: &AssemblyTree<'_, W>, vertex: usize) -> usize {
-    match at(tree.weights, vertex) {
+    let vertex = tree.vertices.get(vertex);
+    match vertex.weight {
         0 => 0,
-        weight => weight.saturating_add(at(tree.degrees, vertex)),
+        weight => weight.saturating_add(vertex.degree),
     }
 }
 
@@ -77,7 +78,7 @@ impl<W: Word> Forest<W> {
 
     fn link_variables(&mut self, tree: &AssemblyTree<'_, W>) {
         for vertex in (0..self.vertex_count).rev() {
-            if at(tree.weights, vertex) == 0 {
+            if tree.vertices.get(vertex).weight == 0 {
                 self.link(vertex, at(tree.parents, vertex));
             }
         }
@@ -87,7 +88,9 @@ impl<W: Word> Forest<W> {
     fn link_elements(&mut self, tree: &AssemblyTree<'_, W>, largest: &[W], is_largest: bool) {
         for vertex in (0..self.vertex_count).rev() {
             let parent = at(tree.parents, vertex);
-            if at(tree.weights, vertex) != 0 && (at(largest, parent) == vertex) == is_largest {
+            if tree.vertices.get(vertex).weight != 0
+                && (at(largest, parent) == vertex) == is_largest
+            {
                 self.link(vertex, parent);
             }
         }

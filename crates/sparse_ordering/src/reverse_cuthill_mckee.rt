@@ -19,9 +19,9 @@ use std::alloc::{AllocError, Global};
 /// those of one degree by index (Cuthill and McKee, "Reducing the Bandwidth of Sparse Symmetric Matrices", 1969). The
 /// order is the reverse of that (George, "Computer Implementation of the Finite Element Method", 1971).
 ///
-/// Memory is linear in the numbers of rows and entries, and so is the time of each search. A component takes at least
-/// three searches, mostly a few more, and at most one for each of its vertices and two. Fails only if an allocation
-/// fails.
+/// Memory is linear in the numbers of rows and entries, and so is the time of a search of all components. A component
+/// is searched at least twice, mostly a few times, and at most once more than it has vertices. Fails only if an
+/// allocation fails.
 ///
 /// # Examples
 ///
@@ -57,31 +57,23 @@ fn search_all<W: Word>(alloc: Global, pattern: &SparsityPattern) -> Result<Vec<u
     let mut search = BreadthFirst::new(alloc, size)?;
     for vertex in 0..size {
         if !search.has_visited(vertex) {
-            let root = pseudo_peripheral(&graph, &mut search, vertex);
-            search.search_from(&graph, root);
+            search_component(&graph, &mut search, vertex);
             search.finish_component();
         }
     }
     search.reversed(alloc)
 }
 
-// Returns a vertex of the component of `start` that is about as far as possible from another one: the root of a search
-// such that no search from the vertex of least degree in its last level has more levels.
-fn pseudo_peripheral<W: Word>(
-    graph: &Adjacency<W>,
-    search: &mut BreadthFirst<W>,
-    start: usize,
-) -> usize {
-    let mut root = start;
-    let mut levels = search.search_from(graph, root);
+// Searches the component of a vertex from a pseudo-peripheral one: each search begins at the vertex of least degree in
+// the last level of the search before, until the number of levels does not grow.
+fn search_component<W: Word>(graph: &Adjacency<W>, search: &mut BreadthFirst<W>, vertex: usize) {
+    let mut levels = search.search_from(graph, vertex);
     for _ in 0..graph.size() {
         let far = search.least_of(graph, levels);
         let found = search.search_from(graph, far);
         if found.height <= levels.height {
             break;
         }
-        root = far;
         levels = found;
     }
-    root
 }

@@ -1,25 +1,28 @@
 //! The collection of unused memory in the lists of a quotient graph.
 
 use super::quotient_graph::QuotientGraph;
+use crate::vertices::Vertex;
 use crate::words::{Word, at, set};
 
 // Makes room for the variables of the element that the elimination of a variable forms: at most as many as its degree.
 pub(super) fn make_room<W: Word>(graph: &mut QuotientGraph<W>, variable: usize) {
-    let most = at(&graph.degrees, variable);
-    if at(&graph.element_counts, variable) != 0
-        && graph.lists.len() < graph.used.saturating_add(most)
-    {
+    let Vertex {
+        degree,
+        element_count,
+        ..
+    } = graph.vertex(variable);
+    if element_count != 0 && graph.lists.len() < graph.used.saturating_add(degree) {
         mark_heads(graph);
         move_lists(graph);
     }
 }
 
-// Replaces the first element of the list of each vertex by the vertex plus `size`, and keeps it in `begins`.
+// Replaces the first element of the list of each vertex by the vertex plus `size`, and keeps it where the list begins is kept.
 fn mark_heads<W: Word>(graph: &mut QuotientGraph<W>) {
     for vertex in 0..graph.size {
-        if at(&graph.lengths, vertex) != 0 {
-            let begin = at(&graph.begins, vertex);
-            set(&mut graph.begins, vertex, at(&graph.lists, begin));
+        let Vertex { begin, length, .. } = graph.vertex(vertex);
+        if length != 0 {
+            graph.vertices.set_begin(vertex, at(&graph.lists, begin));
             set(&mut graph.lists, begin, vertex.wrapping_add(graph.size));
         }
     }
@@ -33,10 +36,11 @@ fn move_lists<W: Word>(graph: &mut QuotientGraph<W>) {
         let word = at(&graph.lists, offset);
         if graph.size <= word {
             let vertex = word.wrapping_sub(graph.size);
-            set(&mut graph.lists, used, at(&graph.begins, vertex));
-            set(&mut graph.begins, vertex, used);
+            let Vertex { begin, length, .. } = graph.vertex(vertex);
+            set(&mut graph.lists, used, begin);
+            graph.vertices.set_begin(vertex, used);
             used = used.wrapping_add(1);
-            left = at(&graph.lengths, vertex).wrapping_sub(1);
+            left = length.wrapping_sub(1);
         } else if left != 0 {
             set(&mut graph.lists, used, word);
             used = used.wrapping_add(1);

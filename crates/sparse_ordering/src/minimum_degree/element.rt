@@ -2,6 +2,7 @@
 
 use super::quotient_graph::QuotientGraph;
 use crate::degree_lists::DegreeLists;
+use crate::vertices::Vertex;
 use crate::words::{Word, at, set};
 
 // The element that is being formed.
@@ -27,18 +28,17 @@ pub(super) fn form_element<W: Word>(
     lists: &mut DegreeLists<W>,
     vertex: usize,
 ) -> Pivot {
-    let element_count = at(&graph.element_counts, vertex);
-    let variable_count = at(&graph.lengths, vertex).wrapping_sub(element_count);
-    let list = at(&graph.begins, vertex);
-    let mut pivot = start_element(graph, vertex, list, element_count != 0);
-    take_elements(graph, lists, &mut pivot, list, element_count);
-    take_variables(
-        graph,
-        lists,
-        &mut pivot,
-        list.wrapping_add(element_count),
-        variable_count,
-    );
+    let Vertex {
+        begin,
+        length,
+        element_count,
+        ..
+    } = graph.vertex(vertex);
+    let first_variable = begin.wrapping_add(element_count);
+    let variable_count = length.wrapping_sub(element_count);
+    let mut pivot = start_element(graph, vertex, begin, element_count != 0);
+    take_elements(graph, lists, &mut pivot, begin, element_count);
+    take_variables(graph, lists, &mut pivot, first_variable, variable_count);
     close_element(graph, &pivot);
     pivot
 }
@@ -50,9 +50,9 @@ fn start_element<W: Word>(
     list: usize,
     is_appended: bool,
 ) -> Pivot {
-    let weight = at(&graph.weights, vertex);
+    let weight = graph.vertex(vertex).weight;
     // The pivot is no variable of the element.
-    set(&mut graph.weights, vertex, 0);
+    graph.vertices.set_weight(vertex, 0);
     graph.remaining = graph.remaining.wrapping_sub(weight);
     let begin = if is_appended { graph.used } else { list };
     Pivot {
@@ -75,8 +75,8 @@ fn take_elements<W: Word>(
 ) {
     for offset in begin..begin.saturating_add(count) {
         let element = at(&graph.lists, offset);
-        let (first, variable_count) = (at(&graph.begins, element), at(&graph.lengths, element));
-        take_variables(graph, lists, pivot, first, variable_count);
+        let Vertex { begin, length, .. } = graph.vertex(element);
+        take_variables(graph, lists, pivot, begin, length);
         graph.absorb_element(element, pivot.vertex);
     }
 }
@@ -91,29 +91,25 @@ fn take_variables<W: Word>(
 ) {
     for offset in begin..begin.saturating_add(count) {
         let variable = at(&graph.lists, offset);
-        let weight = at(&graph.weights, variable);
+        let Vertex { weight, degree, .. } = graph.vertex(variable);
         if graph.is_outside(weight) {
-            set(
-                &mut graph.weights,
-                variable,
-                weight.wrapping_add(graph.size),
-            );
+            graph
+                .vertices
+                .set_weight(variable, weight.wrapping_add(graph.size));
             set(&mut graph.lists, pivot.end, variable);
             pivot.end = pivot.end.wrapping_add(1);
             pivot.degree = pivot.degree.wrapping_add(weight);
-            lists.remove(variable, at(&graph.degrees, variable));
+            lists.remove(&mut graph.vertices, variable, degree);
         }
     }
 }
 
 // Records where the variables of the element are.
 fn close_element<W: Word>(graph: &mut QuotientGraph<W>, pivot: &Pivot) {
-    set(&mut graph.begins, pivot.vertex, pivot.begin);
-    set(
-        &mut graph.lengths,
-        pivot.vertex,
-        pivot.end.wrapping_sub(pivot.begin),
-    );
+    graph.vertices.set_begin(pivot.vertex, pivot.begin);
+    graph
+        .vertices
+        .set_length(pivot.vertex, pivot.end.wrapping_sub(pivot.begin));
     if pivot.is_appended {
         graph.used = pivot.end;
     }
@@ -128,18 +124,16 @@ pub(super) fn finish_element<W: Word>(
     let mut end = pivot.begin;
     for offset in pivot.begin..pivot.end {
         let variable = at(&graph.lists, offset);
-        if graph.size < at(&graph.weights, variable) {
+        if graph.size < graph.vertex(variable).weight {
             release_variable(graph, lists, variable, pivot.degree);
             set(&mut graph.lists, end, variable);
             end = end.wrapping_add(1);
         }
     }
-    set(&mut graph.weights, pivot.vertex, pivot.weight);
-    set(
-        &mut graph.lengths,
-        pivot.vertex,
-        end.wrapping_sub(pivot.begin),
-    );
+    graph.vertices.set_weight(pivot.vertex, pivot.weight);
+    graph
+        .vertices
+        .set_length(pivot.vertex, end.wrapping_sub(pivot.begin));
     if pivot.is_appended {
         graph.used = end;
     }
@@ -155,10 +149,10 @@ fn release_variable<W: Word>(
 ) {
     let weight = graph.inner_weight(variable);
     let within = element_degree.wrapping_sub(weight);
-    let degree = at(&graph.degrees, variable).saturating_add(within);
+    let degree = graph.vertex(variable).degree.saturating_add(within);
     let most = graph.remaining.wrapping_sub(weight);
     let bound = degree.min(most);
-    set(&mut graph.weights, variable, weight);
-    set(&mut graph.degrees, variable, bound);
-    lists.insert(variable, bound);
+    graph.vertices.set_weight(variable, weight);
+    graph.vertices.set_degree(variable, bound);
+    lists.insert(&mut graph.vertices, variable, bound);
 }

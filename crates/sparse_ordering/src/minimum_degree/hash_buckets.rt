@@ -1,54 +1,44 @@
 //! Variables by the hash of their lists.
 
+use crate::vertices::Vertices;
 use crate::words::{Word, at, filled, set};
 use std::alloc::{AllocError, Global};
 
-// A linked list of variables for each hash. The number of vertices ends a list.
+// More buckets than a pivot has variables would only take more of the cache.
+const MOST_BUCKETS: usize = 1 << 12;
+
+// A linked list of variables for each hash. The number of vertices ends a list. A variable in a bucket is in no list of
+// degrees, so it is linked by the same fields: `next` has the next variable, and `previous` the bucket.
 #[derive(Drop)]
 pub(super) struct HashBuckets<W: Word> {
     vertex_count: usize,
     // The first variable of each bucket. The number of buckets is a power of two.
     heads: Vec<W>,
-    nexts: Vec<W>,
-    // The bucket of each variable.
-    hashes: Vec<W>,
 }
 
 impl<W: Word> HashBuckets<W> {
     // Returns empty buckets.
     pub(super) fn new(alloc: Global, vertex_count: usize) -> Result<HashBuckets<W>, AllocError> {
+        let bucket_count = power_of_two(vertex_count.min(MOST_BUCKETS));
         Ok(HashBuckets {
             vertex_count,
-            heads: filled(alloc, power_of_two(vertex_count), vertex_count)?,
-            nexts: filled(alloc, vertex_count, vertex_count)?,
-            hashes: filled(alloc, vertex_count, 0)?,
+            heads: filled(alloc, bucket_count, vertex_count)?,
         })
     }
 
     // Puts a variable into the bucket of a hash, in front of the others.
-    pub(super) fn insert(&mut self, variable: usize, hash: usize) {
+    pub(super) fn insert(&mut self, vertices: &mut Vertices<W>, variable: usize, hash: usize) {
         let bucket = hash & self.heads.len().wrapping_sub(1);
-        set(&mut self.nexts, variable, at(&self.heads, bucket));
+        vertices.set_next(variable, at(&self.heads, bucket));
+        vertices.set_previous(variable, bucket);
         set(&mut self.heads, bucket, variable);
-        set(&mut self.hashes, variable, bucket);
     }
 
-    // Empties the bucket of a variable. Returns the variable that was its first one, or the number of vertices.
-    pub(super) fn take_bucket(&mut self, variable: usize) -> usize {
-        let bucket = at(&self.hashes, variable);
+    // Empties a bucket. Returns the variable that was its first one, or the number of vertices.
+    pub(super) fn take(&mut self, bucket: usize) -> usize {
         let first = at(&self.heads, bucket);
         set(&mut self.heads, bucket, self.vertex_count);
         first
-    }
-
-    // Returns the variable after this one in its bucket, or the number of vertices.
-    pub(super) fn next(&self, variable: usize) -> usize {
-        at(&self.nexts, variable)
-    }
-
-    // Removes the variables between this one and `next`.
-    pub(super) fn set_next(&mut self, variable: usize, next: usize) {
-        set(&mut self.nexts, variable, next);
     }
 }
 

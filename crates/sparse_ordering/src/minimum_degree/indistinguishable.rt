@@ -3,7 +3,8 @@
 use super::element::Pivot;
 use super::hash_buckets::HashBuckets;
 use super::quotient_graph::QuotientGraph;
-use crate::words::{Word, at, run_of, set};
+use crate::vertices::Vertex;
+use crate::words::{Word, at, run_of};
 
 // Merges the variables of the pivot whose lists are equal as sets. Only variables with the same hash are compared.
 pub(super) fn merge_indistinguishable<W: Word>(
@@ -12,54 +13,48 @@ pub(super) fn merge_indistinguishable<W: Word>(
     pivot: &Pivot,
 ) {
     for offset in pivot.begin..pivot.end {
-        let variable = at(&graph.lists, offset);
-        if graph.size < at(&graph.weights, variable) {
-            let first = buckets.take_bucket(variable);
-            merge_bucket(graph, buckets, first);
+        let variable = graph.vertex(at(&graph.lists, offset));
+        if graph.size < variable.weight {
+            let first = buckets.take(variable.previous);
+            merge_bucket(graph, first);
         }
     }
 }
 
 // Compares each variable of a bucket, from `first` on, with those after it.
-fn merge_bucket<W: Word>(graph: &mut QuotientGraph<W>, buckets: &mut HashBuckets<W>, first: usize) {
+fn merge_bucket<W: Word>(graph: &mut QuotientGraph<W>, first: usize) {
     let mut variable = first;
     for _ in 0..graph.size {
-        let next = buckets.next(variable);
+        let next = graph.vertex(variable).next;
         if graph.size <= variable.max(next) {
             break;
         }
         stamp_list(graph, variable);
-        merge_equal(graph, buckets, variable);
+        merge_equal(graph, variable);
         graph.stamp = graph.stamp.wrapping_add(1);
-        variable = buckets.next(variable);
+        variable = graph.vertex(variable).next;
     }
 }
 
 // Stamps each element and variable in the list of a variable. The first one is the pivot, which all lists begin with.
 fn stamp_list<W: Word>(graph: &mut QuotientGraph<W>, variable: usize) {
-    let (begin, length) = (at(&graph.begins, variable), at(&graph.lengths, variable));
+    let Vertex { begin, length, .. } = graph.vertex(variable);
     for word in run_of(&graph.lists, begin.wrapping_add(1), length.wrapping_sub(1)) {
-        set(&mut graph.stamps, word.get(), graph.stamp);
+        graph.vertices.set_stamp(word.get(), graph.stamp);
     }
 }
 
 // Merges into a variable, whose list is stamped, those after it in its bucket that have the same list.
-fn merge_equal<W: Word>(
-    graph: &mut QuotientGraph<W>,
-    buckets: &mut HashBuckets<W>,
-    variable: usize,
-) {
-    let (mut last, mut other) = (variable, buckets.next(variable));
+fn merge_equal<W: Word>(graph: &mut QuotientGraph<W>, variable: usize) {
+    let (mut last, mut other) = (variable, graph.vertex(variable).next);
     for _ in 0..graph.size {
         if graph.size <= other {
             break;
         }
-        let next = buckets.next(other);
-        if has_stamped_list(graph, variable, other) {
-            let weight = at(&graph.weights, variable).wrapping_add(graph.inner_weight(other));
-            set(&mut graph.weights, variable, weight);
-            graph.drop_variable(other, variable);
-            buckets.set_next(last, next);
+        let next = graph.vertex(other).next;
+        if have_equal_lists(graph, variable, other) {
+            graph.merge_variable(other, variable);
+            graph.vertices.set_next(last, next);
         } else {
             last = other;
         }
@@ -67,20 +62,19 @@ fn merge_equal<W: Word>(
     }
 }
 
-// Returns whether the list of `other` has the lengths of that of `variable`, and is stamped after its first element.
-fn has_stamped_list<W: Word>(graph: &QuotientGraph<W>, variable: usize, other: usize) -> bool {
-    let (begin, length) = (at(&graph.begins, other), at(&graph.lengths, other));
-    length == at(&graph.lengths, variable)
-        && at(&graph.element_counts, other) == at(&graph.element_counts, variable)
-        && is_stamped(
-            graph,
-            run_of(&graph.lists, begin.wrapping_add(1), length.wrapping_sub(1)),
-        )
+// Returns whether two variables have the same list, given that the list of the first one is stamped.
+fn have_equal_lists<W: Word>(graph: &QuotientGraph<W>, variable: usize, other: usize) -> bool {
+    let (first, second) = (graph.vertex(variable), graph.vertex(other));
+    first.length == second.length
+        && first.element_count == second.element_count
+        && is_stamped(graph, other)
 }
 
-fn is_stamped<W: Word>(graph: &QuotientGraph<W>, list: &[W]) -> bool {
-    for word in list {
-        if at(&graph.stamps, word.get()) != graph.stamp {
+// Returns whether the list of a variable is stamped after its first element.
+fn is_stamped<W: Word>(graph: &QuotientGraph<W>, variable: usize) -> bool {
+    let Vertex { begin, length, .. } = graph.vertex(variable);
+    for word in run_of(&graph.lists, begin.wrapping_add(1), length.wrapping_sub(1)) {
+        if graph.vertex(word.get()).stamp != graph.stamp {
             return false;
         }
     }

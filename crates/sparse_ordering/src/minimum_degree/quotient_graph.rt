@@ -2,7 +2,8 @@
 
 use crate::adjacency::Adjacency;
 use crate::degree_lists::DegreeLists;
-use crate::words::{Word, at, filled, set};
+use crate::vertices::{Vertex, Vertices};
+use crate::words::{Word, filled, set};
 use std::alloc::{AllocError, Global};
 
 // A vertex is a variable until it is eliminated; then it is an element, which stands for a clique of its variables. So
@@ -21,19 +22,10 @@ pub(super) struct QuotientGraph<W: Word> {
     pub(super) lists: Vec<W>,
     // The end of the used part of `lists`.
     pub(super) used: usize,
-    // Where the list of each vertex begins.
-    pub(super) begins: Vec<W>,
-    // The lengths of the lists. That of a merged variable or of an absorbed element is 0.
-    pub(super) lengths: Vec<W>,
-    // The number of elements in the list of each variable.
-    pub(super) element_counts: Vec<W>,
-    pub(super) weights: Vec<W>,
-    // An upper bound of the weight of the neighbours of each variable, and the weight of the variables of each element.
-    pub(super) degrees: Vec<W>,
-    // The stamp of each vertex: 0 for an absorbed element, else at least 1. What it means from `stamp` on depends on
-    // the step.
-    pub(super) stamps: Vec<W>,
-    // Greater than each stamp between two steps.
+    // The stamp of an absorbed element is 0, and that of any other vertex at least 1. The list of an absorbed element or
+    // of a merged variable is empty.
+    pub(super) vertices: Vertices<W>,
+    // Greater than each stamp between two steps. What greater stamps mean depends on the step.
     pub(super) stamp: usize,
     // The greatest degree of an element so far.
     pub(super) largest_degree: usize,
@@ -49,24 +41,19 @@ impl<W: Word> QuotientGraph<W> {
         adjacency: Adjacency<W>,
         elbow_room: usize,
     ) -> Result<QuotientGraph<W>, AllocError> {
+        let vertices = Vertices::new(alloc, &adjacency)?;
         let Adjacency {
-            begins,
-            lengths,
             neighbours: mut lists,
+            ..
         } = adjacency;
-        let (size, used) = (begins.len(), lists.len());
+        let (size, used) = (vertices.count(), lists.len());
         lists.resize(used.saturating_add(elbow_room), W::of(0))?;
         Ok(QuotientGraph {
             size,
             remaining: size,
             lists,
             used,
-            begins,
-            degrees: Vec::from_slice(alloc, &lengths)?,
-            lengths,
-            element_counts: filled(alloc, size, 0)?,
-            weights: filled(alloc, size, 1)?,
-            stamps: filled(alloc, size, 1)?,
+            vertices,
             stamp: 2,
             largest_degree: 0,
             parents: filled(alloc, size, size)?,
@@ -77,21 +64,25 @@ impl<W: Word> QuotientGraph<W> {
     pub(super) fn list_variables(&mut self, lists: &mut DegreeLists<W>) {
         let dense = self.size.saturating_mul(100).isqrt().max(16);
         for variable in 0..self.size {
-            let degree = at(&self.degrees, variable);
+            let degree = self.vertex(variable).degree;
             if degree == 0 {
-                set(&mut self.stamps, variable, 0);
+                self.vertices.set_stamp(variable, 0);
                 self.remaining = self.remaining.wrapping_sub(1);
             } else if dense < degree {
                 self.drop_variable(variable, self.size);
                 self.remaining = self.remaining.wrapping_sub(1);
             } else {
-                lists.insert(variable, degree);
+                lists.insert(&mut self.vertices, variable, degree);
             }
         }
     }
 
-    // Returns the weight of a variable that is neither merged nor in the element that is being formed; otherwise a
-    // number that is 0 or greater than `size`.
+    #[inline(always)]
+    pub(super) fn vertex(&self, vertex: usize) -> Vertex {
+        self.vertices.get(vertex)
+    }
+
+    // Returns whether a variable of this weight is neither merged nor in the element that is being formed.
     #[inline(always)]
     pub(super) fn is_outside(&self, weight: usize) -> bool {
         weight.wrapping_sub(1) < self.size
@@ -100,22 +91,30 @@ impl<W: Word> QuotientGraph<W> {
     // Returns the weight of a variable of the element that is being formed.
     #[inline(always)]
     pub(super) fn inner_weight(&self, variable: usize) -> usize {
-        at(&self.weights, variable).wrapping_sub(self.size)
+        self.vertex(variable).weight.wrapping_sub(self.size)
+    }
+
+    // Merges a variable of the element that is being formed into another one.
+    pub(super) fn merge_variable(&mut self, variable: usize, into: usize) {
+        let weight = self.vertex(into).weight;
+        let sum = weight.wrapping_add(self.inner_weight(variable));
+        self.vertices.set_weight(into, sum);
+        self.drop_variable(variable, into);
     }
 
     // Removes a variable, which is merged into `parent`.
     pub(super) fn drop_variable(&mut self, variable: usize, parent: usize) {
         set(&mut self.parents, variable, parent);
-        set(&mut self.weights, variable, 0);
-        set(&mut self.lengths, variable, 0);
+        self.vertices.set_weight(variable, 0);
+        self.vertices.set_length(variable, 0);
     }
 
     // Removes an element, which `parent` absorbs.
     #[inline(always)]
     pub(super) fn absorb_element(&mut self, element: usize, parent: usize) {
         set(&mut self.parents, element, parent);
-        set(&mut self.stamps, element, 0);
-        set(&mut self.lengths, element, 0);
+        self.vertices.set_stamp(element, 0);
+        self.vertices.set_length(element, 0);
     }
 
     // Makes `stamp` greater than all stamps, with room for those of one pivot above it.
@@ -128,8 +127,8 @@ impl<W: Word> QuotientGraph<W> {
 
     fn reset_stamps(&mut self) {
         for vertex in 0..self.size {
-            let stamp = at(&self.stamps, vertex);
-            set(&mut self.stamps, vertex, stamp.min(1));
+            let stamp = self.vertex(vertex).stamp;
+            self.vertices.set_stamp(vertex, stamp.min(1));
         }
     }
 }

@@ -3,6 +3,7 @@
 use super::element::Pivot;
 use super::hash_buckets::HashBuckets;
 use super::quotient_graph::QuotientGraph;
+use crate::vertices::Vertex;
 use crate::words::{Word, at, run_of, set};
 
 // Computes for each element that shares a variable with the pivot the weight of its variables outside of the pivot.
@@ -11,25 +12,30 @@ pub(super) fn measure_elements<W: Word>(graph: &mut QuotientGraph<W>, pivot: &Pi
     graph.renew_stamps();
     for offset in pivot.begin..pivot.end {
         let variable = at(&graph.lists, offset);
-        let weight = graph.inner_weight(variable);
-        subtract_weight(graph, variable, weight);
+        subtract_weight(graph, variable);
     }
 }
 
-// Subtracts the weight of a variable from the weight of each of its elements.
-fn subtract_weight<W: Word>(graph: &mut QuotientGraph<W>, variable: usize, weight: usize) {
-    let (begin, count) = (
-        at(&graph.begins, variable),
-        at(&graph.element_counts, variable),
-    );
-    for word in run_of(&graph.lists, begin, count) {
+// Subtracts the weight of a variable of the pivot from the weight of each of its elements.
+fn subtract_weight<W: Word>(graph: &mut QuotientGraph<W>, variable: usize) {
+    let weight = graph.inner_weight(variable);
+    let Vertex {
+        begin,
+        element_count,
+        ..
+    } = graph.vertex(variable);
+    for word in run_of(&graph.lists, begin, element_count) {
         let element = word.get();
-        let stamp = at(&graph.stamps, element);
+        let Vertex { stamp, degree, .. } = graph.vertex(element);
         if graph.stamp <= stamp {
-            set(&mut graph.stamps, element, stamp.wrapping_sub(weight));
+            graph
+                .vertices
+                .set_stamp(element, stamp.wrapping_sub(weight));
         } else if stamp != 0 {
-            let whole = graph.stamp.wrapping_add(at(&graph.degrees, element));
-            set(&mut graph.stamps, element, whole.wrapping_sub(weight));
+            let whole = graph.stamp.wrapping_add(degree);
+            graph
+                .vertices
+                .set_stamp(element, whole.wrapping_sub(weight));
         }
     }
 }
@@ -58,11 +64,11 @@ pub(super) fn update_degrees<W: Word>(
         if kept.degree == 0 {
             eliminate_with(graph, pivot, variable);
         } else {
-            buckets.insert(variable, kept.hash);
+            buckets.insert(&mut graph.vertices, variable, kept.hash);
             add_element(graph, variable, pivot.vertex, elements_end, &kept);
         }
     }
-    set(&mut graph.degrees, pivot.vertex, pivot.degree);
+    graph.vertices.set_degree(pivot.vertex, pivot.degree);
     graph.largest_degree = graph.largest_degree.max(pivot.degree);
     graph.stamp = graph.stamp.wrapping_add(graph.largest_degree);
 }
@@ -81,18 +87,19 @@ impl Kept {
 // Keeps the elements of a variable that have variables outside of the pivot. The pivot absorbs the others (aggressive
 // absorption).
 fn keep_elements<W: Word>(graph: &mut QuotientGraph<W>, variable: usize, pivot: usize) -> Kept {
-    let (begin, count) = (
-        at(&graph.begins, variable),
-        at(&graph.element_counts, variable),
-    );
+    let Vertex {
+        begin,
+        element_count,
+        ..
+    } = graph.vertex(variable);
     let mut kept = Kept {
         end: begin,
         degree: 0,
         hash: 0,
     };
-    for offset in begin..begin.saturating_add(count) {
+    for offset in begin..begin.saturating_add(element_count) {
         let element = at(&graph.lists, offset);
-        let stamp = at(&graph.stamps, element);
+        let stamp = graph.vertex(element).stamp;
         if stamp == graph.stamp {
             graph.absorb_element(element, pivot);
         } else if stamp != 0 {
@@ -104,11 +111,15 @@ fn keep_elements<W: Word>(graph: &mut QuotientGraph<W>, variable: usize, pivot: 
 
 // Keeps the variables of a variable that are outside of the pivot.
 fn keep_variables<W: Word>(graph: &mut QuotientGraph<W>, variable: usize, kept: &mut Kept) {
-    let list = at(&graph.begins, variable);
-    let begin = list.saturating_add(at(&graph.element_counts, variable));
-    for offset in begin..list.saturating_add(at(&graph.lengths, variable)) {
+    let Vertex {
+        begin,
+        length,
+        element_count,
+        ..
+    } = graph.vertex(variable);
+    for offset in begin.saturating_add(element_count)..begin.saturating_add(length) {
         let neighbour = at(&graph.lists, offset);
-        let weight = at(&graph.weights, neighbour);
+        let weight = graph.vertex(neighbour).weight;
         if graph.is_outside(weight) {
             kept.push(&mut graph.lists, neighbour, weight);
         }
@@ -133,18 +144,14 @@ fn add_element<W: Word>(
     elements_end: usize,
     kept: &Kept,
 ) {
-    let begin = at(&graph.begins, variable);
+    let Vertex { begin, degree, .. } = graph.vertex(variable);
     let (first_element, first_variable) = (at(&graph.lists, begin), at(&graph.lists, elements_end));
     set(&mut graph.lists, kept.end, first_variable);
     set(&mut graph.lists, elements_end, first_element);
     set(&mut graph.lists, begin, pivot);
     let element_count = elements_end.wrapping_sub(begin).wrapping_add(1);
-    set(&mut graph.element_counts, variable, element_count);
-    set(
-        &mut graph.lengths,
-        variable,
-        kept.end.wrapping_sub(begin).wrapping_add(1),
-    );
-    let degree = at(&graph.degrees, variable).min(kept.degree);
-    set(&mut graph.degrees, variable, degree);
+    graph.vertices.set_element_count(variable, element_count);
+    let length = kept.end.wrapping_sub(begin).wrapping_add(1);
+    graph.vertices.set_length(variable, length);
+    graph.vertices.set_degree(variable, degree.min(kept.degree));
 }
