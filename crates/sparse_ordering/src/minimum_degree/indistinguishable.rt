@@ -4,7 +4,7 @@ use super::element::Pivot;
 use super::hash_buckets::HashBuckets;
 use super::quotient_graph::QuotientGraph;
 use crate::vertices::Vertex;
-use crate::words::{Word, at, run_of};
+use crate::words::{Word, at};
 
 // Merges the variables of the pivot whose lists are equal as sets. Only variables with the same hash are compared.
 pub(super) fn merge_indistinguishable<W: Word>(
@@ -39,8 +39,10 @@ fn merge_bucket<W: Word>(graph: &mut QuotientGraph<W>, first: usize) {
 // Stamps each element and variable in the list of a variable. The first one is the pivot, which all lists begin with.
 fn stamp_list<W: Word>(graph: &mut QuotientGraph<W>, variable: usize) {
     let Vertex { begin, length, .. } = graph.vertex(variable);
-    for word in run_of(&graph.lists, begin.wrapping_add(1), length.wrapping_sub(1)) {
-        graph.vertices.set_stamp(word.get(), graph.stamp);
+    let stamp = graph.stamp;
+    for offset in begin.saturating_add(1)..begin.saturating_add(length) {
+        let listed = at(&graph.lists, offset);
+        graph.vertices.set_stamp(listed, stamp);
     }
 }
 
@@ -73,8 +75,9 @@ fn have_equal_lists<W: Word>(graph: &QuotientGraph<W>, variable: usize, other: u
 // Returns whether the list of a variable is stamped after its first element.
 fn is_stamped<W: Word>(graph: &QuotientGraph<W>, variable: usize) -> bool {
     let Vertex { begin, length, .. } = graph.vertex(variable);
-    for word in run_of(&graph.lists, begin.wrapping_add(1), length.wrapping_sub(1)) {
-        if graph.vertex(word.get()).stamp != graph.stamp {
+    for offset in begin.saturating_add(1)..begin.saturating_add(length) {
+        let listed = at(&graph.lists, offset);
+        if graph.vertex(listed).stamp != graph.stamp {
             return false;
         }
     }

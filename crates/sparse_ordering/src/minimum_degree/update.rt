@@ -4,7 +4,7 @@ use super::element::Pivot;
 use super::hash_buckets::HashBuckets;
 use super::quotient_graph::QuotientGraph;
 use crate::vertices::Vertex;
-use crate::words::{Word, at, run_of, set};
+use crate::words::{Word, at, set};
 
 // Computes for each element that shares a variable with the pivot the weight of its variables outside of the pivot.
 // The stamp of the element is then `stamp` plus that weight.
@@ -24,8 +24,8 @@ fn subtract_weight<W: Word>(graph: &mut QuotientGraph<W>, variable: usize) {
         element_count,
         ..
     } = graph.vertex(variable);
-    for word in run_of(&graph.lists, begin, element_count) {
-        let element = word.get();
+    for offset in begin..begin.saturating_add(element_count) {
+        let element = at(&graph.lists, offset);
         let Vertex { stamp, degree, .. } = graph.vertex(element);
         if graph.stamp <= stamp {
             graph
