@@ -9,7 +9,7 @@ use Rattle.mtxkit_texts.specs.Headers.{header_in}
 use Rattle.mtxkit_texts.specs.Loaded.{IsLoadFailure, IsValuesFailure}
 use Rattle.mtxkit_texts.specs.Lower.{IsSymmetricFailure, Symmetrised}
 use Rattle.mtxkit_texts.specs.Rewritten.{WritesIntegers, WritesPattern, WritesCopy, IsCopyFailure}
-use Rattle.mtxkit_texts.specs.Shown.{ShowsBitmap, ShowsBlocks}
+use Rattle.mtxkit_texts.specs.Shown.{ShowsBitmap, ShowsBlocks, ShowsSvg}
 use Rattle.mtxkit_texts.specs.declared.failure.Failure.{Failure}
 use Rattle.mtxkit_texts.specs.declared.failure.Failure.TheVariants.{Unsaved, Write, OutOfMemory}
 use Rattle.mtxkit_texts.specs.Statuses.{status_of}
@@ -27,13 +27,14 @@ use Rattle.mtxkit_commands.specs.declared.commands.Command.TheVariants.{Info, Sp
 use Rattle.mtxkit_commands.specs.declared.commands.Command.TheVariants.{Integer}
 use Rattle.mtxkit_commands.specs.declared.commands.Command.TheVariants.{Symmetric, Solve, Check}
 use Rattle.mtxkit_commands.specs.declared.commands.Target.{Target}
-use Rattle.mtxkit_commands.specs.declared.commands.Target.TheVariants.{Bitmap, Blocks, File}
+use Rattle.mtxkit_commands.specs.declared.commands.Target.TheVariants.{Bitmap, Blocks, Svg, File}
 use Rattle.mtxkit_commands.specs.declared.commands.Values.{Values}
 use Rattle.mtxkit_commands.specs.declared.commands.Values.TheVariants.{Integers, Pattern}
 
 -- the picture of the pattern of a text's matrix, in the format of the target
 abbrev pub ShowsPicture : Target → List ℕ → ℕ → List ℕ → Type 0
 ShowsPicture Blocks text size written = ShowsBlocks text size written
+ShowsPicture Svg text size written = ShowsSvg text size written
 ShowsPicture target text size written = ShowsBitmap text size written
 
 -- the text of a text's matrix, with or without its values
@@ -168,6 +169,7 @@ IsScaleError scale file old new (Unscaled error) = IsUnscaled scale file old new
 abbrev pub is_file : Target → Bool
 is_file Bitmap = false
 is_file Blocks = false
+is_file Svg = false
 is_file (File path) = true
 
 -- the result is written to a file

@@ -16,7 +16,7 @@ use Rattle.mtxkit_commands.specs.declared.commands.Command.TheVariants.{Info, Sp
 use Rattle.mtxkit_commands.specs.declared.commands.Command.TheVariants.{Integer}
 use Rattle.mtxkit_commands.specs.declared.commands.Command.TheVariants.{Symmetric, Solve, Check}
 use Rattle.mtxkit_commands.specs.declared.commands.Target.{Target}
-use Rattle.mtxkit_commands.specs.declared.commands.Target.TheVariants.{Bitmap, Blocks, File}
+use Rattle.mtxkit_commands.specs.declared.commands.Target.TheVariants.{Bitmap, Blocks, Svg, File}
 
 abbrev pub first_file : Command → List ℕ
 first_file (Info file) = file.now
@@ -47,6 +47,7 @@ file_of command number = if number == 1 then Some (first_file command)
 abbrev pub target_file : Target → Option (List ℕ)
 target_file Bitmap = None
 target_file Blocks = None
+target_file Svg = None
 target_file (File path) = Some path.now
 
 abbrev pub saved_file : Command → Option (List ℕ)

@@ -8,7 +8,7 @@ use Rattle.mtxkit_commands.specs.declared.commands.Command.TheVariants.{Info, Sp
 use Rattle.mtxkit_commands.specs.declared.commands.Command.TheVariants.{Integer}
 use Rattle.mtxkit_commands.specs.declared.commands.Command.TheVariants.{Symmetric, Solve, Check}
 use Rattle.mtxkit_commands.specs.declared.commands.Target.{Target}
-use Rattle.mtxkit_commands.specs.declared.commands.Target.TheVariants.{Bitmap, Blocks, File}
+use Rattle.mtxkit_commands.specs.declared.commands.Target.TheVariants.{Bitmap, Blocks, Svg, File}
 use Rattle.mtxkit_commands.specs.declared.commands.Values.{Values}
 use Rattle.mtxkit_commands.specs.declared.commands.Values.TheVariants.{Integers, Pattern}
 
@@ -32,6 +32,7 @@ field_name Pattern = codes "pattern"
 abbrev pub default_size : Target → ℕ
 default_size Bitmap = 512
 default_size Blocks = 64
+default_size Svg = 128
 default_size (File path) = 512
 
 -- the same, if one is given: 0 counts as none

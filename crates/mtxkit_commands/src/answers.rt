@@ -12,7 +12,7 @@ use crate::inputs::{Texts, read_text};
 use crate::scaled::scaled_of;
 use crate::systems::{check_text, solve_text};
 use mtxkit_texts::{
-    Failure, copy_text, info_text, integer_text, pattern_text, spy_bitmap, spy_blocks,
+    Failure, copy_text, info_text, integer_text, pattern_text, spy_bitmap, spy_blocks, spy_svg,
     symmetric_text,
 };
 use std::alloc::Global;
@@ -118,6 +118,7 @@ fn picture(alloc: Global, size: usize, target: Target<'_>, text: &str) -> Result
     match target {
         Target::Bitmap => spy_bitmap(alloc, text, size),
         Target::Blocks => spy_blocks(alloc, text, size),
+        Target::Svg => spy_svg(alloc, text, size),
         Target::File(_) => spy_bitmap(alloc, text, size),
     }
 }

@@ -44,6 +44,7 @@ enum Word {
     Output,
     Scale,
     Size,
+    Svg,
     Text,
 }
 
@@ -60,6 +61,7 @@ const USAGES: [Usage; 8] = [
             Word::File("FILE", MATRIX_FILE),
             Word::Size,
             Word::Output,
+            Word::Svg,
             Word::Text,
         ],
     },
@@ -136,6 +138,7 @@ fn argument<'a>(alloc: Global, word: Word) -> Result<Arg<'a>, AllocError> {
         Word::Output => output_word(alloc),
         Word::Scale => Ok(scale_word(alloc)),
         Word::Size => Ok(size_word(alloc)),
+        Word::Svg => svg_word(alloc),
         Word::Text => Ok(text_word(alloc)),
     }
 }
@@ -157,7 +160,7 @@ fn size_word<'a>(alloc: Global) -> Arg<'a> {
         .long("size")
         .value_name("N")
         .value_parser(value_parser!(usize).range(1..))
-        .help("The most cells of a side; 512, and 64 with --text")
+        .help("The most cells of a side; 512, 128 with --svg, and 64 with --text")
 }
 
 fn scale_word<'a>(alloc: Global) -> Arg<'a> {
@@ -174,6 +177,15 @@ fn output_word<'a>(alloc: Global) -> Result<Arg<'a>, AllocError> {
         .value_name("OUT.pbm")
         .help("Write the portable bitmap to this file")
         .conflicts_with("text")
+}
+
+fn svg_word<'a>(alloc: Global) -> Result<Arg<'a>, AllocError> {
+    Arg::new(alloc, "svg")
+        .long("svg")
+        .action(ArgAction::SetTrue)
+        .help("Write SVG for a browser, the darker the more places lie in a cell")
+        .conflicts_with("text")?
+        .conflicts_with("output")
 }
 
 fn text_word<'a>(alloc: Global) -> Arg<'a> {

@@ -156,6 +156,8 @@ pub enum Target<'a> {
     Bitmap,
     /// Lines of block characters, on the output.
     Blocks,
+    /// Scalable vector graphics (SVG), on the output.
+    Svg,
     /// A portable bitmap, in the file with this path.
     File(&'a str),
 }
@@ -167,7 +169,7 @@ impl<'a> Target<'a> {
         ensures path { option_map (λ path. path.now) result ≡ target_file self.entry }
     {
         match self {
-            Target::Bitmap | Target::Blocks => None,
+            Target::Bitmap | Target::Blocks | Target::Svg => None,
             Target::File(path) => Some(path),
         }
     }

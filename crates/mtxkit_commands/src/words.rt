@@ -82,13 +82,14 @@ fn spy_of<'a>(words: &ArgMatches<'a>) -> Option<Command<'a>>
     Some(Command::Spy { file, size, target })
 }
 
-// Returns the target of a picture: the output file that is named, or else block characters or a bitmap.
+// Returns the target of a picture: the output file that is named, or else block characters, SVG or a bitmap.
 fn target_of<'a>(words: &ArgMatches<'a>) -> Target<'a>
     ensures { target_file result ≡ first_value (found_of words.now) (codes "output") }
 {
     match words.get_str("output") {
         Some(path) => Target::File(path),
         None if words.get_flag("text") => Target::Blocks,
+        None if words.get_flag("svg") => Target::Svg,
         None => Target::Bitmap,
     }
 }
@@ -101,6 +102,7 @@ fn size_of(given: Option<usize>, target: Target<'_>) -> usize
     match (given, target) {
         (Some(size), _) if size > 0 => size,
         (_, Target::Blocks) => 64,
+        (_, Target::Svg) => 128,
         (_, _) => 512,
     }
 }

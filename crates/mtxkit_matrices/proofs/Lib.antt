@@ -3,7 +3,7 @@ mod LaneCounts
 mod LongestLanes
 mod EntriesLeft
 -- pictures
-mod Marks
+mod CellCounts
 -- systems, and the values of matrices
 mod ColumnOrders
 mod SymmetricSystems

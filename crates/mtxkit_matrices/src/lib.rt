@@ -18,7 +18,7 @@ pub use facts::{
 };
 pub use line_faults::LineFault;
 pub use lines::{after_end, is_comment};
-pub use pictures::{Picture, bitmap_text, block_text, draw, scaled_sizes};
+pub use pictures::{Picture, bitmap_text, block_text, draw, scaled_sizes, svg_text};
 pub use systems::{SystemError, is_solution, solve, solve_listed};
 pub use triangle::lower_of;
 pub use values::{count_zeros, has_same_values, has_symmetric_values};

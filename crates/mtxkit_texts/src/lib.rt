@@ -32,7 +32,7 @@ pub use pattern_texts::write_pattern;
 pub use places::ones_of;
 pub use progress::{Screen, Terminal, progress_line, read_shown};
 pub use shapes::{Shape, shape_of};
-pub use spy::{spy_bitmap, spy_blocks};
+pub use spy::{spy_bitmap, spy_blocks, spy_svg};
 pub use sums::wide_sums;
 pub use symmetric::symmetric_text;
 pub use values::load_values;

@@ -38,6 +38,7 @@ pub fn run(rt: &HostRuntime, turn: &mut Turn, case: &str) -> Outcome {
     match case {
         "info" => run_args(rt, turn, Command::Info { file: A }),
         "spy" => run_args(rt, turn, picture(Target::Bitmap)),
+        "spy svg" => run_args(rt, turn, picture(Target::Svg)),
         "spy text" => run_args(rt, turn, picture(Target::Blocks)),
         "copy" => run_args(rt, turn, Command::Copy { file: A }),
         "field" => {

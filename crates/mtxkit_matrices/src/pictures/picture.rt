@@ -1,31 +1,31 @@
 //! Pictures of patterns.
 
-ghost use Rattle.std.specs.Prelude.{◌≡◌, ℕ, ◌*◌, ◌<◌, ◌≤◌, ◌⊎◌, ◌↔◌, IfOk, IsTrue, length, false};
-ghost use Rattle.std.specs.Prelude.{slice_index_or};
-ghost use Rattle.mtxkit_matrices.specs.Pictures.{cell_of, is_black, HasEntryIn, IsMarked};
+ghost use Rattle.std.specs.Prelude.{◌≡◌, ℕ, ◌+◌, ◌*◌, ◌<◌, ◌≤◌, ◌↔◌, IfOk, IsTrue, length, slice_index};
+ghost use Rattle.mtxkit_matrices.specs.Pictures.{cell_of, count_at, is_black, entries_in, HasEntryIn};
+ghost use Rattle.mtxkit_matrices.specs.LargestCounts.{largest};
 
 use sparse_algebra::recall;
 use sparse_pattern::pattern::SparsityPattern;
 use std::alloc::{AllocError, Global};
 use std::marker::Model;
 
-/// A picture of a pattern: rows of cells, each black or white.
+/// A picture of a pattern: rows of cells, each with the number of entries that lie in it.
 #[derive(Debug, Drop)]
 pub struct Picture {
     height: usize,
     width: usize,
-    cells: Vec<bool>,
+    counts: Vec<usize>,
 }
 
 impl Model for Picture {
     ghost use Rattle.std.specs.Prelude.{◌≡◌, ◌*◌, length};
-    ghost use Rattle.mtxkit_matrices.specs.Pictures.{Bitmap, bitmap_of};
+    ghost use Rattle.mtxkit_matrices.specs.Pictures.{CellCounts, cell_counts};
 
-    ghost Value = { Bitmap };
+    ghost Value = { CellCounts };
 
-    ghost view = { λ p. bitmap_of p.height p.width p.cells.items };
+    ghost view = { λ p. cell_counts p.height p.width p.counts.items };
 
-    ghost invariant = { λ p. length p.cells.items ≡ p.height * p.width };
+    ghost invariant = { λ p. length p.counts.items ≡ p.height * p.width };
 }
 
 impl Picture {
@@ -43,18 +43,39 @@ impl Picture {
         self.width
     }
 
-    /// Returns whether a cell is black. `row` must be less than `height()`, and `col` less than `width()`.
+    /// Returns the number of entries in a cell. `row` must be less than `height()`, and `col` less than `width()`.
+    pub fn count(&self, row: usize, col: usize) -> usize
+        requires row { row < self.now.height }
+        requires col { col < self.now.width }
+        ensures { result ≡ count_at self.now row col }
+    {
+        self.counts[row * self.width + col]
+    }
+
+    /// Returns whether a cell is black, that is, whether an entry lies in it. `row` must be less than `height()`, and
+    /// `col` less than `width()`.
+    #[tactic(auto, unfolding(crate::specs::Pictures::is_black))]
     pub fn is_black(&self, row: usize, col: usize) -> bool
         requires row { row < self.now.height }
         requires col { col < self.now.width }
         ensures { result ≡ is_black self.now row col }
     {
-        self.cells[row * self.width + col]
+        self.count(row, col) > 0
+    }
+
+    /// Returns the largest number of entries in a cell, or 0 if there is no cell.
+    pub fn largest_count(&self) -> usize
+        ensures { result ≡ largest self.now.counts }
+    {
+        let mut most = 0;
+        for count in &self.counts {
+            most = most.max(*count);
+        }
+        most
     }
 }
 
-/// Returns a picture of the pattern, `height` cells high and `width` cells wide. A cell is black exactly if an entry
-/// lies in it.
+/// Returns a picture of the pattern, `height` cells high and `width` cells wide.
 ///
 /// An entry in lane i with minor index j lies in row i * height / major_dim and column j * width / minor_dim, both
 /// rounded down. Linear in the numbers of entries and cells. Fails only if an allocation fails.
@@ -66,32 +87,37 @@ pub fn draw(
 ) -> Result<Picture, AllocError>
     ensures height { IfOk result (λ p. p.height ≡ height) }
     ensures width { IfOk result (λ p. p.width ≡ width) }
+    ensures counts { IfOk result (λ p. (r c : ℕ) → r < height → c < width
+        → count_at p r c ≡ entries_in pattern.now height width r c) }
     ensures black { IfOk result (λ p. (r c : ℕ) → r < height → c < width
         → IsTrue (is_black p r c) ↔ HasEntryIn pattern.now height width r c) }
 {
+    recall(pattern.major_offsets());
     let count = height.checked_mul(width).ok_or(AllocError)?;
-    let mut cells = vec![in alloc; false; count]?;
-    mark(&mut cells, pattern, height, width);
+    let mut counts = vec![in alloc; 0; count]?;
+    count_entries(&mut counts, pattern, height, width);
     Ok(Picture {
         height,
         width,
-        cells,
+        counts,
     })
 }
 
-// Makes the cells black in which an entry lies.
-fn mark(cells: &mut [bool], pattern: &SparsityPattern, height: usize, width: usize)
-    requires { length cells.old ≡ height * width }
-    ensures count { length cells.new ≡ length cells.old }
-    ensures marked { (q : ℕ) → q < length cells.old → IsTrue (slice_index_or cells.new q false)
-        ↔ (IsTrue (slice_index_or cells.old q false) ⊎ IsMarked pattern.now height width q) }
+// Counts the entries in each cell. All counts must be 0.
+fn count_entries(counts: &mut [usize], pattern: &SparsityPattern, height: usize, width: usize)
+    requires cells { length counts.old ≡ height * width }
+    requires zeros { (q : ℕ) → slice_index counts.old q ≡ 0 }
+    ensures cells { length counts.new ≡ length counts.old }
+    ensures counted { (r c : ℕ) → r < height → c < width → slice_index counts.new (r * width + c)
+        ≡ entries_in pattern.now height width r c }
 {
     recall(pattern.major_offsets());
+    recall(pattern.nnz());
     for (lane, index) in pattern.entries() {
         let row = cell_of(lane, pattern.major_dim(), height);
         let col = cell_of(index, pattern.minor_dim(), width);
         if row < height && col < width {
-            cells[row * width + col] = true;
+            counts[row * width + col] += 1;
         }
     }
 }

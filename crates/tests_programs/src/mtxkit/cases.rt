@@ -46,6 +46,19 @@ pub const CASES: &[Case] = &[
     // Rows and columns 1 and 2 lie in the first of two cells, and no entry lies at (3, 3).
     (&["spy", "--size", "2", "-"], SYMMETRIC, "P1\n2 2\n11\n10\n"),
     (&["spy", "-", "--text"], SYMMETRIC, "██▄\n ▀ \n"),
+    // Four places lie in the darkest cell, and one in each of two.
+    (
+        &["spy", "--svg", "--size", "2", "-"],
+        SYMMETRIC,
+        "<svg xmlns=\"http://www.w3.org/2000/svg\" viewBox=\"0 0 2 2\">
+<title>3 by 3, 6 places</title>
+<rect width=\"100%\" height=\"100%\" fill=\"white\"/>
+<rect x=\"0\" y=\"0\" width=\"1\" height=\"1\" fill=\"rgb(0,0,0)\"/>
+<rect x=\"1\" y=\"0\" width=\"1\" height=\"1\" fill=\"rgb(168,168,168)\"/>
+<rect x=\"0\" y=\"1\" width=\"1\" height=\"1\" fill=\"rgb(168,168,168)\"/>
+</svg>
+",
+    ),
     (
         &["field", "integer", "-"],
         PATTERN,

@@ -215,6 +215,12 @@ pub const REFUSALS: &[Refusal] = &[
         "error: the argument '--text' cannot be used with '-o <OUT.pbm>'\n",
     ),
     (
+        &["spy", "-", "--svg", "-o", "picture.pbm"],
+        ONE,
+        2,
+        "error: the argument '--svg' cannot be used with '-o <OUT.pbm>'\n",
+    ),
+    (
         &[],
         ONE,
         2,

@@ -1,43 +1,32 @@
-use Rattle.std.proofs.Common.{◌≡◌, ◌+◌, ◌*◌, ◌<◌, inl, inr, false, replicate, slice_index_or}
-use Rattle.std.proofs.Common.{◌↔◌, IsTrue, length, refl, sym, subst, ◌∙◌, arith, rules}
+use Rattle.std.proofs.Common.{◌≡◌, ℕ, ◌+◌, ◌*◌, ◌<◌, slice_index, sym, ap, ◌∙◌, rules}
+use Rattle.std.specs.Prelude.{nat_lt}
 use Rattle.std.specs.Vec.{with_items}
-use Rattle.std.proofs.lemmas.Bool.{false≢true}
-use Rattle.std.proofs.lemmas.List.{get_or-replicate, with_items_is}
-use Rattle.std.proofs.lemmas.Nat.{mul-add-lt}
-use Rattle.mtxkit_matrices.specs.Pictures.{HasEntryIn}
-use Rattle.mtxkit_matrices.proofs.Marks.{HasEntryIn-from_marked}
+use Rattle.std.proofs.lemmas.Bool.{ltb-true, lt-ltb}
+use Rattle.std.proofs.lemmas.List.{with_items_is}
+use Rattle.mtxkit_matrices.specs.Pictures.{is_black, entries_in}
+use Rattle.mtxkit_matrices.proofs.CellCounts.{HasEntryIn-from_count, count-from_HasEntryIn}
 use Rattle.mtxkit_matrices.proofs.pictures.picture.draw.Goals as goal
 
+counted : (c : goal.After-counts-3-1) → (r col : ℕ) → r < c.args.height → col < c.args.width
+    → slice_index (with_items c.in_ok-counts.counts c.count_entries.new.counts).items
+    (r * c.args.width + col)
+    ≡ entries_in c.args.pattern.now c.args.height c.args.width r col
+counted c r col down across =
+    ap (λ xs. slice_index xs (r * c.args.width + col))
+    (with_items_is c.in_ok-counts.counts c.count_entries.new.counts (search rules))
+    ∙ c.count_entries.ensures.counted r col down across
+
+pub returns-clause-counts : goal.returns-clause-counts
+returns-clause-counts c = λ r col down across. counted c r col down across
+
 pub returns-clause-black : goal.returns-clause-black
+unfolding is_black
 returns-clause-black c = λ r col down across.
     let p = c.args.pattern.now in
-    let w = c.args.width in
-    let q = r * w + col in
-    let count : c.in_ok-count.count ≡ c.args.height * w = search rules in
-    let white : c.deref_mut.result.now ≡ replicate c.in_ok-count.count false = search rules in
-    let room : length c.deref_mut.result.now ≡ c.args.height * w = search rules in
-    let within : q < length c.deref_mut.result.now =
-    omega (arith, mul-add-lt r w col c.args.height down across, room) in
-    let marked = c.mark.ensures.marked q within in
-    let blank : slice_index_or c.deref_mut.result.now q false ≡ false =
-    rw white (get_or-replicate c.in_ok-count.count q false false
-    (omega (arith, mul-add-lt r w col c.args.height down across, count))) in
-    let iff : IsTrue (slice_index_or c.mark.new.cells q false)
-    ↔ HasEntryIn p c.args.height w r col = (
-      λ e. elim (marked.0 e) [
-        | inl old ↦ absurd (false≢true (sym blank ∙ old))
-        | inr m ↦ HasEntryIn-from_marked p c.args.height w r col across m
-      ],
-      λ has. marked.1 (inr (record {
-        r = r;
-        c = col;
-        row = down;
-        col = across;
-        at = refl;
-        has = has;
-      })),
-    ) in
-    let same : (with_items c.in_ok-cells.cells c.mark.new.cells).items ≡ c.mark.new.cells =
-    with_items_is c.in_ok-cells.cells c.mark.new.cells (search rules) in
-    subst (λ xs. IsTrue (slice_index_or xs q false) ↔ HasEntryIn p c.args.height w r col)
-    (sym same) iff
+    let valid = c.major_offsets.ensures.valid in
+    let is = counted c r col down across in (
+      λ black. HasEntryIn-from_count p valid c.args.height c.args.width r col
+          (ltb-true _ _ (ap (λ n. nat_lt 0 n) (sym is) ∙ black)),
+      λ has. ap (λ n. nat_lt 0 n) is ∙ lt-ltb _ _
+          (count-from_HasEntryIn p valid c.args.height c.args.width r col has),
+    )
