@@ -1,14 +1,14 @@
 """The calls of all subjects."""
 from . import (
-    arrays, conversions, dense, entries, expressions, json_texts, lists, numbers, operations, patterns, systems, texts,
-    vectors,
+    arrays, conversions, dense, entries, expressions, json_texts, lists, numbers, operations, orders, patterns, systems,
+    texts, vectors,
 )
 from .words import Refused, Unreadable, words_of
 
 # Each subject returns `None` if a call is not one of its own. Those of texts are given the name of a call and what
 # follows it, the others all words.
 OF_TEXTS = (texts, json_texts, expressions)
-OF_WORDS = (numbers, arrays, systems, vectors, entries, conversions, lists, dense, patterns, operations)
+OF_WORDS = (numbers, arrays, systems, vectors, entries, conversions, lists, dense, patterns, orders, operations)
 
 
 def answer(call, over):

@@ -3,6 +3,7 @@
 use nalgebra_sparse::expr::ExprError;
 use nalgebra_sparse::io::{MatrixMarketError, MatrixMarketErrorKind};
 use nalgebra_sparse::ops::serial::OperationError;
+use nalgebra_sparse::ordering::{PermutationError, PermuteError};
 use nalgebra_sparse::pattern::SparsityPatternFormatError;
 use nalgebra_sparse::{SparseFormatError, SparseFormatErrorKind};
 use std::alloc::{AllocError, AllocFailed, Global};
@@ -22,6 +23,10 @@ pub enum Failure {
     Format(SparseFormatError),
     /// The error of an operation.
     Operation(OperationError),
+    /// The error of a list that is not a permutation.
+    Order(PermutationError),
+    /// The error of an operation with a permutation.
+    Permuting(PermuteError),
     /// The error of a Matrix Market text.
     Reading(MatrixMarketError),
     /// The error of an expression.
@@ -46,6 +51,11 @@ impl Failure {
                 let (kind, message) = (error.kind(), error.message());
                 format!(in alloc; "{kind:?}: {message}")
             }
+            Failure::Order(error) => {
+                let kind = order_kind(error);
+                format!(in alloc; "{kind}: {error}")
+            }
+            Failure::Permuting(error) => format!(in alloc; "{error:?}: {error}"),
             Failure::Reading(error) => {
                 let (kind, message) = (error.kind(), error.message());
                 format!(in alloc; "{kind:?}: {message}")
@@ -53,6 +63,15 @@ impl Failure {
             Failure::Expression(error) => format!(in alloc; "{error:?}: {error}"),
             Failure::Json => String::from_str(alloc, "Json"),
         }
+    }
+}
+
+// The name of the kind, without its index, which the message has.
+fn order_kind(error: &PermutationError) -> &'static str {
+    match error {
+        PermutationError::IndexOutOfBounds { .. } => "IndexOutOfBounds",
+        PermutationError::RepeatedIndex { .. } => "RepeatedIndex",
+        PermutationError::OutOfMemory => "OutOfMemory",
     }
 }
 
@@ -86,6 +105,24 @@ impl From<SparseFormatError> for Failure {
 impl From<OperationError> for Failure {
     fn from(error: OperationError) -> Failure {
         Failure::Operation(error)
+    }
+}
+
+impl From<PermutationError> for Failure {
+    fn from(error: PermutationError) -> Failure {
+        match error {
+            PermutationError::OutOfMemory => Failure::Memory,
+            error => Failure::Order(error),
+        }
+    }
+}
+
+impl From<PermuteError> for Failure {
+    fn from(error: PermuteError) -> Failure {
+        match error {
+            PermuteError::OutOfMemory => Failure::Memory,
+            error => Failure::Permuting(error),
+        }
     }
 }
 

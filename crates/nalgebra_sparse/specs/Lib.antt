@@ -117,6 +117,13 @@ pub use Rattle.sparse_parser.specs.declared.error.MatrixMarketErrorKind
 -- scalar types of texts
 pub use Rattle.sparse_market_scalar.specs.IntegerTexts
 pub use Rattle.sparse_market_scalar.specs.ScalarTypes
+-- permutations
+pub use Rattle.sparse_permutation.specs.PermutationFaults
+pub use Rattle.sparse_permutation.specs.Permutations
+pub use Rattle.sparse_permutation.specs.PermutedPatterns
+pub use Rattle.sparse_permutation.specs.PermutedPlain
+pub use Rattle.sparse_permutation.specs.declared.error.PermutationError
+pub use Rattle.sparse_permutation.specs.declared.error.PermuteError
 -- reading and writing
 pub use Rattle.sparse_io.specs.Banners
 pub use Rattle.sparse_io.specs.declared.banner.Banner

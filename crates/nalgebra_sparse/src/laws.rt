@@ -49,6 +49,8 @@ pub use sparse_laws::data;
 /// Operations: the product distributes over sums, its transpose is the product of the transposes, the identity is
 /// neutral.
 pub use sparse_laws::operations;
+/// Permutations: P A Pᵀ is symmetric exactly if A is, its systems are those of A, and the inverse undoes it.
+pub use sparse_permutation::laws as ordering;
 /// Rings over other rings: the product rule, norms, the Chinese remainder theorem.
 pub use sparse_rings::laws as rings;
 /// Triangular systems: a solution is unique.

@@ -6,6 +6,7 @@
 pub mod io;
 pub mod laws;
 pub mod ops;
+pub mod ordering;
 pub mod scalar;
 pub mod views;
 

@@ -7,6 +7,7 @@ mod degree_lists;
 pub mod minimum_degree;
 mod postorder;
 pub mod reverse_cuthill_mckee;
+mod tested_order;
 #[cfg(test)]
 mod tests;
 mod vertices;

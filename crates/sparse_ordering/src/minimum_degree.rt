@@ -1,12 +1,14 @@
 //! The approximate minimum degree order.
 
-ghost use Rattle.std.specs.Prelude.{◌≡◌};
+ghost use Rattle.std.specs.Prelude.{◌≡◌, length, IfOk};
 
 use crate::adjacency::Adjacency;
 use crate::degree_lists::DegreeLists;
 use crate::postorder::{AssemblyTree, postorder};
+use crate::tested_order::tested_order;
 use crate::words::{Word, fits_in_32_bits};
 use sparse_pattern::pattern::SparsityPattern;
+use sparse_permutation::permutation::Permutation;
 use std::alloc::{AllocError, Global};
 
 mod compaction;
@@ -25,9 +27,9 @@ use update::{measure_elements, update_degrees};
 
 /// Returns an order of the rows and columns of a square pattern in which its Cholesky factor has little fill.
 ///
-/// The result lists each index below `major_dim()` once: first the index of the row and column to eliminate first.
-/// `major_dim()` must equal `minor_dim()`. A pattern that is not symmetric is ordered as the union of itself and its
-/// transpose. Entries on the diagonal make no difference.
+/// The first index of its order is that of the row and column to eliminate first. `major_dim()` must equal
+/// `minor_dim()`. A pattern that is not symmetric is ordered as the union of itself and its transpose. Entries on the
+/// diagonal make no difference.
 ///
 /// Approximate minimum degree on the quotient graph (Amestoy, Davis and Duff, "An Approximate Minimum Degree Ordering
 /// Algorithm", 1996), with aggressive absorption, mass elimination and indistinguishable variables found by hashing.
@@ -45,10 +47,25 @@ use update::{measure_elements, update_degrees};
 ///     let indices = Vec::from_slice(alloc, &[1, 2, 3])?;
 ///     let star = SparsityPattern::try_from_offsets_and_indices(4, 4, offsets, indices)?;
 ///     let order = minimum_degree(alloc, &star)?;
-///     Ok(order.as_slice() == [3, 2, 1, 0].as_slice())
+///     Ok(order.order() == [3, 2, 1, 0].as_slice())
 /// }
 /// ```
-pub fn minimum_degree(alloc: Global, pattern: &SparsityPattern) -> Result<Vec<usize>, AllocError>
+pub fn minimum_degree(alloc: Global, pattern: &SparsityPattern) -> Result<Permutation, AllocError>
+    requires square { pattern.now.major_dim ≡ pattern.now.minor_dim }
+    ensures { IfOk result (λ p. length p ≡ pattern.now.major_dim) }
+{
+    tested_order(
+        alloc,
+        least_degree_indices(alloc, pattern)?,
+        pattern.major_dim(),
+    )
+}
+
+// Returns the indices in this order.
+pub(crate) fn least_degree_indices(
+    alloc: Global,
+    pattern: &SparsityPattern,
+) -> Result<Vec<usize>, AllocError>
     requires square { pattern.now.major_dim ≡ pattern.now.minor_dim }
 {
     let elbow_room = (pattern.nnz() / 5).saturating_add(pattern.major_dim());

@@ -1,18 +1,20 @@
 //! The reverse Cuthill-McKee order.
 
-ghost use Rattle.std.specs.Prelude.{◌≡◌};
+ghost use Rattle.std.specs.Prelude.{◌≡◌, length, IfOk};
 
 use crate::adjacency::Adjacency;
 use crate::breadth_first::BreadthFirst;
+use crate::tested_order::tested_order;
 use crate::words::{Word, fits_in_32_bits};
 use sparse_pattern::pattern::SparsityPattern;
+use sparse_permutation::permutation::Permutation;
 use std::alloc::{AllocError, Global};
 
 /// Returns an order of the rows and columns of a square pattern that brings its entries close to the diagonal.
 ///
-/// The result lists each index below `major_dim()` once: first the index of the row and column that comes first.
-/// `major_dim()` must equal `minor_dim()`. A pattern that is not symmetric is ordered as the union of itself and its
-/// transpose. Entries on the diagonal make no difference.
+/// The first index of its order is that of the row and column that comes first. `major_dim()` must equal
+/// `minor_dim()`. A pattern that is not symmetric is ordered as the union of itself and its transpose. Entries on the
+/// diagonal make no difference.
 ///
 /// Each connected component, in order of its least index, is searched breadth first from a pseudo-peripheral vertex
 /// (George and Liu, "An Implementation of a Pseudoperipheral Node Finder", 1979), neighbours by increasing degree and
@@ -32,10 +34,21 @@ use std::alloc::{AllocError, Global};
 ///     let indices = Vec::from_slice(alloc, &[2, 3, 1])?;
 ///     let path = SparsityPattern::try_from_offsets_and_indices(4, 4, offsets, indices)?;
 ///     let order = reverse_cuthill_mckee(alloc, &path)?;
-///     Ok(order.as_slice() == [0, 2, 1, 3].as_slice())
+///     Ok(order.order() == [0, 2, 1, 3].as_slice())
 /// }
 /// ```
 pub fn reverse_cuthill_mckee(
+    alloc: Global,
+    pattern: &SparsityPattern,
+) -> Result<Permutation, AllocError>
+    requires square { pattern.now.major_dim ≡ pattern.now.minor_dim }
+    ensures { IfOk result (λ p. length p ≡ pattern.now.major_dim) }
+{
+    tested_order(alloc, narrow_indices(alloc, pattern)?, pattern.major_dim())
+}
+
+// Returns the indices in this order.
+pub(crate) fn narrow_indices(
     alloc: Global,
     pattern: &SparsityPattern,
 ) -> Result<Vec<usize>, AllocError>

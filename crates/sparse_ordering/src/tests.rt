@@ -1,7 +1,7 @@
 //! Tests: that orders are permutations and reduce the fill and the bandwidth, which no contract says.
 
-use crate::minimum_degree::{eliminate_all, minimum_degree};
-use crate::reverse_cuthill_mckee::reverse_cuthill_mckee;
+use crate::minimum_degree::{eliminate_all, least_degree_indices};
+use crate::reverse_cuthill_mckee::narrow_indices;
 use counts::{bandwidth, factor_entries, is_permutation};
 use shapes::{Shape, pattern_of};
 use std::alloc::Global;
@@ -21,8 +21,8 @@ fn expect_permutations(
 ) -> Result<(), Fail> {
     let pattern = pattern_of(alloc, size, shape)?;
     for order in [
-        minimum_degree(alloc, &pattern)?,
-        reverse_cuthill_mckee(alloc, &pattern)?,
+        least_degree_indices(alloc, &pattern)?,
+        narrow_indices(alloc, &pattern)?,
     ] {
         assert_eq!(rt; order.len(), size, "{shape:?}");
         assert!(rt;
@@ -80,7 +80,7 @@ fn minimum_degree_has_the_fill_of_amd(rt: HostRuntime) -> Result<(), Fail> {
     ];
     for (size, shape, entries) in fills {
         let pattern = pattern_of(rt.alloc(), size, shape)?;
-        let order = minimum_degree(rt.alloc(), &pattern)?;
+        let order = least_degree_indices(rt.alloc(), &pattern)?;
         let found = factor_entries(rt.alloc(), &pattern, &order)?;
         assert_eq!(rt; found, entries, "{size} {shape:?}");
     }
@@ -91,7 +91,7 @@ fn minimum_degree_has_the_fill_of_amd(rt: HostRuntime) -> Result<(), Fail> {
 #[test]
 fn a_dense_row_comes_last(rt: HostRuntime) -> Result<(), Fail> {
     let star = pattern_of(rt.alloc(), 400, Shape::Star)?;
-    let order = minimum_degree(rt.alloc(), &star)?;
+    let order = least_degree_indices(rt.alloc(), &star)?;
     assert_eq!(rt; order.last().copied(), Some(0));
     Ok(())
 }
@@ -109,7 +109,7 @@ fn reverse_cuthill_mckee_has_the_known_bandwidth(rt: HostRuntime) -> Result<(), 
     ];
     for (size, shape, width) in bands {
         let pattern = pattern_of(rt.alloc(), size, shape)?;
-        let order = reverse_cuthill_mckee(rt.alloc(), &pattern)?;
+        let order = narrow_indices(rt.alloc(), &pattern)?;
         assert_eq!(rt;
             bandwidth(rt.alloc(), &pattern, &order)?,
             width,
@@ -124,10 +124,10 @@ fn reverse_cuthill_mckee_has_the_known_bandwidth(rt: HostRuntime) -> Result<(), 
 fn a_pattern_is_ordered_as_the_union_with_its_transpose(rt: HostRuntime) -> Result<(), Fail> {
     let upper = pattern_of(rt.alloc(), 50, Shape::UpperPath)?;
     let whole = pattern_of(rt.alloc(), 50, Shape::Path)?;
-    let of_upper = minimum_degree(rt.alloc(), &upper)?;
-    assert!(rt; of_upper == minimum_degree(rt.alloc(), &whole)?);
-    let of_upper = reverse_cuthill_mckee(rt.alloc(), &upper)?;
-    assert!(rt; of_upper == reverse_cuthill_mckee(rt.alloc(), &whole)?);
+    let of_upper = least_degree_indices(rt.alloc(), &upper)?;
+    assert!(rt; of_upper == least_degree_indices(rt.alloc(), &whole)?);
+    let of_upper = narrow_indices(rt.alloc(), &upper)?;
+    assert!(rt; of_upper == narrow_indices(rt.alloc(), &whole)?);
     Ok(())
 }
 
