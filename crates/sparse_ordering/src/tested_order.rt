@@ -10,7 +10,6 @@ use std::alloc::{AllocError, Global};
 ///
 /// It is not proved that the orders of this crate list each index once. So each list is tested, in linear time, and the
 /// identity takes the place of one that fails; tests show that none does. Fails only if an allocation fails.
-#[tactic(auto, using(sparse_permutation::proofs::Orders::length-below))]
 pub(crate) fn tested_order(
     alloc: Global,
     order: Vec<usize>,

@@ -11,8 +11,8 @@ returns c =
       sizes = rw (high, wide, ← c.major_dim.ensures, ← c.minor_dim.ensures) sizes.sizes;
       high = rw high sizes.height;
       wide = rw wide sizes.width;
-      counts = λ r k down across. rw (high, wide)
-          (picture.counts r k (omega (arith, down, high)) (omega (arith, across, wide)));
-      black = λ r k down across. rw (high, wide)
-          (picture.black r k (omega (arith, down, high)) (omega (arith, across, wide)));
+      counts = λ r k down across. rw (← high, ← wide)
+          at (picture.counts r k (omega (arith, down, high)) (omega (arith, across, wide)));
+      black = λ r k down across. rw (← high, ← wide)
+          at (picture.black r k (omega (arith, down, high)) (omega (arith, across, wide)));
     }
