@@ -14,7 +14,7 @@ use Rattle.nalgebra_sparse.specs.Compressed.{Compressed, lane_triplets, transpos
 use Rattle.nalgebra_sparse.specs.PlainOfLanes.{plain_of_cols}
 use Rattle.nalgebra_sparse.specs.OneMatrix.{coo_of_cols}
 use Rattle.nalgebra_sparse.specs.Meaning.{value_triplet, values_of}
-use Rattle.nalgebra_sparse.specs.Written.{heading, size_line, triplet_line, written_text, text_of}
+use Rattle.nalgebra_sparse.specs.Written.{heading, size_line, triplet_line, written_text_with, text_of}
 
 module _ {T V : Type 0} (h : T → V) where
   any-read : (i j : ℕ) (ts : List (ℕ × ℕ × T))
@@ -48,7 +48,7 @@ module _ {T V : Type 0} (h : T → V) where
     -- both lists have the same text
     pub text-read : (name : List ℕ) (m : Coo T)
         → text_of name (λ x. text (h x)) m ≡ text_of name text (values_of h m)
-    unfolding written_text
+    unfolding written_text_with
     text-read name m =
         ap (λ n. heading name ++ (size_line m.nrows m.ncols n
         ++ flat_map (triplet_line (λ x. text (h x))) m.triplets))
