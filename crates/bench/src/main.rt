@@ -11,9 +11,8 @@ mod task;
 use input::{is_pattern, list_in};
 use measure::Best;
 use std::alloc::{AllocError, Global};
-use std::env;
-use std::fs;
 use std::test::Fail;
+use std::{env, fs};
 
 const USAGE: &str =
     "usage: bench coo2csr|transpose|spgemm|spadd|spmmd|solve|fill|ldl|read FILE REPS";

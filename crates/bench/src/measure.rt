@@ -31,12 +31,7 @@ pub fn best_of_copies<
     A: Answer,
     G: Fn(Global) -> Result<C, Fail>,
     F: Fn(Global, C) -> Result<A, Fail>,
->(
-    rt: &HostRuntime,
-    reps: usize,
-    copy: G,
-    run: F,
-) -> Result<Best, Fail>
+>(rt: &HostRuntime, reps: usize, copy: G, run: F) -> Result<Best, Fail>
     requires copies { G.IsAlwaysCallable copy }
     requires runs { F.IsAlwaysCallable run }
 {
@@ -55,12 +50,7 @@ pub fn best_of_copies<
 }
 
 // One run: its nanoseconds, and the answer.
-fn timed<
-    C: Drop,
-    A: Answer,
-    G: Fn(Global) -> Result<C, Fail>,
-    F: Fn(Global, C) -> Result<A, Fail>,
->(
+fn timed<C: Drop, A: Answer, G: Fn(Global) -> Result<C, Fail>, F: Fn(Global, C) -> Result<A, Fail>>(
     rt: &HostRuntime,
     copy: &G,
     run: &F,

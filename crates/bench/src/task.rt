@@ -89,7 +89,13 @@ fn dense_product(
     if a.ncols() != b.nrows() || product.nrows() != a.nrows() || product.ncols() != b.ncols() {
         return Err(Fail::from(MISFIT));
     }
-    spmm_csr_dense(W64::new(0), &mut product, W64::new(1), Op::NoOp(a), Op::NoOp(b));
+    spmm_csr_dense(
+        W64::new(0),
+        &mut product,
+        W64::new(1),
+        Op::NoOp(a),
+        Op::NoOp(b),
+    );
     Ok(product)
 }
 

@@ -114,9 +114,7 @@ fn compose(turn: &mut Turn, words: &[Word<'_>]) -> Result<String, Failure> {
     order_text(turn.alloc(), &made)
 }
 
-fn around_then<'a>(
-    words: &'a [Word<'a>],
-) -> Result<(&'a [Word<'a>], &'a [Word<'a>]), Failure> {
+fn around_then<'a>(words: &'a [Word<'a>]) -> Result<(&'a [Word<'a>], &'a [Word<'a>]), Failure> {
     for (at, word) in words.iter().enumerate() {
         if let Word::Name("then") = *word {
             let (first, next) = words.split_at(at);
