@@ -50,33 +50,22 @@ pub fn run(rt: &HostRuntime, turn: &mut Turn, case: &str) -> Outcome {
             run_args(rt, turn, Command::Integer { file: A, scale })
         }
         "symmetric" => run_args(rt, turn, Command::Symmetric { file: A }),
-        "solve" => {
-            let modulus = None;
-            run_args(
-                rt,
-                turn,
-                Command::Solve {
-                    modulus,
-                    a: A,
-                    b: B,
-                },
-            )
-        }
-        "solve modulo" => run_args(
-            rt,
-            turn,
-            Command::Solve {
-                modulus,
-                a: A,
-                b: B,
-            },
-        ),
+        "solve" => run_args(rt, turn, solve(None)),
+        "solve modulo" => run_args(rt, turn, solve(modulus)),
         "check" => {
             let (a, x, b) = (A, X, B);
             run_args(rt, turn, Command::Check { modulus, a, x, b })
         }
         _ => Outcome::Unknown,
     }
+}
+
+// The solution of A X = B.
+fn solve(modulus: Option<u64>) -> Command<'static>
+    ensures { IsSized result }
+{
+    let (a, b) = (A, B);
+    Command::Solve { modulus, a, b }
 }
 
 // A picture of A.
