@@ -9,6 +9,7 @@ pub mod Plain
 pub mod RingMaps
 pub mod Whole
 pub mod Inverses
+pub mod ZeroRing
 pub mod Moduli
 pub mod ModNumbers
 pub mod WrappingValues

@@ -6,12 +6,14 @@ ghost use Rattle.sparse_algebra.specs.Algebra.{CommRing};
 pub mod integers;
 mod inverses;
 mod newton;
+mod no_value;
 mod odd;
 mod residues;
 mod wide;
 pub mod wrapping;
 
 pub use inverses::Units;
+pub use no_value::NoValue;
 pub use residues::Mod;
 pub use wide::W128;
 pub use wrapping::{W32, W64};

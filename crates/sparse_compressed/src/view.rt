@@ -1,16 +1,17 @@
 //! Compressed matrices in borrowed arrays.
 
-ghost use Rattle.std.specs.Prelude.{◌≡◌, ◌<◌, IfOk, IfErr, OnOk, length, slice_range};
+ghost use Rattle.std.specs.Prelude.{◌≡◌, ◌<◌, ⊤, IfOk, IfErr, IsOk, OnOk, length, slice_range};
 ghost use Rattle.sparse_pattern.specs.Raw.{start_of, end_of, lane_of};
 ghost use Rattle.sparse_compressed.specs.Compressed.{arrays_of, IsSound};
 ghost use Rattle.sparse_compressed.specs.SortedFaults.{IsFirstSortedFault};
 
 use crate::{CsMatrix, SortedFault};
 use sparse_pattern::pattern::check;
+use std::alloc::AllocError;
 use std::marker::Model;
 
 /// A compressed matrix whose arrays are borrowed: those of a [`CsMatrix`], or arrays of another program.
-#[derive(Drop)]
+#[derive(Debug, Drop)]
 pub struct CsView<'a, T> {
     major_dim: usize,
     minor_dim: usize,
@@ -20,9 +21,12 @@ pub struct CsView<'a, T> {
 }
 
 impl<'a, T> Model for CsView<'a, T> {
-    ghost use Rattle.sparse_compressed.specs.Compressed.{Compressed, arrays_of, IsSound};
+    ghost use Rattle.sparse_compressed.specs.Compressed.{Compressed, compressed_code};
+    ghost use Rattle.sparse_compressed.specs.Compressed.{arrays_of, IsSound};
 
     ghost Value = { Compressed T };
+
+    ghost coded = { compressed_code T.code };
 
     ghost view = { λ m. arrays_of m.major_dim m.minor_dim m.offsets.now m.indices.now
         m.values.now };
@@ -52,6 +56,8 @@ impl<'a, T> CsView<'a, T> {
             (IsSound (arrays_of major_dim minor_dim offsets.now indices.now values.now)) }
         ensures fault { IfErr result (IsFirstSortedFault
             (arrays_of major_dim minor_dim offsets.now indices.now values.now)) }
+        ensures accepted { IsSound
+            (arrays_of major_dim minor_dim offsets.now indices.now values.now) → IsOk result }
     {
         match check(major_dim, minor_dim, offsets, indices) {
             Ok(()) => {
@@ -77,12 +83,35 @@ impl<'a, T> CsView<'a, T> {
         self.major_dim
     }
 
-    /// Returns the number of entries, including those whose value is zero.
-    pub fn nnz(&self) -> usize
-        ensures nnz { result ≡ length self.now.pattern.indices }
+    /// Returns the number of possible minor indices.
+    pub fn minor_dim(&self) -> usize
+        ensures { result ≡ self.now.pattern.minor_dim }
+    {
+        self.minor_dim
+    }
+
+    /// Returns the offsets.
+    pub fn offsets(&self) -> &'a [usize]
+        ensures offsets { result.now ≡ self.now.pattern.offsets }
         ensures sound { IsSound self.now }
     {
-        self.indices.len()
+        self.offsets
+    }
+
+    /// Returns the minor indices, lane by lane.
+    pub fn indices(&self) -> &'a [usize]
+        ensures indices { result.now ≡ self.now.pattern.indices }
+        ensures sound { IsSound self.now }
+    {
+        self.indices
+    }
+
+    /// Returns the values, lane by lane.
+    pub fn values(&self) -> &'a [T]
+        ensures values { result.now ≡ self.now.values }
+        ensures sound { IsSound self.now }
+    {
+        self.values
     }
 
     /// Returns the minor indices and the values of a lane, which must be within bounds.
@@ -112,5 +141,21 @@ impl<T> CsMatrix<T> {
             indices: pattern.minor_indices(),
             values: self.values(),
         }
+    }
+}
+
+impl<'a, T> Clone for CsView<'a, T> {
+    ghost is_clone = { λ s t. t ≡ s };
+
+    ghost is_infallible = { λ _. ⊤ };
+
+    fn clone(&self) -> Result<CsView<'a, T>, AllocError> {
+        Ok(CsView {
+            major_dim: self.major_dim,
+            minor_dim: self.minor_dim,
+            offsets: self.offsets,
+            indices: self.indices,
+            values: self.values,
+        })
     }
 }

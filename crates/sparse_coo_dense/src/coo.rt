@@ -127,7 +127,7 @@ impl<T> CooMatrix<T> {
             (AreParts nrows ncols row_indices.items col_indices.items values.items) }
         ensures fault { IfErr result (IsFirstTripletFault nrows ncols
             row_indices.items col_indices.items (length values.items)) }
-        ensures taken { AreParts nrows ncols row_indices.items col_indices.items values.items
+        ensures accepted { AreParts nrows ncols row_indices.items col_indices.items values.items
             → IsOk result }
     {
         if let Some(fault) = first_fault(nrows, ncols, &row_indices, &col_indices, values.len()) {

@@ -241,7 +241,7 @@ impl PartialEq for SparsityPattern {
 
     fn eq(&self, other: &Self) -> bool
         ensures value { result ≡ raw_eq self.now other.now }
-        ensures places { IsTrue result ↔ HasSameEntries self.now other.now }
+        ensures entries { IsTrue result ↔ HasSameEntries self.now other.now }
     {
         self.minor_dim == other.minor_dim
             && self.major_offsets == other.major_offsets

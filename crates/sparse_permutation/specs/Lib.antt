@@ -2,5 +2,4 @@ pub mod Permutations
 pub mod PermutationFaults
 pub mod PermutedPlain
 pub mod PermutedPatterns
-pub mod InnerZeroRing
 pub mod InnerRenumbered

@@ -3,7 +3,6 @@
 
 pub mod error;
 pub mod laws;
-mod no_value;
 pub mod permutation;
 mod renumbering;
 pub mod rows;

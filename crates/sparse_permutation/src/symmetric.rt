@@ -7,11 +7,10 @@ ghost use Rattle.sparse_permutation.specs.PermutedPlain.{plain_permuted};
 ghost use Rattle.sparse_permutation.specs.PermutedPatterns.{IsPermutedPattern};
 
 use crate::error::PermuteError;
-use crate::no_value::NoValue;
 use crate::permutation::Permutation;
 use crate::renumbering::renumber;
 use sparse_algebra::recall;
-use sparse_algebra::scalar::Ring;
+use sparse_algebra::scalar::{NoValue, Ring};
 use sparse_convert::serial::{convert_coo_csc, convert_coo_csr, convert_csc_coo, convert_csr_coo};
 use sparse_csr_csc::csc::CscMatrix;
 use sparse_csr_csc::csr::CsrMatrix;
@@ -120,7 +119,7 @@ pub fn permute_symmetric_pattern(
     pattern: &SparsityPattern,
     permutation: &Permutation,
 ) -> Result<SparsityPattern, PermuteError>
-    ensures places { IfOk result (IsPermutedPattern permutation.now pattern.now) }
+    ensures entries { IfOk result (IsPermutedPattern permutation.now pattern.now) }
     ensures not_square { pattern.now.major_dim ≢ pattern.now.minor_dim
         → IsErrOf result PermuteError.NotSquare }
     ensures mismatch { pattern.now.major_dim ≡ pattern.now.minor_dim

@@ -1,6 +1,5 @@
 pub mod PatternSums
 pub mod InnerMerging
 pub mod InnerSigns
-pub mod InnerZeroRing
 pub mod InnerAdding
 pub mod InnerTargets

@@ -4,7 +4,6 @@
 mod add;
 mod in_order;
 mod merge;
-mod no_value;
 mod pattern;
 mod prealloc;
 mod room;

@@ -5,7 +5,7 @@ ghost use Rattle.sparse_pattern.specs.Raw.{IsValid};
 ghost use Rattle.sparse_sums.specs.PatternSums.{IsUnionOf};
 
 use crate::merge::merge_lanes;
-use crate::no_value::NoValue;
+use sparse_algebra::scalar::NoValue;
 use sparse_pattern::pattern::SparsityPattern;
 use std::alloc::{AllocError, Global};
 

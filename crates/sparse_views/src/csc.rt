@@ -9,9 +9,9 @@ ghost use Rattle.sparse_compressed.specs.SortedFaults.{IsSortedRefusal, sorted_k
 ghost use Rattle.sparse_compressed.specs.StoredEntries.{IsEntryAt, IsEntryOf, IsInBounds};
 ghost use Rattle.sparse_dense_ops.specs.SparseVectors.{elements};
 
-use crate::arrays::CsArrays;
+use crate::reading;
 use sparse_algebra::scalar::Ring;
-use sparse_compressed::SortedFault;
+use sparse_compressed::{CsView, SortedFault};
 use sparse_csr_csc::csc::{CscCol, CscMatrix};
 use sparse_pattern::entry::SparseEntry;
 use sparse_pattern::error::SparseFormatError;
@@ -36,7 +36,7 @@ use std::marker::Model;
 /// ```
 #[derive(Debug, Drop)]
 pub struct CscView<'a, T> {
-    arrays: CsArrays<'a, T>,
+    arrays: CsView<'a, T>,
 }
 
 impl<'a, T> Model for CscView<'a, T> {
@@ -57,7 +57,7 @@ impl<'a, T> CscView<'a, T> {
         ensures { result ≡ matrix.now }
     {
         CscView {
-            arrays: CsArrays::of(matrix.cs()),
+            arrays: matrix.cs().view(),
         }
     }
 
@@ -84,7 +84,7 @@ impl<'a, T> CscView<'a, T> {
         ensures accepted { IsSound
             (arrays_of ncols nrows col_offsets.now row_indices.now values.now) → IsOk result }
     {
-        match CsArrays::try_from_slices(ncols, nrows, col_offsets, row_indices, values) {
+        match CsView::try_from_slices(ncols, nrows, col_offsets, row_indices, values) {
             Ok(arrays) => Ok(CscView { arrays }),
             Err(fault) => Err(error_of(fault)),
         }
@@ -142,7 +142,7 @@ impl<'a, T> CscView<'a, T> {
         ensures col { result ≡ lane_at self.now col_index }
         ensures sound { IsSound self.now }
     {
-        CscCol::from_lane(self.arrays.lane(col_index))
+        CscCol::from_lane(reading::lane(&self.arrays, col_index))
     }
 
     /// Returns a column, or `None` if `col_index` is out of bounds.
@@ -161,7 +161,7 @@ impl<'a, T> CscView<'a, T> {
         ensures col { IfSome result (λ col. col ≡ lane_at self.now col_index) }
         ensures sound { IsSound self.now }
     {
-        match self.arrays.get_lane(col_index) {
+        match reading::get_lane(&self.arrays, col_index) {
             Some(lane) => Some(CscCol::from_lane(lane)),
             None => None,
         }
@@ -174,7 +174,7 @@ impl<'a, T> CscView<'a, T> {
         ensures entry { IsEntryAt self.now col_index row_index result }
         ensures sound { IsSound self.now }
     {
-        self.arrays.index_entry(col_index, row_index)
+        reading::index_entry(&self.arrays, col_index, row_index)
     }
 
     /// Returns the entry at a row and a column, `Zero` if none is stored, or `None` if an index is out of bounds.
@@ -183,7 +183,7 @@ impl<'a, T> CscView<'a, T> {
         ensures entry { IsEntryOf self.now col_index row_index result }
         ensures sound { IsSound self.now }
     {
-        self.arrays.get_entry(col_index, row_index)
+        reading::get_entry(&self.arrays, col_index, row_index)
     }
 }
 
@@ -194,7 +194,7 @@ impl<'a, T: Copy> CscView<'a, T> {
     pub fn to_csc(&self, alloc: Global) -> Result<CscMatrix<T>, AllocError>
         ensures { IfOk result (λ m. m ≡ self.now) }
     {
-        Ok(CscMatrix::from_cs(self.arrays.to_matrix(alloc)?))
+        Ok(CscMatrix::from_cs(reading::to_matrix(&self.arrays, alloc)?))
     }
 }
 
@@ -213,7 +213,7 @@ impl<'a, T: Ring> CscView<'a, T> {
             (elements T.ring T.value T.zero_value x.now k)) }
         ensures sound { IsSound self.now }
     {
-        self.arrays.dot_lane(col_index, x)
+        reading::dot_lane(&self.arrays, col_index, x)
     }
 }
 

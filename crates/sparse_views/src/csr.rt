@@ -9,9 +9,9 @@ ghost use Rattle.sparse_compressed.specs.SortedFaults.{IsSortedRefusal, sorted_k
 ghost use Rattle.sparse_compressed.specs.StoredEntries.{IsEntryAt, IsEntryOf, IsInBounds};
 ghost use Rattle.sparse_dense_ops.specs.SparseVectors.{elements};
 
-use crate::arrays::CsArrays;
+use crate::reading;
 use sparse_algebra::scalar::Ring;
-use sparse_compressed::SortedFault;
+use sparse_compressed::{CsView, SortedFault};
 use sparse_csr_csc::csr::{CsrMatrix, CsrRow};
 use sparse_pattern::entry::SparseEntry;
 use sparse_pattern::error::SparseFormatError;
@@ -36,7 +36,7 @@ use std::marker::Model;
 /// ```
 #[derive(Debug, Drop)]
 pub struct CsrView<'a, T> {
-    arrays: CsArrays<'a, T>,
+    arrays: CsView<'a, T>,
 }
 
 impl<'a, T> Model for CsrView<'a, T> {
@@ -67,7 +67,7 @@ impl<'a, T> CsrView<'a, T> {
         ensures { result ≡ matrix.now }
     {
         CsrView {
-            arrays: CsArrays::of(matrix.cs()),
+            arrays: matrix.cs().view(),
         }
     }
 
@@ -105,7 +105,7 @@ impl<'a, T> CsrView<'a, T> {
         ensures accepted { IsSound
             (arrays_of nrows ncols row_offsets.now col_indices.now values.now) → IsOk result }
     {
-        match CsArrays::try_from_slices(nrows, ncols, row_offsets, col_indices, values) {
+        match CsView::try_from_slices(nrows, ncols, row_offsets, col_indices, values) {
             Ok(arrays) => Ok(CsrView { arrays }),
             Err(fault) => Err(error_of(fault)),
         }
@@ -163,7 +163,7 @@ impl<'a, T> CsrView<'a, T> {
         ensures row { result ≡ lane_at self.now row_index }
         ensures sound { IsSound self.now }
     {
-        CsrRow::from_lane(self.arrays.lane(row_index))
+        CsrRow::from_lane(reading::lane(&self.arrays, row_index))
     }
 
     /// Returns a row, or `None` if `row_index` is out of bounds.
@@ -182,7 +182,7 @@ impl<'a, T> CsrView<'a, T> {
         ensures row { IfSome result (λ row. row ≡ lane_at self.now row_index) }
         ensures sound { IsSound self.now }
     {
-        match self.arrays.get_lane(row_index) {
+        match reading::get_lane(&self.arrays, row_index) {
             Some(lane) => Some(CsrRow::from_lane(lane)),
             None => None,
         }
@@ -195,7 +195,7 @@ impl<'a, T> CsrView<'a, T> {
         ensures entry { IsEntryAt self.now row_index col_index result }
         ensures sound { IsSound self.now }
     {
-        self.arrays.index_entry(row_index, col_index)
+        reading::index_entry(&self.arrays, row_index, col_index)
     }
 
     /// Returns the entry at a row and a column, `Zero` if none is stored, or `None` if an index is out of bounds.
@@ -204,7 +204,7 @@ impl<'a, T> CsrView<'a, T> {
         ensures entry { IsEntryOf self.now row_index col_index result }
         ensures sound { IsSound self.now }
     {
-        self.arrays.get_entry(row_index, col_index)
+        reading::get_entry(&self.arrays, row_index, col_index)
     }
 }
 
@@ -215,7 +215,7 @@ impl<'a, T: Copy> CsrView<'a, T> {
     pub fn to_csr(&self, alloc: Global) -> Result<CsrMatrix<T>, AllocError>
         ensures { IfOk result (λ m. m ≡ self.now) }
     {
-        Ok(CsrMatrix::from_cs(self.arrays.to_matrix(alloc)?))
+        Ok(CsrMatrix::from_cs(reading::to_matrix(&self.arrays, alloc)?))
     }
 }
 
@@ -244,7 +244,7 @@ impl<'a, T: Ring> CsrView<'a, T> {
             (elements T.ring T.value T.zero_value x.now k)) }
         ensures sound { IsSound self.now }
     {
-        self.arrays.dot_lane(row_index, x)
+        reading::dot_lane(&self.arrays, row_index, x)
     }
 }
 

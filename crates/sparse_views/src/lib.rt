@@ -6,11 +6,11 @@
 //! checked again.
 #![tactic(auto)]
 
-mod arrays;
 mod coo;
 mod csc;
 mod csr;
 pub mod laws;
+mod reading;
 
 pub use coo::CooView;
 pub use csc::CscView;

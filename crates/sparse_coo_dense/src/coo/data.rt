@@ -20,7 +20,7 @@ impl<T> CooMatrix<T> {
         ensures valid { OnOk result (IsCooData source) }
         ensures fault { IfErr result (IsFirstTripletFault source.nrows source.ncols
             source.row_indices.items source.col_indices.items (length source.values.items)) }
-        ensures taken { IsCooData source → IsOk result }
+        ensures accepted { IsCooData source → IsOk result }
     {
         CooMatrix::try_from_triplets(
             source.nrows,

@@ -13,7 +13,7 @@ impl SparsityPattern {
     pub fn entries(&self) -> SparsityPatternIter<'_>
         ensures all { result ≡ entries_of self.now }
         ensures count { length result ≡ length self.now.indices }
-        ensures places { (i j : ℕ) → Contains result (i, j) ↔ IsEntry self.now i j }
+        ensures entries { (i j : ℕ) → Contains result (i, j) ↔ IsEntry self.now i j }
         ensures rising { AllPairs Precedes result }
     {
         let remaining: &[usize] = if self.major_offsets.len() > 1 {

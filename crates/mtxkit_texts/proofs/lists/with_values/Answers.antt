@@ -7,7 +7,7 @@ use Rattle.mtxkit_texts.proofs.lists.with_values.Goals as goal
 
 pub unreachable-requires : goal.unreachable-requires
 unreachable-requires g c =
-    absurd (false≢true (c.in-Err.ensures.taken
+    absurd (false≢true (c.in-Err.ensures.accepted
     (rw (
       c.nrows.ensures,
       c.ncols.ensures,

@@ -23,7 +23,7 @@ impl SparsityPattern {
         requires square { self.now.minor_dim ≡ self.now.major_dim }
         ensures size { IfOk result (λ found. IfSome found (λ moved.
             length moved.items ≡ length self.now.indices)) }
-        ensures places { IfOk result (λ found. IfSome found (λ moved.
+        ensures symmetric { IfOk result (λ found. IfSome found (λ moved.
             IsTransposedPattern self.now self.now)) }
         ensures values { IfOk result (λ found. IfSome found (λ moved.
             AreTransposedValues self.now self.now values.now moved.items)) }

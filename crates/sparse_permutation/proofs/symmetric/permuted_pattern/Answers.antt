@@ -1,6 +1,6 @@
 use Rattle.std.proofs.Common.{◌≡◌, ap, subst, ◌∙◌}
 use Rattle.sparse_pattern.specs.Raw.{Raw}
-use Rattle.sparse_permutation.specs.InnerZeroRing.{zero_ring}
+use Rattle.sparse_algebra.specs.ZeroRing.{zero_ring}
 use Rattle.sparse_permutation.specs.PermutedPatterns.{IsPermutedPattern}
 use Rattle.sparse_permutation.proofs.PermutedEntries.{permuted_entries}
 use Rattle.sparse_permutation.proofs.symmetric.permuted_pattern.Goals as goal

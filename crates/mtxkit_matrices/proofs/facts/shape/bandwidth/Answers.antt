@@ -7,7 +7,7 @@ loop-row-init c =
     let all : c.into_iter-row-iterator.result ≡ c.entries-row-items.result = search rules in
     record {
       half = rw all (none_done c.args.pattern.now c.entries-row-items.result _
-          c.entries-row-items.ensures.places);
+          c.entries-row-items.ensures.entries);
       reached = inl refl;
     }
 

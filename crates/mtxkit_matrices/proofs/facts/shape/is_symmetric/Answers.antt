@@ -3,7 +3,7 @@ use Rattle.mtxkit_matrices.proofs.facts.shape.is_symmetric.Goals as goal
 
 pub returns : goal.returns
 returns c =
-    let same = c.eq.ensures.places in
+    let same = c.eq.ensures.entries in
     let t = c.in_ok-transposed.ensures.transposed in (
       λ is.
           let s = same.0 is in

@@ -15,7 +15,7 @@ loop-lane-init c =
     let all : c.into_iter-lane-iterator.result ≡ c.entries-lane-items.result = search rules in
     record {
       half = rw all (none_done c.args.pattern.now c.entries-lane-items.result _
-          c.entries-lane-items.ensures.places);
+          c.entries-lane-items.ensures.entries);
       cells = refl;
       counted = λ r col down across.
           rw (c.requires.zeros (r * c.args.width + col), all, c.entries-lane-items.ensures.all) (omega arith);

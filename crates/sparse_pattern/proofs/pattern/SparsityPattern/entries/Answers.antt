@@ -12,8 +12,8 @@ pub returns-clause-count : goal.returns-clause-count
 returns-clause-count c = rw (returns-clause-all c)
     (length-entries c.args.self.now (subst IsValid c.self.view_is c.self.invariant))
 
-pub returns-clause-places : goal.returns-clause-places
-returns-clause-places c i j = rw (returns-clause-all c)
+pub returns-clause-entries : goal.returns-clause-entries
+returns-clause-entries c i j = rw (returns-clause-all c)
     (Contains-entries_of c.args.self.now (subst IsValid c.self.view_is c.self.invariant) i j)
 
 pub returns-clause-rising : goal.returns-clause-rising

@@ -3,8 +3,8 @@ use Rattle.sparse_pattern.specs.Raw.{start_of}
 use Rattle.sparse_pattern.proofs.MirroredEntries.{own_transpose, moved_values}
 use Rattle.sparse_pattern.proofs.pattern.SparsityPattern.mirrored_values.Goals as goal
 
-pub returns-clause-places : goal.returns-clause-places
-returns-clause-places g c =
+pub returns-clause-symmetric : goal.returns-clause-symmetric
+returns-clause-symmetric g c =
     let d = c.args.self.now in
     let valid = c.major_offsets.ensures.valid in
     let last : c.loop-lane.lane ≡ d.major_dim = omega arith in

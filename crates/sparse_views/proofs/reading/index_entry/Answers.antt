@@ -9,7 +9,7 @@ use Rattle.sparse_pattern.proofs.PatternLanes.{length-lane}
 use Rattle.sparse_compressed.specs.Compressed.{Compressed, IsSound}
 use Rattle.sparse_compressed.specs.Lanes.{lane_at, IsLaneEntryAt}
 use Rattle.sparse_compressed.specs.StoredEntries.{IsEntryAt}
-use Rattle.sparse_views.proofs.arrays.CsArrays.index_entry.Goals as goal
+use Rattle.sparse_views.proofs.reading.index_entry.Goals as goal
 
 -- the entry at j of lane i is the entry at (i, j) of the matrix
 entry_in_lane : {T : Type 0} (m : Compressed T) → IsSound m → (i j : ℕ) → i < m.pattern.major_dim
@@ -28,5 +28,5 @@ entry_in_lane m sound i j lane Zero missing =
 
 pub returns-clause-entry : goal.returns-clause-entry
 returns-clause-entry g c =
-    entry_in_lane c.args.self.now c.lane.ensures.sound c.args.i c.args.j c.requires.major
+    entry_in_lane c.args.arrays.now c.lane.ensures.sound c.args.i c.args.j c.requires.major
     c.index_entry.result (rw (c.lane.ensures.lane) at c.index_entry.ensures)

@@ -1,12 +1,12 @@
 //! The scalar of the zero ring, which has one element.
 
-ghost use Rattle.sparse_permutation.specs.InnerZeroRing.{zero_ring};
+ghost use Rattle.sparse_algebra.specs.ZeroRing.{zero_ring};
 
-use sparse_algebra::scalar::{Ring, Zero};
+use super::{Ring, Zero};
 
-// The only scalar of the zero ring. It has no bytes, so an array of it takes no memory: a matrix over it is a pattern.
+/// The only scalar of the zero ring. It has no bytes, so an array of it takes no memory: a matrix over it is a pattern.
 #[derive(Clone, Copy, PartialEq)]
-pub(crate) struct NoValue;
+pub struct NoValue;
 
 impl Zero for NoValue {
     ghost zero_value = { record {} };
