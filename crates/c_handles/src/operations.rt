@@ -9,7 +9,8 @@ ghost use Rattle.sparse_algebra.specs.Plain.{plain_sum, plain_transpose};
 ghost use Rattle.c_arrays.specs.Arrays.{ring64};
 ghost use Rattle.c_arrays.specs.Refused.{IsOutOfMemoryOr};
 ghost use Rattle.c_arrays.specs.declared.refusal.Refusal.TheVariants.{EmptyHandle};
-ghost use Rattle.c_handles.specs.Held.{plain_held, Holds, IsEmpty, IsSumError, IsProductError};
+ghost use Rattle.c_handles.specs.Held.{plain_held, Holds, IsEmpty, IsEitherEmpty};
+ghost use Rattle.c_handles.specs.Held.{IsSumError, IsProductError};
 
 use crate::handle::MatrixHandle;
 use crate::held_matrix::{put, put_shared, shared};
@@ -183,8 +184,7 @@ pub fn multiply(
     ensures unchanged { OnErr result (out.new.value ≡ out.old.value) }
     ensures fault { IfErr result (IsOutOfMemoryOr (IsProductError a.old.value b.old.value)) }
 {
-    let a = shared(alloc, a)?;
-    let b = shared(alloc, b)?;
+    let (a, b) = shared_pair(alloc, a, b)?;
     if a.ncols() != b.nrows() {
         return Err(Refusal::ShapeMismatch);
     }
@@ -210,10 +210,28 @@ fn shared_alike(
         (arc_value p.0).pattern.minor_dim ≡ (arc_value p.1).pattern.minor_dim) }
     ensures fault { IfErr result (IsOutOfMemoryOr (IsSumError a.old.value b.old.value)) }
 {
-    let a = shared(alloc, a)?;
-    let b = shared(alloc, b)?;
+    let (a, b) = shared_pair(alloc, a, b)?;
     if a.nrows() != b.nrows() || a.ncols() != b.ncols() {
         return Err(Refusal::ShapeMismatch);
     }
+    Ok((a, b))
+}
+
+// Returns the matrices that two handles hold, with shared ownership.
+fn shared_pair(
+    alloc: Global,
+    a: &mut MatrixHandle,
+    b: &mut MatrixHandle,
+) -> Result<(Arc<CsrMatrix<W64>>, Arc<CsrMatrix<W64>>), Refusal>
+    ensures kept { (a.new.value ≡ a.old.value) × (b.new.value ≡ b.old.value) }
+    ensures first_missing { a.old.value ≡ None → result ≡ Err EmptyHandle }
+    ensures second_missing { b.old.value ≡ None
+        → IsErrAnd result (IsOutOfMemoryOr (IsEmpty b.old.value)) }
+    ensures first { IfOk result (λ p. a.old.value ≡ Some (arc_value p.0)) }
+    ensures second { IfOk result (λ p. b.old.value ≡ Some (arc_value p.1)) }
+    ensures fault { IfErr result (IsOutOfMemoryOr (IsEitherEmpty a.old.value b.old.value)) }
+{
+    let a = shared(alloc, a)?;
+    let b = shared(alloc, b)?;
     Ok((a, b))
 }

@@ -6,7 +6,7 @@ use Rattle.c_handles.proofs.operations.multiply.Goals as goal
 
 pub returns-clause-done : goal.returns-clause-done
 returns-clause-done c =
-    let a = plain_of_rows-held c.args.a.now.value _ _ c.in_ok-a.ensures.matrix c.deref-3.ensures in
-    let b = plain_of_rows-held c.args.b.now.value _ _ c.in_ok-b.ensures.matrix c.deref-4.ensures in
+    let a = plain_of_rows-held c.args.a.now.value _ _ c.in_ok-a.ensures.first c.deref-3.ensures in
+    let b = plain_of_rows-held c.args.b.now.value _ _ c.in_ok-a.ensures.second c.deref-4.ensures in
     OnOk-Holds c.put.result c.put.new.handle.value _ _ c.put.ensures.put
     (c.in_ok-product.ensures ∙ (λ i. plain_product ring64 (a i) (b i)))
