@@ -41,8 +41,8 @@ pub struct Loaded {
 ///
 /// # Errors
 ///
-/// Returns `Input` with this number if the text has an error, or `NotSupported` if the error is that the values are real
-/// or complex. Otherwise fails only if an allocation fails.
+/// Returns `Input` with this number if the text has an error, or `NotSupported` if the error is that the values are
+/// real or complex. Otherwise fails only if an allocation fails.
 pub fn load(alloc: Global, number: usize, text: &str) -> Result<Loaded, Failure>
     ensures meant { IfOk result (λ l. MeansMatrix text.now l.entries l.matrix) }
     ensures sound { IfOk result (λ l. IsSound l.matrix) }

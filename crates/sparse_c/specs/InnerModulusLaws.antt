@@ -1,7 +1,7 @@
 -- The laws of the trait `Call`, which its impls cite: lemmas `.._listed` take the contract of a call over the type of
 -- residues modulo m to the contract of a call with the modulus m; lemmas `.._unlisted` say that a call which returns
--- UnknownChoice and changes no array meets this contract if m is not listed. These lemmas are in specs/ since the law of
--- an impl may cite nothing from the proofs/ of its own crate.
+-- UnknownChoice and changes no array meets this contract if m is not listed. These lemmas are in specs/ since the law
+-- of an impl may cite nothing from the proofs/ of its own crate.
 use Rattle.std.specs.Prelude.{◌≡◌, ◌≤◌, ℕ, ℤ, pos, List, refl}
 use Rattle.std.proofs.Common.{inl, inr, arith}
 use Rattle.sparse_algebra.specs.ModNumbers.{mod_value}

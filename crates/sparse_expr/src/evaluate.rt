@@ -24,8 +24,8 @@ use std::rc::Rc;
 /// Returns the value of an expression over inputs, as a CSR matrix.
 ///
 /// Returns the first error, that of the left operand before that of the right one and of their operation: `NoSuchInput`
-/// if no input has a number of the expression, `Shape` if the shapes of operands do not fit. Returns `OutOfMemory` if an
-/// allocation fails.
+/// if no input has a number of the expression, `Shape` if the shapes of operands do not fit. Returns `OutOfMemory` if
+/// an allocation fails.
 ///
 /// Each input is converted at most twice, to CSR and to CSC, however often the expression names it, and a matrix is
 /// dropped after its last use. Transposes cost nothing: an operand of a transpose is evaluated transposed, down to the

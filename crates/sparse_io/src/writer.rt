@@ -195,7 +195,8 @@ where
     save_to_matrix_market_with(alloc, sink, matrix, Banner::LowerCase)
 }
 
-/// Writes a matrix to a sink as [`save_to_matrix_market`] does, with this first word. The errors are those of that call.
+/// Writes a matrix to a sink as [`save_to_matrix_market`] does, with this first word. The errors are those of that
+/// call.
 #[tactic(auto, using(sparse_algebra::proofs::EarlyReturns::early_return))]
 pub fn save_to_matrix_market_with<T, W, S>(
     alloc: Global,

@@ -25,7 +25,8 @@ pub(crate) struct AssemblyTree<'a, W: Word> {
 // Returns the vertices of an assembly tree in postorder: each vertex comes after its children, and among the children
 // of one vertex the elements come before the variables, the one of the largest front last.
 //
-// The parent of a root must be the number of vertices. Time is linear in that number. Fails only if an allocation fails.
+// The parent of a root must be the number of vertices. Time is linear in that number. Fails only if an allocation
+// fails.
 pub(crate) fn postorder<W: Word>(
     alloc: Global,
     tree: &AssemblyTree<'_, W>,

@@ -17,7 +17,8 @@ pub(super) fn make_room<W: Word>(graph: &mut QuotientGraph<W>, variable: usize) 
     }
 }
 
-// Replaces the first element of the list of each vertex by the vertex plus `size`, and keeps it where the list begins is kept.
+// Replaces the first element of the list of each vertex by the vertex plus `size`, and stores the element in the field
+// that says where the list begins.
 fn mark_heads<W: Word>(graph: &mut QuotientGraph<W>) {
     for vertex in 0..graph.size {
         let Vertex { begin, length, .. } = graph.vertex(vertex);

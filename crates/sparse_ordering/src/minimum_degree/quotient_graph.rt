@@ -22,8 +22,8 @@ pub(super) struct QuotientGraph<W: Word> {
     pub(super) lists: Vec<W>,
     // The end of the used part of `lists`.
     pub(super) used: usize,
-    // The stamp of an absorbed element is 0, and that of any other vertex at least 1. The list of an absorbed element or
-    // of a merged variable is empty.
+    // The stamp of an absorbed element is 0, and that of any other vertex at least 1. The list of an absorbed element
+    // or of a merged variable is empty.
     pub(super) vertices: Vertices<W>,
     // Greater than each stamp between two steps. What greater stamps mean depends on the step.
     pub(super) stamp: usize,
