@@ -1,5 +1,5 @@
-//! Links the static library and the allocator that it needs: those of the folder `NALGEBRA_SPARSE_LIB_DIR`, or else, inside
-//! a clone of the repository, those that `bindings/link-flags` names.
+//! Links the static library and the allocator that it needs: those of the folder `NALGEBRA_SPARSE_LIB_DIR`, or else,
+//! inside a clone of the repository, those that `bindings/link-flags` names.
 
 use std::env;
 use std::path::Path;
