@@ -19,7 +19,7 @@ use std::test::Fail;
 fn diagonal(alloc: Global, n: usize) -> Result<SparsityPattern, AllocError>
     ensures major { IfOk result (λ p. p.major_dim ≡ n) }
     ensures minor { IfOk result (λ p. p.minor_dim ≡ n) }
-    ensures places { IfOk result (λ p. IsDiagonal p n) }
+    ensures diagonal { IfOk result (λ p. IsDiagonal p n) }
 {
     stands_law::<W64>();
     let identity = CsrMatrix::<W64>::identity(alloc, n)?;

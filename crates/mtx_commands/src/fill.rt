@@ -54,24 +54,24 @@ fn read_pattern<R: Files + AllocGlobal>(rt: &R, path: &str) -> Result<SparsityPa
         (λ e. (e ≡ Refused OutOfMemory) ⊎ ((e ≡ NotSquare) ⊎ IsMisread e)) }
     ensures not_square { IfErr result (λ e. e ≡ NotSquare → HasOblong) }
 {
-    let places = read_triplets(rt, path)?;
-    square_pattern_of(rt.alloc(), &places)
+    let triplets = read_triplets(rt, path)?;
+    square_pattern_of(rt.alloc(), &triplets)
 }
 
 // Returns the pattern by columns of a list of triplets. If the list is not square, nothing is allocated.
-fn square_pattern_of(alloc: Global, places: &CooMatrix<()>) -> Result<SparsityPattern, Failure>
-    ensures columns { IfOk result (λ p. p.major_dim ≡ places.now.ncols) }
-    ensures rows { IfOk result (λ p. p.minor_dim ≡ places.now.nrows) }
+fn square_pattern_of(alloc: Global, triplets: &CooMatrix<()>) -> Result<SparsityPattern, Failure>
+    ensures columns { IfOk result (λ p. p.major_dim ≡ triplets.now.ncols) }
+    ensures rows { IfOk result (λ p. p.minor_dim ≡ triplets.now.nrows) }
     ensures square { IfOk result (λ p. p.major_dim ≡ p.minor_dim) }
-    ensures places { IfOk result (λ p. (i j : ℕ) → IsEntry p j i ↔ HasTriplet places.now i j) }
-    ensures not_square { places.now.nrows ≢ places.now.ncols → result ≡ Err NotSquare }
+    ensures entries { IfOk result (λ p. (i j : ℕ) → IsEntry p j i ↔ HasTriplet triplets.now i j) }
+    ensures not_square { triplets.now.nrows ≢ triplets.now.ncols → result ≡ Err NotSquare }
     ensures refused { IfErr result (λ e. (e ≡ Refused OutOfMemory) ⊎ (e ≡ NotSquare)) }
-    ensures oblong { IfErr result (λ e. e ≡ NotSquare → places.now.nrows ≢ places.now.ncols) }
+    ensures oblong { IfErr result (λ e. e ≡ NotSquare → triplets.now.nrows ≢ triplets.now.ncols) }
 {
-    if places.nrows() != places.ncols() {
+    if triplets.nrows() != triplets.ncols() {
         return Err(Failure::NotSquare);
     }
-    Ok(pattern_of(alloc, places)?)
+    Ok(pattern_of(alloc, triplets)?)
 }
 
 // Writes a pattern, column by column.
@@ -99,14 +99,14 @@ fn write_pattern<W: Sink>(
 //
 // Let C and R be the patterns whose row k has one entry, the column and the row of triplet k. The result is the
 // pattern of the product of C transposed and R.
-fn pattern_of(alloc: Global, places: &CooMatrix<()>) -> Result<SparsityPattern, AllocError>
-    ensures columns { IfOk result (λ p. p.major_dim ≡ places.now.ncols) }
-    ensures rows { IfOk result (λ p. p.minor_dim ≡ places.now.nrows) }
-    ensures places { IfOk result (λ p. (i j : ℕ) → IsEntry p j i ↔ HasTriplet places.now i j) }
+fn pattern_of(alloc: Global, triplets: &CooMatrix<()>) -> Result<SparsityPattern, AllocError>
+    ensures columns { IfOk result (λ p. p.major_dim ≡ triplets.now.ncols) }
+    ensures rows { IfOk result (λ p. p.minor_dim ≡ triplets.now.nrows) }
+    ensures entries { IfOk result (λ p. (i j : ℕ) → IsEntry p j i ↔ HasTriplet triplets.now i j) }
     ensures valid { IfOk result IsValid }
 {
-    let rows = one_entry_per_lane(alloc, places.row_indices(), places.nrows())?;
-    let columns = one_entry_per_lane(alloc, places.col_indices(), places.ncols())?;
+    let rows = one_entry_per_lane(alloc, triplets.row_indices(), triplets.nrows())?;
+    let columns = one_entry_per_lane(alloc, triplets.col_indices(), triplets.ncols())?;
     let transposed = columns.transpose(alloc)?;
     let pattern = spmm_csr_pattern(alloc, &transposed, &rows)?;
     Ok(pattern)
@@ -121,7 +121,7 @@ fn one_entry_per_lane(
     requires { All (λ i. i < minor_dim) indices.now }
     ensures lanes { IfOk result (λ p. p.major_dim ≡ length indices.now) }
     ensures size { IfOk result (λ p. p.minor_dim ≡ minor_dim) }
-    ensures places { IfOk result (λ p. HasOneEntryPerLane p indices.now) }
+    ensures entries { IfOk result (λ p. HasOneEntryPerLane p indices.now) }
     ensures valid { IfOk result IsValid }
 {
     let offsets = numbers_to(alloc, indices.len())?;

@@ -79,17 +79,17 @@ pub fn read_triplets<R: Files + AllocGlobal>(rt: &R, path: &str) -> Result<CooMa
         (λ m. (text : List ℕ) × Means pattern_scalar text (Ok (values_of (λ x. x) m))) }
     ensures unread { IfErr result IsMisread }
 {
-    places_of(load_coo_from_matrix_market_file(rt, path))
+    read_list(load_coo_from_matrix_market_file(rt, path))
 }
 
 // Returns the list that was read, or the failure for the only file.
-fn places_of(read: Result<CooMatrix<()>, MatrixMarketError>) -> Result<CooMatrix<()>, Failure>
-    ensures places { IfOk result (λ places. read ≡ Ok places) }
+fn read_list(read: Result<CooMatrix<()>, MatrixMarketError>) -> Result<CooMatrix<()>, Failure>
+    ensures list { IfOk result (λ list. read ≡ Ok list) }
     ensures unread { IfErr result (λ failure. IsErrAnd read
         (λ e. failure ≡ Refused (input_fault 1 (kind_of e)))) }
 {
     match read {
-        Ok(places) => Ok(places),
+        Ok(list) => Ok(list),
         Err(error) => Err(Failure::Refused(unread(1, error.kind()))),
     }
 }

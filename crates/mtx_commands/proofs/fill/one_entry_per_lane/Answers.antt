@@ -2,8 +2,8 @@ use Rattle.std.proofs.Common.{length, refl}
 use Rattle.mtx_commands.proofs.OneEntryPerLane.{has_one_entry_per_lane}
 use Rattle.mtx_commands.proofs.fill.one_entry_per_lane.Goals as goal
 
-pub returns-clause-places : goal.returns-clause-places
-returns-clause-places c =
+pub returns-clause-entries : goal.returns-clause-entries
+returns-clause-entries c =
     rw (
       c.from_offset_and_indices_unchecked.ensures,
       c.len.ensures,

@@ -41,13 +41,13 @@ oblong_is m text meant (Err e) oblong = λ is. record {
 
 pub returns-clause-read : goal.returns-clause-read
 returns-clause-read g c =
-    let read = c.in_ok-places.ensures.read in
+    let read = c.in_ok-triplets.ensures.read in
     let made = c.square_pattern_of.ensures in
-    IsRead-from_list c.in_ok-places.places read.0 read.1 c.square_pattern_of.result made.columns made.rows
-    made.places
+    IsRead-from_list c.in_ok-triplets.triplets read.0 read.1 c.square_pattern_of.result made.columns made.rows
+    made.entries
 
 pub returns-clause-not_square : goal.returns-clause-not_square
 returns-clause-not_square g c =
-    let read = c.in_ok-places.ensures.read in
-    oblong_is c.in_ok-places.places read.0 read.1 c.square_pattern_of.result
+    let read = c.in_ok-triplets.ensures.read in
+    oblong_is c.in_ok-triplets.triplets read.0 read.1 c.square_pattern_of.result
     c.square_pattern_of.ensures.oblong
