@@ -8,7 +8,5 @@ pub mod minimum_degree;
 mod postorder;
 pub mod reverse_cuthill_mckee;
 mod tested_order;
-#[cfg(test)]
-mod tests;
 mod vertices;
-mod words;
+pub mod words;

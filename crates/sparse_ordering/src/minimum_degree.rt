@@ -61,8 +61,10 @@ pub fn minimum_degree(alloc: Global, pattern: &SparsityPattern) -> Result<Permut
     )
 }
 
-// Returns the indices in this order.
-pub(crate) fn least_degree_indices(
+/// Returns the indices in the order of [`minimum_degree`], before it is tested that the list is a permutation.
+///
+/// Fails only if an allocation fails.
+pub fn least_degree_indices(
     alloc: Global,
     pattern: &SparsityPattern,
 ) -> Result<Vec<usize>, AllocError>
@@ -76,9 +78,11 @@ pub(crate) fn least_degree_indices(
     }
 }
 
-// Eliminates all variables, and returns them in a postorder of the assembly tree. The lists of the quotient graph have
-// room for `elbow_room` more elements than at the beginning, at least as many as there are rows.
-pub(crate) fn eliminate_all<W: Word>(
+/// Eliminates all variables, and returns them in a postorder of the assembly tree.
+///
+/// The lists of the quotient graph have room for `elbow_room` more elements than at the beginning. It should be at least
+/// the number of rows. Fails only if an allocation fails.
+pub fn eliminate_all<W: Word>(
     alloc: Global,
     pattern: &SparsityPattern,
     elbow_room: usize,

@@ -47,11 +47,10 @@ pub fn reverse_cuthill_mckee(
     tested_order(alloc, narrow_indices(alloc, pattern)?, pattern.major_dim())
 }
 
-// Returns the indices in this order.
-pub(crate) fn narrow_indices(
-    alloc: Global,
-    pattern: &SparsityPattern,
-) -> Result<Vec<usize>, AllocError>
+/// Returns the indices in the order of [`reverse_cuthill_mckee`], before it is tested that the list is a permutation.
+///
+/// Fails only if an allocation fails.
+pub fn narrow_indices(alloc: Global, pattern: &SparsityPattern) -> Result<Vec<usize>, AllocError>
     requires square { pattern.now.major_dim ≡ pattern.now.minor_dim }
 {
     if fits_in_32_bits(pattern) {

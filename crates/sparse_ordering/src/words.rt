@@ -6,14 +6,15 @@
 use sparse_pattern::pattern::SparsityPattern;
 use std::alloc::{AllocError, Global};
 
-// An element of an array: `u32` where it suffices, `usize` otherwise.
-pub(crate) trait Word: Copy {
-    // The greatest number that fits.
+/// An element of an array: `u32` where it suffices, `usize` otherwise.
+pub trait Word: Copy {
+    /// Returns the greatest number that fits.
     fn greatest() -> usize;
 
-    // The number, which must be at most the greatest one; otherwise its low bits.
+    /// Returns the element of a number, which must be at most the greatest one; otherwise of its low bits.
     fn of(number: usize) -> Self;
 
+    /// Returns the number.
     fn get(self) -> usize;
 }
 

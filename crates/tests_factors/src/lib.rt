@@ -17,8 +17,6 @@ mod ldl;
 #[cfg(test)]
 mod patterns;
 #[cfg(test)]
-mod permuted_patterns;
-#[cfg(test)]
 mod square_patterns;
 #[cfg(test)]
 mod sums_and_products;

@@ -18,7 +18,7 @@ const SMALL_PAIRS: [(usize, usize, usize); 6] = [
 
 // Where a pattern has entries.
 #[derive(Clone, Copy, Debug)]
-pub(super) enum Shape {
+pub(crate) enum Shape {
     // Nowhere.
     Empty,
     // Everywhere.
@@ -74,7 +74,7 @@ fn is_scattered(low: usize, high: usize, share: usize) -> bool {
 }
 
 // Returns the square pattern of a shape.
-pub(super) fn pattern_of(alloc: Global, size: usize, shape: Shape) -> Result<SparsityPattern, Fail>
+pub(crate) fn pattern_of(alloc: Global, size: usize, shape: Shape) -> Result<SparsityPattern, Fail>
     ensures square { IfOk result (λ p. p.major_dim ≡ p.minor_dim) }
 {
     let mut offsets = Vec::with_capacity(alloc, size.saturating_add(1))?;

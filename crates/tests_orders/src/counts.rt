@@ -1,11 +1,10 @@
 //! What an order is worth.
 
-use crate::words::{at, set};
 use sparse_pattern::pattern::SparsityPattern;
 use std::alloc::{AllocError, Global};
 
 // Returns whether an order lists each index below its length once.
-pub(super) fn is_permutation(alloc: Global, order: &[usize]) -> Result<bool, AllocError> {
+pub(crate) fn is_permutation(alloc: Global, order: &[usize]) -> Result<bool, AllocError> {
     let inverse = inverse_of(alloc, order)?;
     Ok((0..order.len()).all(|index| at(order, at(&inverse, index)) == index))
 }
@@ -20,7 +19,7 @@ fn inverse_of(alloc: Global, order: &[usize]) -> Result<Vec<usize>, AllocError> 
 }
 
 // Returns the greatest difference of the steps of two indices that have an entry.
-pub(super) fn bandwidth(
+pub(crate) fn bandwidth(
     alloc: Global,
     pattern: &SparsityPattern,
     order: &[usize],
@@ -44,7 +43,7 @@ struct Climbs {
 
 // Returns the number of entries of the Cholesky factor of a symmetric pattern in an order, those on the diagonal
 // included. The entries of a row are found by climbs in the elimination tree.
-pub(super) fn factor_entries(
+pub(crate) fn factor_entries(
     alloc: Global,
     pattern: &SparsityPattern,
     order: &[usize],
@@ -85,5 +84,15 @@ impl Climbs {
             from = parent;
         }
         row
+    }
+}
+
+fn at(words: &[usize], index: usize) -> usize {
+    words.get(index).copied().unwrap_or(0)
+}
+
+fn set(words: &mut [usize], index: usize, number: usize) {
+    if index < words.len() {
+        words[index] = number;
     }
 }

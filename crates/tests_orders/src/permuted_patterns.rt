@@ -1,7 +1,5 @@
 //! P A Pᵀ of every small pattern in every order, beside the definition.
 
-use crate::compared_factors::of_bits;
-use crate::square_patterns::Columns;
 use sparse_pattern::pattern::SparsityPattern;
 use sparse_permutation::permutation::Permutation;
 use sparse_permutation::symmetric::permute_symmetric_pattern;
@@ -38,11 +36,33 @@ fn is_permuted(permuted: &SparsityPattern, pattern: &SparsityPattern, order: &[u
     permuted.nnz() == pattern.nnz()
 }
 
-// Whether the columns are those of a square pattern, and it is permuted as the definition says.
-fn agrees(alloc: Global, columns: Columns, order: &Permutation) -> Result<bool, AllocError> {
-    let Ok(pattern) = columns.square(order.len()) else {
-        return Ok(false);
-    };
+// The square pattern whose entries are the bits of a number, row by row.
+fn of_bits(alloc: Global, size: usize, bits: u32) -> Result<SparsityPattern, Fail> {
+    let mut offsets = Vec::from_slice(alloc, &[0])?;
+    let mut indices = Vec::new(alloc);
+    let mut rest = bits;
+    for _ in 0..size {
+        rest = push_bits(&mut indices, size, rest)?;
+        offsets.push(indices.len())?;
+    }
+    Ok(SparsityPattern::try_from_offsets_and_indices(size, size, offsets, indices)?)
+}
+
+// Pushes the numbers of the lowest `size` bits that are set, and returns the other bits.
+fn push_bits(indices: &mut Vec<usize>, size: usize, bits: u32) -> Result<u32, AllocError> {
+    let mut rest = bits;
+    for index in 0..size {
+        if rest & 1 == 1 {
+            indices.push(index)?;
+        }
+        rest >>= 1;
+    }
+    Ok(rest)
+}
+
+// Whether the pattern of these bits is permuted as the definition says.
+fn agrees(alloc: Global, bits: u32, order: &Permutation) -> Result<bool, Fail> {
+    let pattern = of_bits(alloc, order.len(), bits)?;
     match permute_symmetric_pattern(alloc, &pattern, order) {
         Ok(permuted) => Ok(is_permuted(&permuted, &pattern, order.order())),
         Err(_) => Ok(false),
@@ -57,9 +77,9 @@ struct Sweep {
     count: u32,
 }
 
-fn all_agree(alloc: Global, order: &Permutation, sweep: Sweep) -> Result<bool, AllocError> {
+fn all_agree(alloc: Global, order: &Permutation, sweep: Sweep) -> Result<bool, Fail> {
     for bits in (sweep.first..sweep.count).step_by(sweep.stride) {
-        if !agrees(alloc, of_bits(alloc, order.len(), bits)?, order)? {
+        if !agrees(alloc, bits, order)? {
             return Ok(false);
         }
     }
@@ -72,7 +92,7 @@ fn agreeing_orders(
     size: usize,
     lists: usize,
     sweep: Sweep,
-) -> Result<Option<u32>, AllocError> {
+) -> Result<Option<u32>, Fail> {
     let mut orders = 0u32;
     let mut sweep = sweep;
     for number in 0..lists {

@@ -1,16 +1,13 @@
 //! Tests: that orders are permutations and reduce the fill and the bandwidth, which no contract says.
 
-use crate::minimum_degree::{eliminate_all, least_degree_indices};
-use crate::reverse_cuthill_mckee::narrow_indices;
-use counts::{bandwidth, factor_entries, is_permutation};
-use shapes::{Shape, pattern_of};
+use crate::counts::{bandwidth, factor_entries, is_permutation};
+use crate::narrow::Narrow;
+use crate::shapes::{Shape, pattern_of};
+use sparse_ordering::minimum_degree::{eliminate_all, least_degree_indices};
+use sparse_ordering::reverse_cuthill_mckee::narrow_indices;
 use std::alloc::Global;
 use std::process::Abort;
 use std::test::Fail;
-
-mod counts;
-mod narrow;
-mod shapes;
 
 // Asserts that both orders of a pattern are permutations of all indices.
 fn expect_permutations(
@@ -146,7 +143,7 @@ fn neither_room_nor_width_changes_an_order(rt: HostRuntime) -> Result<(), Fail> 
             "{shape:?}"
         );
         assert!(rt;
-            order == eliminate_all::<u16>(rt.alloc(), &pattern, size)?,
+            order == eliminate_all::<Narrow>(rt.alloc(), &pattern, size)?,
             "{shape:?}"
         );
     }
