@@ -26,11 +26,11 @@ cell_square m most row col =
 abbrev pub squares_of_row : CellCounts → ℕ → ℕ → List ℕ
 squares_of_row m most row = flat_map (cell_square m most row) (below m.width)
 
--- the first line: a view of `width` by `height` cells
+-- the first line: a view of `width` by `height` cells, drawn without gaps between neighbours
 unfoldable pub svg_view : ℕ → ℕ → List ℕ
 svg_view width height =
     codes "<svg xmlns=\"http://www.w3.org/2000/svg\" viewBox=\"0 0 " ++ (decimal width ++ (codes " "
-    ++ (decimal height ++ codes "\">\n")))
+    ++ (decimal height ++ codes "\" shape-rendering=\"crispEdges\">\n")))
 
 -- the next line: a white rectangle of the view's size
 unfoldable pub white : List ℕ

@@ -42,7 +42,7 @@ fn view(alloc: Global, width: usize, height: usize) -> Result<String, AllocError
     ensures { IfOk result (λ text. string_bytes text ≡ svg_view width height) }
 {
     format!(in alloc;
-        "<svg xmlns=\"http://www.w3.org/2000/svg\" viewBox=\"0 0 {width} {height}\">\n"
+        "<svg xmlns=\"http://www.w3.org/2000/svg\" viewBox=\"0 0 {width} {height}\" shape-rendering=\"crispEdges\">\n"
     )
 }
 

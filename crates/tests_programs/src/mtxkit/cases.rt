@@ -50,7 +50,7 @@ pub const CASES: &[Case] = &[
     (
         &["spy", "--svg", "--size", "2", "-"],
         SYMMETRIC,
-        "<svg xmlns=\"http://www.w3.org/2000/svg\" viewBox=\"0 0 2 2\">
+        "<svg xmlns=\"http://www.w3.org/2000/svg\" viewBox=\"0 0 2 2\" shape-rendering=\"crispEdges\">
 <title>3 by 3, 6 places</title>
 <rect width=\"100%\" height=\"100%\" fill=\"white\"/>
 <rect x=\"0\" y=\"0\" width=\"1\" height=\"1\" fill=\"rgb(0,0,0)\"/>
