@@ -1,4 +1,4 @@
-use Rattle.std.proofs.Common.{◌≡◌, ◌+◌, ◌<◌, ◌≤◌, ℕ, length, set, ap, subst, ◌∙◌, refl, arith}
+use Rattle.std.proofs.Common.{◌≡◌, ◌+◌, ◌<◌, ◌≤◌, ℕ, length, set, ap, subst, ◌∙◌, refl, rules, arith}
 use Rattle.std.proofs.lemmas.List.{drop-set-lt, length-set}
 use Rattle.sparse_pattern.specs.Raw.{start_of}
 use Rattle.sparse_pattern.proofs.PatternLanes.{length-lane}
@@ -121,8 +121,10 @@ returns-clause-written g c =
     omega (arith, c.loop-i-test.false, done.auto.i-end, c.major_dim-i-end.ensures) in
     let end_a = ap (λ n. start_of p n) whole ∙ sa.valid.last in
     let end_b = ap (λ n. start_of q n) (whole ∙ c.requires.rows) ∙ sb.valid.last in
+    let held =
     rows_held R (f a.scale) (f b.scale) a.matrix b.matrix sa sb c.requires.rows c.requires.cols
     out.end done.offsets out.indices.now out.values.now
     (omega (arith, inv.most, end_a, end_b, c.requires.values_room, inv.filled.values_count))
     (subst (λ (n : ℕ). HasRows R (f a.scale) (f b.scale) a.matrix b.matrix n out.end
-    done.offsets out.indices.now out.values.now) whole inv.built)
+    done.offsets out.indices.now out.values.now) whole inv.built) in
+    search rules
