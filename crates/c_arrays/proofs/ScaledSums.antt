@@ -1,6 +1,6 @@
 -- The sum of two scaled matrices of integers, built row by row in the arrays for the result.
-use Rattle.std.proofs.Common.{◌≡◌, ℕ, ℤ, pos, ◌+◌, ◌-◌, ◌<◌, ◌≤◌, ◌⊎◌, false, List, [], ◌∷◌, ◌++◌}
-use Rattle.std.proofs.Common.{length, map, take, drop, set, slice_range, Contains, ap, sym, subst}
+use Rattle.std.proofs.Common.{◌≡◌, ℕ, ℤ, pos, ◌+◌, ◌-◌, ◌<◌, ◌≤◌, false, List, [], ◌∷◌, ◌++◌}
+use Rattle.std.proofs.Common.{length, map, take, drop, set, slice_range, ap, sym, subst}
 use Rattle.std.proofs.Common.{◌∙◌, arith}
 use Rattle.std.proofs.lemmas.List.{drop-map, get_or-map, length-map, length-take-le, map-id}
 use Rattle.std.proofs.lemmas.List.{take-map, take_more_set}
@@ -9,11 +9,10 @@ use Rattle.sparse_algebra.specs.Integers.{element_of}
 use Rattle.sparse_algebra.specs.Plain.{Plain, plain_scaled, plain_sum}
 use Rattle.sparse_pattern.specs.Raw.{start_of, end_of, lane_of}
 use Rattle.sparse_compressed.specs.Compressed.{Compressed, arrays_of, compressed_of, IsSound}
-use Rattle.sparse_compressed.specs.InnerLaneValue.{lane_value}
 use Rattle.sparse_compressed.specs.PlainOfLanes.{plain_of_rows}
 use Rattle.sparse_compressed.proofs.ChangedPlain.{scaled}
 use Rattle.sparse_compressed.proofs.LaneValues.{values_of}
-use Rattle.sparse_sums.specs.InnerAdding.{GainsEntries}
+use Rattle.sparse_sums.specs.InnerAdding.{GainsSum}
 use Rattle.sparse_sums.proofs.SumLanes.{IsSumBelow, none_summed, sum_more, sum_is}
 use Rattle.sparse_sums.proofs.SumLanes.{sum_sound}
 use Rattle.c_arrays.specs.Arrays.{plain_by_rows, place_count, output_arrays, HoldsRows}
@@ -72,13 +71,11 @@ module _ (R : CommRing) (s t : R.Carrier) (a b : Compressed ℤ) (sa : IsSound a
     (width : a.pattern.minor_dim ≡ b.pattern.minor_dim) where
   pub row_more : (n at to : ℕ) (os is js : List ℕ) (us vs : List ℤ) → n < a.pattern.major_dim
       → n + 1 < length os → to ≤ length js → HasRows R s t a b n at os is us
-      → GainsEntries R (λ x. x) (take at is) (take to js) (prefix_elements R at us)
-      (prefix_elements R to vs)
-      (λ j. Contains (lane_of a.pattern n) j ⊎ Contains (lane_of b.pattern n) j)
-      (λ j. R.add (lane_value R (λ x. x) (lane_of a.pattern n) (scaled_elements R s
-      (slice_range a.values (start_of a.pattern n) (end_of a.pattern n))) j)
-      (lane_value R (λ x. x) (lane_of b.pattern n) (scaled_elements R t
-      (slice_range b.values (start_of b.pattern n) (end_of b.pattern n))) j))
+      → GainsSum R (take at is) (take to js) (prefix_elements R at us) (prefix_elements R to vs)
+      (lane_of a.pattern n) (scaled_elements R s
+      (slice_range a.values (start_of a.pattern n) (end_of a.pattern n)))
+      (lane_of b.pattern n) (scaled_elements R t
+      (slice_range b.values (start_of b.pattern n) (end_of b.pattern n)))
       → HasRows R s t a b (n + 1) to (set os (n + 1) to) js vs
   row_more n at to os is js us vs lt room le has gains =
       let A = multiple R s a in
@@ -86,11 +83,9 @@ module _ (R : CommRing) (s t : R.Carrier) (a b : Compressed ℤ) (sa : IsSound a
       sum_more R (λ x. x) R.zero false A B (multiple_sound R s a sa) (multiple_sound R t b sb)
       lanes width n (take (n + 1) os) (take (n + 1 + 1) (set os (n + 1) to)) (take at is)
       (take to js) (prefix_elements R at us) (prefix_elements R to vs) lt has
-      (subst (λ (v : List R.Carrier × List R.Carrier). GainsEntries R (λ x. x) (take at is)
-      (take to js) (prefix_elements R at us) (prefix_elements R to vs)
-      (λ j. Contains (lane_of a.pattern n) j ⊎ Contains (lane_of b.pattern n) j)
-      (λ j. R.add (lane_value R (λ x. x) (lane_of a.pattern n) v.0 j)
-      (lane_value R (λ x. x) (lane_of b.pattern n) v.1 j)))
+      (subst (λ (v : List R.Carrier × List R.Carrier). GainsSum R (take at is) (take to js)
+      (prefix_elements R at us) (prefix_elements R to vs) (lane_of a.pattern n) v.0
+      (lane_of b.pattern n) v.1)
       (λ k. (sym (multiple_values R s a n) k, sym (multiple_values R t b n) k)) gains)
       (take_more_set os (n + 1) to room
       ∙ ap (λ k. take (n + 1) os ++ k ∷ []) (sym (length-take-le to js le)))

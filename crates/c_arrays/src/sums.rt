@@ -1,7 +1,7 @@
 //! Sums of matrices in arrays that C passes, merged straight into the arrays for the result.
 
-mod merge;
-mod parts;
+mod lane;
+mod output;
 mod rows;
 mod sum;
 

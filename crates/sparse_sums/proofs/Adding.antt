@@ -6,13 +6,16 @@ use Rattle.std.specs.Prelude.{nat_eq, zip}
 use Rattle.std.specs.List.Sorted.{IsStrictlyIncreasing}
 use Rattle.std.proofs.lemmas.List.{append-nil, get_or_default, length_push, length-map}
 use Rattle.std.proofs.lemmas.List.{length-take-le, length-drop, take-append-drop}
+use Rattle.std.proofs.lemmas.List.{map-append, append_cancel_left}
 use Rattle.sparse_algebra.specs.Algebra.{CommRing}
 use Rattle.sparse_algebra.specs.Sums.{sum_by, where_true}
 use Rattle.sparse_algebra.proofs.RingLemmas.{zero_add, add_cross}
 use Rattle.sparse_compressed.specs.InnerLaneValue.{lane_value}
 use Rattle.sparse_compressed.proofs.AddedLanes.{sum_zip_more}
 use Rattle.sparse_sums.specs.InnerMerging.{IsMerged}
-use Rattle.sparse_sums.specs.InnerAdding.{GainsValues, GainsEntries, IsAdding}
+use Rattle.sparse_sums.specs.InnerAdding.{IsLane, IsAdding, GainsSum}
+use Rattle.sparse_sums.specs.InnerAdding.{GainsEntries, element_at}
+use Rattle.sparse_sums.specs.InnerExtensions.{IsExtended}
 use Rattle.sparse_sums.proofs.Merging.{merging_first, merging_second, merging_both, none_merged}
 use Rattle.sparse_sums.proofs.Merging.{rest_merged, with_index}
 
@@ -70,23 +73,18 @@ module _ (R : CommRing) {T : Type 0} where
         ∙ lane_value-append (take n ks) (drop n ks) (take n vs) (drop n vs) j
         (length-take-le n vs (omega arith) ∙ sym (length-take-le n ks le))
 
-  -- lanes with the same indices, whose values represent the same elements, have the same value at j
-  pub lane_value-same : (f g : T → R.Carrier) (ks : List ℕ) (us vs : List T) (j : ℕ)
-      → map f us ≡ map g vs
-      → lane_value R f ks us j ≡ lane_value R g ks vs j
-  lane_value-same f g [] us vs j e = refl
-  lane_value-same f g (k ∷ ks) [] [] j e = refl
-  lane_value-same f g (k ∷ ks) [] (v ∷ vs) j e = cc
-  lane_value-same f g (k ∷ ks) (u ∷ us) [] j e = cc
-  lane_value-same f g (k ∷ ks) (u ∷ us) (v ∷ vs) j e =
-      let head : f u ≡ g v = cc in
-      let tail : map f us ≡ map g vs = cc in
-      ap (λ c. R.add (where_true R (nat_eq k j) c) (lane_value R f ks us j)) head
-      ∙ ap (R.add (where_true R (nat_eq k j) (g v))) (lane_value-same f g ks us vs j tail)
+-- the element at j in a prefix of a lane of elements that is longer by the entry (k, v)
+element_at_more : (R : CommRing) (ks : List ℕ) (vs : List R.Carrier) (n k j : ℕ) (v : R.Carrier)
+    → n < length ks → length vs ≡ length ks → k ≡ get_or ks n 0 → v ≡ get_or vs n R.zero
+    → element_at R (take (n + 1) ks) (take (n + 1) vs) j ≡ R.add
+    (element_at R (take n ks) (take n vs) j) (where_true R (nat_eq k j) v)
+element_at_more R ks vs n k j v lt long is is' =
+    lane_value_more R (λ x. x) ks vs n k j v lt long is
+    (is' ∙ get_or_default vs n R.zero v (omega arith))
 
-module _ (R : CommRing) {T : Type 0} (f g : T → R.Carrier) (old : List ℕ) (us : List T)
-    (a : List ℕ) (av : List T) (b : List ℕ) (bv : List T) where
-  pub none_added : IsAdding R f g old old us us a av b bv 0 0
+module _ (R : CommRing) (old : List ℕ) (us : List R.Carrier) (a : List ℕ) (av : List R.Carrier)
+    (b : List ℕ) (bv : List R.Carrier) where
+  pub none_added : IsAdding R old old us us a av b bv 0 0
   none_added = record {
     indices = none_merged old a b;
     values = [];
@@ -95,32 +93,31 @@ module _ (R : CommRing) {T : Type 0} (f g : T → R.Carrier) (old : List ℕ) (u
     sums = λ j. sym (R.laws.add_zero R.zero);
   }
 
-  module _ (now : List ℕ) (ws : List T) (p q : ℕ) (ra : IsStrictlyIncreasing a)
-      (rb : IsStrictlyIncreasing b) (ca : length av ≡ length a) (cb : length bv ≡ length b)
-      (m : IsAdding R f g old now us ws a av b bv p q) (x : ℕ) (v : T) where
+  module _ (now : List ℕ) (ws : List R.Carrier) (p q : ℕ) (la : IsLane a av) (lb : IsLane b bv)
+      (m : IsAdding R old now us ws a av b bv p q) (x : ℕ) (v : R.Carrier) where
     -- the value that an entry with index x and element c adds at j
     abbrev at : ℕ → R.Carrier → R.Carrier
     at j c = where_true R (nat_eq x j) c
 
     abbrev A : ℕ → ℕ → R.Carrier
-    A p j = lane_value R f (take p a) (take p av) j
+    A p j = element_at R (take p a) (take p av) j
 
     abbrev B : ℕ → ℕ → R.Carrier
-    B q j = lane_value R g (take q b) (take q bv) j
+    B q j = element_at R (take q b) (take q bv) j
 
-    -- appending (x, v), where v represents the sum of c, from the first lane, and d, from the second
+    -- appending (x, v), where v is the sum of c, from the first lane, and d, from the second
     adding_more : {p' q' : ℕ} → IsMerged a b p' q' (m.indices.lane ++ x ∷ [])
-        → {c d : R.Carrier} → f v ≡ R.add c d → ((j : ℕ) → A p' j ≡ R.add (A p j) (at j c))
+        → {c d : R.Carrier} → v ≡ R.add c d → ((j : ℕ) → A p' j ≡ R.add (A p j) (at j c))
         → ((j : ℕ) → B q' j ≡ R.add (B q j) (at j d))
-        → IsAdding R f g old (now ++ x ∷ []) us (ws ++ v ∷ []) a av b bv p' q'
+        → IsAdding R old (now ++ x ∷ []) us (ws ++ v ∷ []) a av b bv p' q'
     adding_more {p'} merged {c} {d} is more_a more_b = record {
       indices = with_index m.indices x merged;
       values = m.values ++ v ∷ [];
       values_pushed = ap (λ l. l ++ v ∷ []) m.values_pushed ∙ append_assoc us m.values (v ∷ []);
       count = length_push m.values v ∙ ap (λ n. n + 1) m.count
           ∙ sym (length_push m.indices.lane x);
-      sums = λ j. lane_value-append R f m.indices.lane (x ∷ []) m.values (v ∷ []) j m.count
-          ∙ ap (R.add (lane_value R f m.indices.lane m.values j)) (lane_value_one R f x j v
+      sums = λ j. lane_value-append R (λ x. x) m.indices.lane (x ∷ []) m.values (v ∷ []) j m.count
+          ∙ ap (R.add (element_at R m.indices.lane m.values j)) (lane_value_one R (λ x. x) x j v
           ∙ ap (at j) is ∙ where_add R (nat_eq x j) c d)
           ∙ ap (λ s. R.add s (R.add (at j c) (at j d))) (m.sums j)
           ∙ add_cross R (A p j) (B q j) (at j c) (at j d)
@@ -133,98 +130,114 @@ module _ (R : CommRing) {T : Type 0} (f g : T → R.Carrier) (old : List ℕ) (u
     none_more j s = sym (ap (R.add s) (where_zero R (nat_eq x j)) ∙ R.laws.add_zero s)
 
     pub adding_first : (lt : p < length a) → (is : x ≡ get_or a p 0)
-        → (q < length b → x < get_or b q 0) → v ≡ get_or av p v
-        → IsAdding R f g old (now ++ x ∷ []) us (ws ++ v ∷ []) a av b bv (p + 1) q
+        → (q < length b → x < get_or b q 0) → v ≡ get_or av p R.zero
+        → IsAdding R old (now ++ x ∷ []) us (ws ++ v ∷ []) a av b bv (p + 1) q
     adding_first lt is before read = adding_more
-        (merging_first m.indices x ra rb lt is before).merged (sym (R.laws.add_zero (f v)))
-        (λ j. lane_value_more R f a av p x j v lt ca is read) (λ j. none_more j (B q j))
+        (merging_first m.indices x la.rising lb.rising lt is before).merged
+        (sym (R.laws.add_zero v)) (λ j. element_at_more R a av p x j v lt la.count is read)
+        (λ j. none_more j (B q j))
 
     pub adding_second : (lt : q < length b) → (is : x ≡ get_or b q 0)
-        → (p < length a → x < get_or a p 0) → (t : T) → t ≡ get_or bv q t → f v ≡ g t
-        → IsAdding R f g old (now ++ x ∷ []) us (ws ++ v ∷ []) a av b bv p (q + 1)
-    adding_second lt is before t read same = adding_more
-        (merging_second m.indices x ra rb lt is before).merged (same ∙ sym (zero_add R (g t)))
-        (λ j. none_more j (A p j)) (λ j. lane_value_more R g b bv q x j t lt cb is read)
+        → (p < length a → x < get_or a p 0) → v ≡ get_or bv q R.zero
+        → IsAdding R old (now ++ x ∷ []) us (ws ++ v ∷ []) a av b bv p (q + 1)
+    adding_second lt is before read = adding_more
+        (merging_second m.indices x la.rising lb.rising lt is before).merged
+        (sym (zero_add R v)) (λ j. none_more j (A p j))
+        (λ j. element_at_more R b bv q x j v lt lb.count is read)
 
     pub adding_both : (lt : p < length a) → (lt' : q < length b) → (is : x ≡ get_or a p 0)
         → (is' : x ≡ get_or b q 0)
-        → (s t : T) → s ≡ get_or av p s → t ≡ get_or bv q t → f v ≡ R.add (f s) (g t)
-        → IsAdding R f g old (now ++ x ∷ []) us (ws ++ v ∷ []) a av b bv (p + 1) (q + 1)
+        → (s t : R.Carrier) → s ≡ get_or av p R.zero → t ≡ get_or bv q R.zero → v ≡ R.add s t
+        → IsAdding R old (now ++ x ∷ []) us (ws ++ v ∷ []) a av b bv (p + 1) (q + 1)
     adding_both lt lt' is is' s t read read' sum = adding_more
-        (merging_both m.indices x ra rb lt lt' is is').merged sum
-        (λ j. lane_value_more R f a av p x j s lt ca is read)
-        (λ j. lane_value_more R g b bv q x j t lt' cb is' read')
+        (merging_both m.indices x la.rising lb.rising lt lt' is is').merged sum
+        (λ j. element_at_more R a av p x j s lt la.count is read)
+        (λ j. element_at_more R b bv q x j t lt' lb.count is' read')
 
 -- ---- the rest of the lane that has not ended
 
-rest_count : {R : CommRing} {T : Type 0} {f g : T → R.Carrier} {old new : List T} (ks : List ℕ)
-    (vs : List T) (n : ℕ) (gains : GainsValues R f g old new (drop n vs))
-    → length vs ≡ length ks → length gains.values ≡ length (drop n ks)
-rest_count {f = f} {g} ks vs n gains long = omega (
-  arith,
-  length-map gains.values f,
-  ap length gains.meaning,
-  length-map (drop n vs) g,
-  length-drop n vs,
-  length-drop n ks,
-  long,
-)
-
-module _ (R : CommRing) {T : Type 0} (f g : T → R.Carrier) (old : List ℕ) (us : List T) (a : List ℕ)
-    (av : List T) (b : List ℕ) (bv : List T) (ra : IsStrictlyIncreasing a)
-    (rb : IsStrictlyIncreasing b) (ca : length av ≡ length a) (cb : length bv ≡ length b) where
-  pub rest_added : (now : List ℕ) (ws mid new : List T) (p q : ℕ) → p ≤ length a → q ≤ length b
-      → (p ≡ length a) ⊎ (q ≡ length b) → IsAdding R f g old now us ws a av b bv p q
-      → GainsValues R f f ws mid (drop p av) → GainsValues R f g mid new (drop q bv)
-      → GainsEntries R f old ((now ++ drop p a) ++ drop q b) us new
-      (λ j. Contains a j ⊎ Contains b j) (λ j. R.add (lane_value R f a av j)
-      (lane_value R g b bv j))
-  rest_added now ws mid new p q p_le q_le end m front more =
-      let gains = rest_merged ra rb end m.indices in
+module _ (R : CommRing) (old : List ℕ) (us : List R.Carrier) (a : List ℕ) (av : List R.Carrier)
+    (b : List ℕ) (bv : List R.Carrier) (la : IsLane a av) (lb : IsLane b bv) where
+  pub rest_added : (now : List ℕ) (ws : List R.Carrier) (p q : ℕ) → p ≤ length a → q ≤ length b
+      → (p ≡ length a) ⊎ (q ≡ length b) → IsAdding R old now us ws a av b bv p q
+      → GainsSum R old ((now ++ drop p a) ++ drop q b) us ((ws ++ drop p av) ++ drop q bv) a av b bv
+  rest_added now ws p q p_le q_le end m =
+      let gains = rest_merged la.rising lb.rising end m.indices in
       let lane = m.indices.lane in
-      let long_front = rest_count a av p front ca in
-      let long_rest = rest_count b bv q more cb in
-      let count_front : length (m.values ++ front.values) ≡ length (lane ++ drop p a) =
+      let count_front : length (m.values ++ drop p av) ≡ length (lane ++ drop p a) =
       omega (
         arith,
-        length-append m.values front.values,
+        length-append m.values (drop p av),
         length-append lane (drop p a),
         m.count,
-        long_front,
+        length-drop p av,
+        length-drop p a,
+        la.count,
       ) in
       record {
         lane = (lane ++ drop p a) ++ drop q b;
-        values = (m.values ++ front.values) ++ more.values;
+        values = (m.values ++ drop p av) ++ drop q bv;
         pushed = gains.pushed;
-        values_pushed = more.pushed ∙ ap (λ l. l ++ more.values) (front.pushed
-            ∙ ap (λ l. l ++ front.values) m.values_pushed ∙ append_assoc us m.values front.values)
-            ∙ append_assoc us (m.values ++ front.values) more.values;
+        values_pushed = ap (λ l. l ++ drop q bv) (ap (λ l. l ++ drop p av) m.values_pushed
+            ∙ append_assoc us m.values (drop p av))
+            ∙ append_assoc us (m.values ++ drop p av) (drop q bv);
         count = omega (
           arith,
-          length-append (m.values ++ front.values) more.values,
+          length-append (m.values ++ drop p av) (drop q bv),
           length-append (lane ++ drop p a) (drop q b),
           count_front,
-          long_rest,
+          length-drop q bv,
+          length-drop q b,
+          lb.count,
         );
         rising = gains.rising;
         holds = gains.holds;
         sums = λ j.
-            let A = lane_value R f (take p a) (take p av) j in
-            let A' = lane_value R f (drop p a) (drop p av) j in
-            let B = lane_value R g (take q b) (take q bv) j in
-            let B' = lane_value R g (drop q b) (drop q bv) j in
-            let fronts : lane_value R f (lane ++ drop p a) (m.values ++ front.values) j
+            let A = element_at R (take p a) (take p av) j in
+            let A' = element_at R (drop p a) (drop p av) j in
+            let B = element_at R (take q b) (take q bv) j in
+            let B' = element_at R (drop q b) (drop q bv) j in
+            let fronts : element_at R (lane ++ drop p a) (m.values ++ drop p av) j
             ≡ R.add (R.add A B) A' =
-            lane_value-append R f lane (drop p a) m.values front.values j m.count
-            ∙ ap (R.add (lane_value R f lane m.values j))
-            (lane_value-same R f f (drop p a) front.values (drop p av) j front.meaning)
+            lane_value-append R (λ x. x) lane (drop p a) m.values (drop p av) j m.count
             ∙ ap (λ c. R.add c A') (m.sums j) in
-            lane_value-append R f (lane ++ drop p a) (drop q b) (m.values ++ front.values)
-            more.values j count_front
-            ∙ ap (λ c. R.add c (lane_value R f (drop q b) more.values j)) fronts
-            ∙ ap (R.add (R.add (R.add A B) A')) (lane_value-same R f g (drop q b) more.values
-            (drop q bv) j more.meaning)
+            lane_value-append R (λ x. x) (lane ++ drop p a) (drop q b) (m.values ++ drop p av)
+            (drop q bv) j count_front
+            ∙ ap (λ c. R.add c B') fronts
             ∙ R.laws.add_assoc (R.add A B) A' B' ∙ add_cross R A B A' B'
-            ∙ ap (λ c. R.add c (R.add B B')) (sym (lane_value_parts R f a av p j ca p_le))
-            ∙ ap (R.add (lane_value R f a av j)) (sym (lane_value_parts R g b bv q j cb q_le));
+            ∙ ap (λ c. R.add c (R.add B B')) (sym (lane_value_parts R (λ x. x) a av p j la.count
+            p_le))
+            ∙ ap (R.add (element_at R a av j)) (sym (lane_value_parts R (λ x. x) b bv q j lb.count
+            q_le));
+      }
+
+-- ---- lanes of values that represent elements
+
+module _ (R : CommRing) {T : Type 0} (f : T → R.Carrier) where
+  -- the element at j in the lane of the elements that values represent
+  pub element_at-map : (ks : List ℕ) (vs : List T) (j : ℕ)
+      → element_at R ks (map f vs) j ≡ lane_value R f ks vs j
+  element_at-map [] vs j = refl
+  element_at-map (k ∷ ks) [] j = refl
+  element_at-map (k ∷ ks) (v ∷ vs) j =
+      ap (R.add (where_true R (nat_eq k j) (f v))) (element_at-map ks vs j)
+
+  -- lists of indices and values gain the entries that the elements of the values gain
+  pub entries_gained : {old new : List ℕ} {us ws : List T} {P : ℕ → Type 0} {V V' : ℕ → R.Carrier}
+      → IsExtended us ws → GainsEntries R (λ x. x) old new (map f us) (map f ws) P V
+      → ((j : ℕ) → V j ≡ V' j) → GainsEntries R f old new us ws P V'
+  entries_gained {us = us} more gains same =
+      let meaning : map f more.values ≡ gains.values =
+      append_cancel_left (map f us) (map f more.values) gains.values
+      (sym (map-append f us more.values) ∙ ap (map f) (sym more.pushed) ∙ gains.values_pushed) in
+      record {
+        lane = gains.lane;
+        values = more.values;
+        pushed = gains.pushed;
+        values_pushed = more.pushed;
+        count = sym (length-map more.values f) ∙ ap length meaning ∙ gains.count;
+        rising = gains.rising;
+        holds = gains.holds;
+        sums = λ j. sym (element_at-map gains.lane more.values j)
+            ∙ ap (λ l. element_at R gains.lane l j) meaning ∙ gains.sums j ∙ same j;
       }

@@ -6,18 +6,6 @@ use Rattle.sparse_compressed.proofs.BuiltMatrices.{IsBuiltMatrix, matrix_lane_bu
 use Rattle.sparse_sums.specs.InnerAdding.{GainsEntries}
 
 module _ {R : CommRing} {T : Type 0} {f : T → R.Carrier} where
-  -- lists with as many values as indices still have so after they gain entries
-  pub gained_count : {old new : List ℕ} {us ws : List T} {P : ℕ → Type 0} {V : ℕ → R.Carrier}
-      → length us ≡ length old → GainsEntries R f old new us ws P V → length ws ≡ length new
-  gained_count {old} {us = us} count gains = omega (
-    arith,
-    ap length gains.pushed,
-    ap length gains.values_pushed,
-    length-append old gains.lane,
-    length-append us gains.values,
-    gains.count,
-  )
-
   module _ {m : ℕ} {P : ℕ → ℕ → Type 0} {V : ℕ → ℕ → R.Carrier} where
     -- empty arrays are those of the first 0 lanes
     pub none_built : IsBuiltMatrix R f m P V 0 (0 ∷ []) [] []

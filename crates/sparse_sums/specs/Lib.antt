@@ -1,5 +1,6 @@
 pub mod PatternSums
 pub mod InnerMerging
 pub mod InnerSigns
+pub mod InnerExtensions
 pub mod InnerAdding
 pub mod InnerTargets

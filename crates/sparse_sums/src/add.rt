@@ -1,6 +1,6 @@
 //! Sums and differences of matrices.
 
-ghost use Rattle.std.specs.Prelude.{◌≡◌, ◌<◌, [], vec_len, IfOk, OnOk};
+ghost use Rattle.std.specs.Prelude.{◌≡◌, ◌<◌, [], IfOk, OnOk};
 ghost use Rattle.sparse_algebra.specs.Plain.{plain_sum, plain_difference};
 ghost use Rattle.sparse_compressed.specs.Compressed.{IsSound};
 ghost use Rattle.sparse_compressed.specs.Lanes.{lane_at};
@@ -8,7 +8,7 @@ ghost use Rattle.sparse_compressed.specs.PlainOfLanes.{plain_of_rows, plain_of_c
 ghost use Rattle.sparse_sums.specs.InnerAdding.{GainsLanes, with_arrays};
 ghost use Rattle.sparse_sums.specs.InnerSigns.{plain_signed};
 
-use crate::merge::merge_lanes;
+use crate::merge::append_sum;
 use crate::room::estimated_union;
 use sparse_algebra::scalar::Ring;
 use sparse_compressed::CsMatrix;
@@ -192,12 +192,11 @@ fn append_lane<T: Ring, const NEGATE: bool>(
 ) -> Result<(), AllocError>
     requires first { i < a.now.pattern.major_dim }
     requires second { i < b.now.pattern.major_dim }
-    requires count { vec_len values.old ≡ vec_len indices.old }
     ensures gained { OnOk result (GainsLanes T.ring T.value NEGATE (lane_at a.now i)
         (lane_at b.now i) indices.old.items indices.new.items values.old.items values.new.items) }
 {
     let (first, second) = (a.lane(i), b.lane(i));
-    merge_lanes::<T, NEGATE>(
+    append_sum::<T, NEGATE>(
         first.minor_indices(),
         first.values(),
         second.minor_indices(),

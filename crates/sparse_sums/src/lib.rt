@@ -11,7 +11,7 @@ mod scale;
 mod scaled;
 
 pub use add::{add_csc, add_csr, sub_csc, sub_csr};
-pub use merge::merged_value;
+pub use merge::{Operand, Output, merge_lanes};
 pub use pattern::spadd_pattern;
 pub use prealloc::{spadd_csc_prealloc, spadd_csr_prealloc};
 pub use scale::{neg_csc, neg_csr, scale_csc, scale_csr};

@@ -1,83 +1,64 @@
-//! The merge of two lanes of entries into one, which all sums of this crate share.
+//! The merge of two lanes of entries into one, which all sums share.
 
-ghost use Rattle.std.specs.Prelude.{◌≡◌, ◌+◌, ◌-◌, ◌<◌, ◌≤◌, ◌⊎◌, ◌++◌, length, vec_len};
-ghost use Rattle.std.specs.Prelude.{vec_capacity, Contains, OnOk};
-ghost use Rattle.std.specs.List.Sorted.{IsStrictlyIncreasing};
-ghost use Rattle.sparse_compressed.specs.InnerLaneValue.{lane_value};
-ghost use Rattle.sparse_sums.specs.InnerSigns.{signed};
-ghost use Rattle.sparse_sums.specs.InnerAdding.{GainsValues, GainsEntries, IsAdding};
+ghost use Rattle.std.specs.Prelude.{◌≡◌, ◌+◌, ◌<◌, ◌≤◌, ◌⊎◌, ◌++◌, length, drop};
+ghost use Rattle.sparse_sums.specs.InnerAdding.{GainsSum, IsAdding, IsLane};
 
+mod operand;
+mod output;
+mod vectors;
+
+pub use operand::Operand;
+pub use output::Output;
 use sparse_algebra::scalar::Ring;
-use std::alloc::AllocError;
+pub(crate) use vectors::append_sum;
 
-// Returns the value, or its negative if `NEGATE`.
-fn with_sign<T: Ring, const NEGATE: bool>(value: T) -> T
-    ensures { T.value result ≡ signed T.ring NEGATE (T.value value) }
+/// Appends the sum of two lanes: one entry for each index that either lane has, in increasing order of index. Values
+/// with the same index are added.
+#[inline(always)]
+pub fn merge_lanes<T: Ring, A: Operand<T>, B: Operand<T>, O: Output<T>>(
+    a: &A,
+    b: &B,
+    output: &mut O,
+)
+    requires a_lane { IsLane (A.indices a.now) (A.elements T.ring T.value a.now) }
+    requires b_lane { IsLane (B.indices b.now) (B.elements T.ring T.value b.now) }
+    requires room { length (A.indices a.now) + length (B.indices b.now) ≤ O.room output.old }
+    ensures gained { GainsSum T.ring (O.indices output.old) (O.indices output.new)
+        (O.elements T.ring T.value output.old) (O.elements T.ring T.value output.new)
+        (A.indices a.now) (A.elements T.ring T.value a.now)
+        (B.indices b.now) (B.elements T.ring T.value b.now) }
+    ensures room { O.room output.old
+        ≤ O.room output.new + (length (A.indices a.now) + length (B.indices b.now)) }
+    ensures kept { O.keeps output.old output.new }
 {
-    if NEGATE { value.neg() } else { value }
+    let (p, q) = merge_until_end(a, b, output);
+    append_rest(a, p, output);
+    append_rest(b, q, output);
 }
 
-// Appends the entries of what is left of a lane, with each value negated if `NEGATE`.
-fn append_rest<T: Ring, const NEGATE: bool>(
-    rest: &[usize],
-    rest_values: &[T],
-    indices: &mut Vec<usize>,
-    values: &mut Vec<T>,
-)
-    requires count { length rest_values.now ≡ length rest.now }
-    requires room { vec_len indices.old + length rest.now ≤ vec_capacity indices.old }
-    requires values_room { vec_len values.old + length rest.now ≤ vec_capacity values.old }
-    ensures capacity { vec_capacity indices.new ≡ vec_capacity indices.old }
-    ensures values_capacity { vec_capacity values.new ≡ vec_capacity values.old }
-    ensures len { vec_len indices.new ≡ vec_len indices.old + length rest.now }
-    ensures values_len { vec_len values.new ≡ vec_len values.old + length rest.now }
-    ensures indices { indices.new.items ≡ indices.old.items ++ rest.now }
-    ensures values { GainsValues T.ring T.value (λ x. signed T.ring NEGATE (T.value x))
-        values.old.items values.new.items rest_values.now }
+// Appends the entries of a lane from entry `from` on.
+#[inline(always)]
+fn append_rest<T: Ring, A: Operand<T>, O: Output<T>>(a: &A, from: usize, output: &mut O)
+    requires count { length (A.elements T.ring T.value a.now) ≡ length (A.indices a.now) }
+    requires from { from ≤ length (A.indices a.now) }
+    requires room { length (A.indices a.now) ≤ O.room output.old + from }
+    ensures indices { O.indices output.new ≡ O.indices output.old ++ drop from (A.indices a.now) }
+    ensures elements { O.elements T.ring T.value output.new
+        ≡ O.elements T.ring T.value output.old ++ drop from (A.elements T.ring T.value a.now) }
+    ensures room { O.room output.old + from ≡ O.room output.new + length (A.indices a.now) }
+    ensures kept { O.keeps output.old output.new }
 {
-    for k in 0..rest.len() {
-        indices.push_reserved(rest[k]);
-        values.push_reserved(with_sign::<T, NEGATE>(rest_values[k]));
+    let indices = a.indices();
+    for k in from..indices.len() {
+        output.push(indices[k], a.value(k));
     }
 }
 
-// Appends the sum of two lanes, or their difference if `NEGATE`: one entry for each index that either lane has, in
-// increasing order of index. Values with the same index are added.
+// Returns the value at the smaller of two indices, or the sum of both values where these are equal.
 //
-// Fails only if an allocation fails.
-#[tactic(auto, using(sparse_algebra::proofs::EarlyReturns::early_return))]
-pub(crate) fn merge_lanes<T: Ring, const NEGATE: bool>(
-    a: &[usize],
-    a_values: &[T],
-    b: &[usize],
-    b_values: &[T],
-    indices: &mut Vec<usize>,
-    values: &mut Vec<T>,
-) -> Result<(), AllocError>
-    requires a_count { length a_values.now ≡ length a.now }
-    requires b_count { length b_values.now ≡ length b.now }
-    requires a_rising { IsStrictlyIncreasing a.now }
-    requires b_rising { IsStrictlyIncreasing b.now }
-    requires count { vec_len values.old ≡ vec_len indices.old }
-    ensures gained { OnOk result (GainsEntries T.ring T.value indices.old.items indices.new.items
-        values.old.items values.new.items
-        (λ j. Contains a.now j ⊎ Contains b.now j)
-        (λ j. T.ring.add (lane_value T.ring T.value a.now a_values.now j)
-        (lane_value T.ring (λ x. signed T.ring NEGATE (T.value x)) b.now b_values.now j))) }
-{
-    let most = a.len() + b.len();
-    indices.reserve(most)?;
-    values.reserve(most)?;
-    let (p, q) = merge_until_end::<T, NEGATE>(a, a_values, b, b_values, indices, values);
-    append_rest::<T, false>(&a[p..], &a_values[p..], indices, values);
-    append_rest::<T, NEGATE>(&b[q..], &b_values[q..], indices, values);
-    Ok(())
-}
-
-/// Returns the value at the smaller of two indices, or the sum of both values where these are equal.
-///
-/// The sum is computed in any case, so that the compiler selects the result without a branch.
-pub fn merged_value<T: Ring>(j: usize, first: T, k: usize, second: T) -> T
+// The sum is computed in any case, so that the compiler selects the result without a branch.
+#[inline(always)]
+fn merged_value<T: Ring>(j: usize, first: T, k: usize, second: T) -> T
     ensures first { j < k → result ≡ first }
     ensures second { k < j → result ≡ second }
     ensures sum { j ≡ k → T.value result ≡ T.ring.add (T.value first) (T.value second) }
@@ -94,39 +75,31 @@ pub fn merged_value<T: Ring>(j: usize, first: T, k: usize, second: T) -> T
 
 // Merges both lanes until one of them ends. Returns how many entries of each were merged. The only branch is the test of
 // the loop: one that depends on indices would be mispredicted.
-fn merge_until_end<T: Ring, const NEGATE: bool>(
-    a: &[usize],
-    a_values: &[T],
-    b: &[usize],
-    b_values: &[T],
-    indices: &mut Vec<usize>,
-    values: &mut Vec<T>,
+#[inline(always)]
+fn merge_until_end<T: Ring, A: Operand<T>, B: Operand<T>, O: Output<T>>(
+    a: &A,
+    b: &B,
+    output: &mut O,
 ) -> (usize, usize)
-    requires a_count { length a_values.now ≡ length a.now }
-    requires b_count { length b_values.now ≡ length b.now }
-    requires a_rising { IsStrictlyIncreasing a.now }
-    requires b_rising { IsStrictlyIncreasing b.now }
-    requires count { vec_len values.old ≡ vec_len indices.old }
-    requires room { vec_len indices.old + (length a.now + length b.now) ≤ vec_capacity indices.old }
-    requires values_room { vec_len values.old + (length a.now + length b.now)
-        ≤ vec_capacity values.old }
-    ensures capacity { vec_capacity indices.new ≡ vec_capacity indices.old }
-    ensures values_capacity { vec_capacity values.new ≡ vec_capacity values.old }
-    ensures count { vec_len values.new ≡ vec_len indices.new }
-    ensures first { result.0 ≤ length a.now }
-    ensures second { result.1 ≤ length b.now }
-    ensures len { vec_len indices.new ≤ vec_len indices.old + (result.0 + result.1) }
-    ensures end { (result.0 ≡ length a.now) ⊎ (result.1 ≡ length b.now) }
-    ensures added { IsAdding T.ring T.value (λ x. signed T.ring NEGATE (T.value x))
-        indices.old.items indices.new.items values.old.items values.new.items
-        a.now a_values.now b.now b_values.now result.0 result.1 }
+    requires a_lane { IsLane (A.indices a.now) (A.elements T.ring T.value a.now) }
+    requires b_lane { IsLane (B.indices b.now) (B.elements T.ring T.value b.now) }
+    requires room { length (A.indices a.now) + length (B.indices b.now) ≤ O.room output.old }
+    ensures first { result.0 ≤ length (A.indices a.now) }
+    ensures second { result.1 ≤ length (B.indices b.now) }
+    ensures end { (result.0 ≡ length (A.indices a.now)) ⊎ (result.1 ≡ length (B.indices b.now)) }
+    ensures room { O.room output.old ≤ O.room output.new + (result.0 + result.1) }
+    ensures added { IsAdding T.ring (O.indices output.old) (O.indices output.new)
+        (O.elements T.ring T.value output.old) (O.elements T.ring T.value output.new)
+        (A.indices a.now) (A.elements T.ring T.value a.now)
+        (B.indices b.now) (B.elements T.ring T.value b.now) result.0 result.1 }
+    ensures kept { O.keeps output.old output.new }
 {
+    let (a_indices, b_indices) = (a.indices(), b.indices());
     let (mut p, mut q) = (0, 0);
-    while p < a.len() && q < b.len() {
-        let (j, k) = (a[p], b[q]);
-        let value = with_sign::<T, NEGATE>(b_values[q]);
-        indices.push_reserved(j.min(k));
-        values.push_reserved(merged_value(j, a_values[p], k, value));
+    while p < a_indices.len() && q < b_indices.len() {
+        let (j, k) = (a_indices[p], b_indices[q]);
+        let (first, second) = (a.value(p), b.value(q));
+        output.push(j.min(k), merged_value(j, first, k, second));
         if j <= k {
             p += 1;
         }

@@ -4,7 +4,7 @@ ghost use Rattle.std.specs.Prelude.{◌≡◌, IfOk};
 ghost use Rattle.sparse_pattern.specs.Raw.{IsValid};
 ghost use Rattle.sparse_sums.specs.PatternSums.{IsUnionOf};
 
-use crate::merge::merge_lanes;
+use crate::merge::append_sum;
 use sparse_algebra::scalar::NoValue;
 use sparse_pattern::pattern::SparsityPattern;
 use std::alloc::{AllocError, Global};
@@ -37,7 +37,7 @@ pub fn spadd_pattern(
     for i in 0..a.major_dim() {
         let (first, second) = (a.lane(i), b.lane(i));
         let (first_none, second_none) = (&none[..first.len()], &none[..second.len()]);
-        merge_lanes::<NoValue, false>(
+        append_sum::<NoValue, false>(
             first,
             first_none,
             second,

@@ -4,15 +4,16 @@ ghost use Rattle.std.specs.Prelude.{◌≡◌, ◌+◌, ◌<◌, ◌≤◌, leng
 ghost use Rattle.sparse_algebra.specs.Plain.{plain_sum, plain_scaled};
 ghost use Rattle.sparse_pattern.specs.Raw.{start_of, end_of, lane_of};
 ghost use Rattle.sparse_compressed.specs.Compressed.{IsSound};
+ghost use Rattle.sparse_sums.specs.InnerAdding.{IsLane};
 ghost use Rattle.c_arrays.specs.Arrays.{plain_by_rows, output_arrays, HoldsRows};
 ghost use Rattle.c_arrays.specs.Reduced.{FirstAre};
 ghost use Rattle.c_arrays.specs.Rests.{KeepsRest};
-ghost use Rattle.c_arrays.specs.InnerFilling.{IsLane};
 
 use crate::number::Number;
-use crate::sums::merge::merge_lanes;
-use crate::sums::parts::ScaledLane;
+use crate::sums::lane::ScaledLane;
+use crate::sums::output::EntryArrays;
 use sparse_compressed::CsView;
+use sparse_sums::merge_lanes;
 
 // A matrix by rows and the scale of its values: a term of the sum.
 #[derive(Drop)]
@@ -67,10 +68,14 @@ pub(crate) fn write_rows<T: Number>(
     ensures shown { FirstAre T.is_shown result values.new }
 {
     offsets[0] = 0;
-    let mut at = 0;
+    let mut entries = EntryArrays {
+        indices,
+        values,
+        end: 0,
+    };
     for i in 0..a.matrix.major_dim() {
-        at = merge_lanes(&row(a, i), &row(b, i), indices, values, at);
-        offsets[i + 1] = at;
+        merge_lanes(&row(a, i), &row(b, i), &mut entries);
+        offsets[i + 1] = entries.end;
     }
-    at
+    entries.end
 }

@@ -9,5 +9,5 @@ returns g c = record {
     c.values-2.ensures.values,
     c.lane-first.ensures,
     c.lane-second.ensures,
-  ) at c.merge_lanes.ensures.gained;
+  ) at c.append_sum.ensures.gained;
 }

@@ -1,19 +1,15 @@
-use Rattle.std.proofs.Common.{◌≡◌, ◌<◌, not, eqb, ◌++◌, ◌∷◌, [], length, sym, ap, ◌∙◌, arith}
+use Rattle.std.proofs.Common.{◌≡◌, ◌<◌, not, eqb, ◌++◌, ◌∷◌, [], ap, ◌∙◌, arith}
 use Rattle.sparse_pattern.specs.Raw.{Raw}
-use Rattle.sparse_sums.proofs.BuiltSums.{none_built, gained_count}
+use Rattle.sparse_sums.proofs.BuiltSums.{none_built}
 use Rattle.sparse_sums.proofs.SumLanes.{sum_more, sum_is, sum_sound}
 use Rattle.sparse_sums.proofs.add.append_lanes.Goals as goal
 
 pub loop-i-init : goal.loop-i-init
 loop-i-init g c =
     let r = c.requires in
-    let values = c.args.values.now in
-    let indices = c.args.indices.now in
     let offsets_is : c.push.new.self.items ≡ 0 ∷ [] =
     c.in_ok-push.ensures.items ∙ ap (λ l. l ++ 0 ∷ []) r.no_offsets in
     record {
-      values_count = values.ok.0 ∙ ap length r.no_values
-          ∙ sym (indices.ok.0 ∙ ap length r.no_indices);
       built = rw (offsets_is, r.no_indices, r.no_values) none_built;
     }
 
@@ -28,8 +24,6 @@ loop-i-preserved g c =
     let was = c.loop-i in
     let now = c.append_lane.new in
     record {
-      values_count = now.values.ok.0 ∙ gained_count (sym was.values.ok.0
-          ∙ was.invariant.values_count ∙ was.indices.ok.0) gained ∙ sym now.indices.ok.0;
       built = sum_more g.T.Ring.ring g.T.Ring.value g.T.Zero.zero_value (not (eqb g.row.NEGATE 0))
           c.args.a.now c.args.b.now c.pattern.ensures.sound r.sound r.lanes r.width was.i
           was.offsets.items _ was.indices.items now.indices.items was.values.items

@@ -1,17 +1,17 @@
-use Rattle.std.proofs.Common.{not, eqb, ◌≡◌, ◌+◌, ◌++◌, take, vec_len, vec_capacity}
-use Rattle.sparse_sums.specs.InnerSigns.{signed}
-use Rattle.sparse_sums.specs.InnerAdding.{GainsValues}
+use Rattle.std.proofs.Common.{◌≡◌, ◌+◌, ◌≤◌, ◌++◌, drop}
 use Rattle.sparse_sums.proofs.merge.append_rest.Given as goal
 
 abbrev pub invariant-loop-k : goal.invariant-loop-k
-invariant-loop-k g l = record {
-  capacity : vec_capacity l.indices ≡ vec_capacity l.initial.indices;
-  values_capacity : vec_capacity l.values ≡ vec_capacity l.initial.values;
-  count : vec_len l.indices ≡ vec_len l.initial.indices + l.k;
-  values_count : vec_len l.values ≡ vec_len l.initial.values + l.k;
-  indices : l.indices.items ≡ l.initial.indices.items ++ take l.k l.rest;
-  values : GainsValues g.T.Ring.ring g.T.Ring.value
-      (λ x. signed g.T.Ring.ring (not (eqb g.row.NEGATE 0)) (g.T.Ring.value x))
-      l.initial.values.items
-      l.values.items (take l.k l.rest_values);
-}
+invariant-loop-k g l =
+    let R = g.T.Ring.ring in
+    let f = g.T.Ring.value in
+    record {
+      from : l.from ≤ l.k;
+      indices : g.O.Output.indices l.initial.output ++ drop l.from l.indices
+          ≡ g.O.Output.indices l.output ++ drop l.k l.indices;
+      elements : g.O.Output.elements R f l.initial.output
+          ++ drop l.from (g.A.Operand.elements R f l.a)
+          ≡ g.O.Output.elements R f l.output ++ drop l.k (g.A.Operand.elements R f l.a);
+      room : g.O.Output.room l.initial.output + l.from ≡ g.O.Output.room l.output + l.k;
+      kept : g.O.Output.keeps l.initial.output l.output;
+    }

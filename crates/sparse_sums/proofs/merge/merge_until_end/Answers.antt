@@ -1,5 +1,5 @@
-use Rattle.std.proofs.Common.{◌≡◌, ◌<◌, not, eqb, get_or, refl, ap, ◌∙◌, arith}
-use Rattle.sparse_sums.specs.InnerSigns.{signed}
+use Rattle.std.proofs.Common.{◌≡◌, ◌<◌, get_or, ap, ◌∙◌, arith}
+use Rattle.sparse_sums.specs.InnerAdding.{IsLane}
 use Rattle.sparse_sums.proofs.Adding.{none_added, adding_first, adding_second, adding_both}
 use Rattle.sparse_sums.proofs.merge.merge_until_end.Goals as goal
 use Rattle.sparse_sums.proofs.merge.merge_until_end.Goals.{then-j-k, else-j-k}
@@ -8,67 +8,60 @@ pub loop-p-init : goal.loop-p-init
 loop-p-init g c =
     let R = g.T.Ring.ring in
     let f = g.T.Ring.value in
-    let h = λ (x : g.row.T.Denot). signed R (not (eqb g.row.NEGATE 0)) (f x) in
+    let output = c.args.output.now in
     record {
       first = omega arith;
       second = omega arith;
-      capacity = refl;
-      values_capacity = refl;
-      count = omega arith;
-      values_count = c.requires.count;
-      added = none_added R f h _ _ c.args.a.now c.args.a_values.now c.args.b.now
-          c.args.b_values.now;
+      room = omega arith;
+      added = none_added R (g.O.Output.indices output) (g.O.Output.elements R f output)
+          c.indices-a_indices.result.now (g.A.Operand.elements R f c.args.a.now)
+          c.indices-b_indices.result.now (g.B.Operand.elements R f c.args.b.now);
+      kept = g.met.O.Output.keeps_same output;
     }
 
 pub loop-p-preserved-then-k-j : goal.loop-p-preserved-then-k-j
 loop-p-preserved-then-k-j g c =
     let R = g.T.Ring.ring in
     let f = g.T.Ring.value in
-    let h = λ (x : g.row.T.Denot). signed R (not (eqb g.row.NEGATE 0)) (f x) in
-    let a = c.args.a.now in
-    let b = c.args.b.now in
+    let a = c.indices-a_indices.result.now in
+    let av = g.A.Operand.elements R f c.args.a.now in
+    let b = c.indices-b_indices.result.now in
+    let bv = g.B.Operand.elements R f c.args.b.now in
+    let la : IsLane a av = rw c.indices-a_indices.ensures c.requires.a_lane in
+    let lb : IsLane b bv = rw c.indices-b_indices.ensures c.requires.b_lane in
     let p = c.loop-p.p in
     let q = c.loop-p.q in
-    let r = c.requires in
+    let x = c.min.result in
+    let v = f c.merged_value.result in
     let inv = c.loop-p.invariant in
-    let index = c.push_reserved.ensures in
-    let value = c.push_reserved-in-loop-p.ensures in
     let front = c.merged_value.ensures in
+    let push = c.push.ensures in
+    let kept = g.met.O.Output.keeps_then _ _ _ inv.kept push.kept in
     elim c.if-j-k.branch [
       | then-j-k w ↦
           let same : get_or a p 0 ≡ get_or b q 0 = omega arith in
-          let least : c.min.result ≡ get_or a p 0 = omega (arith, c.min.ensures) in
-          let next = adding_both R f h _ _ a _ b _ _ _ p q r.a_rising r.b_rising r.a_count
-          r.b_count inv.added c.min.result c.merged_value.result
-          (omega arith) (omega arith) least (least ∙ same)
-          c.index-a_values-p.result c.index-b_values-q.result c.index-a_values-p.is
-          c.index-b_values-q.is
-          (front.sum same ∙ ap (R.add (f c.index-a_values-p.result)) c.with_sign-value.ensures) in
+          let least : x ≡ get_or a p 0 = omega (arith, c.min.ensures) in
+          let next = adding_both R _ _ a av b bv _ _ p q la lb inv.added x v (omega arith)
+          (omega arith) least (least ∙ same) (f c.value-first.result) (f c.value-second.result)
+          c.value-first.ensures c.value-second.ensures (front.sum same) in
           record {
             first = omega arith;
             second = omega arith;
-            capacity = index.capacity ∙ inv.capacity;
-            values_capacity = value.capacity ∙ inv.values_capacity;
-            count = omega (arith, index.len, inv.count, w.p-is);
-            values_count = omega (arith, index.len, value.len, inv.values_count);
-            added = rw (index.items, value.items, w.p-is) next;
+            room = omega (arith, inv.room, push.room, w.p-is);
+            added = rw (push.indices, push.elements, w.p-is) next;
+            kept = kept;
           }
       | else-j-k w ↦
           let later : get_or b q 0 < get_or a p 0 = omega arith in
-          let least : c.min.result ≡ get_or b q 0 = omega (arith, c.min.ensures) in
-          let next = adding_second R f h _ _ a _ b _ _ _ p q r.a_rising r.b_rising r.a_count
-          r.b_count inv.added c.min.result c.merged_value.result
-          (omega arith) least (λ _. omega (arith, least))
-          c.index-b_values-q.result c.index-b_values-q.is
-          (ap f (front.second later) ∙ c.with_sign-value.ensures) in
+          let least : x ≡ get_or b q 0 = omega (arith, c.min.ensures) in
+          let next = adding_second R _ _ a av b bv _ _ p q la lb inv.added x v (omega arith) least
+          (λ _. omega (arith, least)) (ap f (front.second later) ∙ c.value-second.ensures) in
           record {
             first = omega arith;
             second = omega arith;
-            capacity = index.capacity ∙ inv.capacity;
-            values_capacity = value.capacity ∙ inv.values_capacity;
-            count = omega (arith, index.len, inv.count, w.p-is);
-            values_count = omega (arith, index.len, value.len, inv.values_count);
-            added = rw (index.items, value.items, w.p-is) next;
+            room = omega (arith, inv.room, push.room, w.p-is);
+            added = rw (push.indices, push.elements, w.p-is) next;
+            kept = kept;
           }
     ]
 
@@ -76,32 +69,31 @@ pub loop-p-preserved : goal.loop-p-preserved
 loop-p-preserved g c =
     let R = g.T.Ring.ring in
     let f = g.T.Ring.value in
-    let h = λ (x : g.row.T.Denot). signed R (not (eqb g.row.NEGATE 0)) (f x) in
-    let a = c.args.a.now in
-    let b = c.args.b.now in
+    let a = c.indices-a_indices.result.now in
+    let av = g.A.Operand.elements R f c.args.a.now in
+    let b = c.indices-b_indices.result.now in
+    let bv = g.B.Operand.elements R f c.args.b.now in
+    let la : IsLane a av = rw c.indices-a_indices.ensures c.requires.a_lane in
+    let lb : IsLane b bv = rw c.indices-b_indices.ensures c.requires.b_lane in
     let p = c.loop-p.p in
     let q = c.loop-p.q in
-    let r = c.requires in
+    let x = c.min.result in
+    let v = f c.merged_value.result in
     let inv = c.loop-p.invariant in
-    let index = c.push_reserved.ensures in
-    let value = c.push_reserved-in-loop-p.ensures in
-    let front = c.merged_value.ensures in
+    let push = c.push.ensures in
     elim c.if-j-k.branch [
       | then-j-k w ↦
           let later : get_or a p 0 < get_or b q 0 = omega arith in
-          let least : c.min.result ≡ get_or a p 0 = omega (arith, c.min.ensures) in
-          let next = adding_first R f h _ _ a _ b _ _ _ p q r.a_rising r.b_rising r.a_count
-          r.b_count inv.added c.min.result c.merged_value.result
-          (omega arith) least (λ _. omega (arith, least))
-          (rw (front.first later) c.index-a_values-p.is) in
+          let least : x ≡ get_or a p 0 = omega (arith, c.min.ensures) in
+          let next = adding_first R _ _ a av b bv _ _ p q la lb inv.added x v (omega arith) least
+          (λ _. omega (arith, least))
+          (ap f (c.merged_value.ensures.first later) ∙ c.value-first.ensures) in
           record {
             first = omega arith;
             second = omega arith;
-            capacity = index.capacity ∙ inv.capacity;
-            values_capacity = value.capacity ∙ inv.values_capacity;
-            count = omega (arith, index.len, inv.count, w.p-is);
-            values_count = omega (arith, index.len, value.len, inv.values_count);
-            added = rw (index.items, value.items, w.p-is) next;
+            room = omega (arith, inv.room, push.room, w.p-is);
+            added = rw (push.indices, push.elements, w.p-is) next;
+            kept = g.met.O.Output.keeps_then _ _ _ inv.kept push.kept;
           }
       | else-j-k w ↦ absurd (omega arith)
     ]

@@ -1,16 +1,15 @@
-use Rattle.std.proofs.Common.{◌≡◌, ◌++◌, ◌∷◌, [], sym, ◌∙◌, ap, refl, arith}
+use Rattle.std.proofs.Common.{◌≡◌, ◌++◌, ◌∷◌, [], ◌∙◌, ap, refl, arith}
 use Rattle.sparse_compressed.proofs.LaneSearch.{rising_lane}
-use Rattle.sparse_sums.proofs.BuiltSums.{gained_count}
 use Rattle.sparse_sums.proofs.UnionLanes.{gained_lane, union_more, union_all}
 use Rattle.sparse_sums.proofs.pattern.spadd_pattern.Goals as goal
 
-pub merge_lanes-requires-clause-a_rising : goal.merge_lanes-requires-clause-a_rising
-merge_lanes-requires-clause-a_rising c =
+pub append_sum-requires-clause-a_rising : goal.append_sum-requires-clause-a_rising
+append_sum-requires-clause-a_rising c =
     rw c.lane-first.ensures (rising_lane c.args.a.now c.loop-i.i
     (c.minor_indices.ensures.valid.lanes c.loop-i.i (omega arith)))
 
-pub merge_lanes-requires-clause-b_rising : goal.merge_lanes-requires-clause-b_rising
-merge_lanes-requires-clause-b_rising c =
+pub append_sum-requires-clause-b_rising : goal.append_sum-requires-clause-b_rising
+append_sum-requires-clause-b_rising c =
     rw c.lane-second.ensures (rising_lane c.args.b.now c.loop-i.i
     (c.minor_indices-2.ensures.valid.lanes c.loop-i.i (omega arith)))
 
@@ -21,12 +20,10 @@ loop-i-preserved c =
     let va = c.minor_indices.ensures.valid in
     let vb = c.minor_indices-2.ensures.valid in
     let gained = rw (c.lane-first.ensures, c.lane-second.ensures) at
-    c.in_ok-merge_lanes.ensures.gained in
+    c.in_ok-append_sum.ensures.gained in
     let was = c.loop-i in
-    let now = c.merge_lanes.new in
+    let now = c.append_sum.new in
     record {
-      values_count = now.values.ok.0 ∙ gained_count (sym was.sums.ok.0 ∙ was.invariant.values_count
-          ∙ was.indices.ok.0) gained ∙ sym now.indices.ok.0;
       built = union_more a b va vb c.requires.lanes c.requires.width _ (omega arith)
           was.invariant.built (gained_lane gained)
           (c.in_ok-push-2.ensures.items ∙ ap (λ n. was.offsets.items ++ n ∷ [])

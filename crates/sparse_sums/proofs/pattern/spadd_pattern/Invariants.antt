@@ -1,10 +1,8 @@
-use Rattle.std.proofs.Common.{◌≡◌, vec_len}
 use Rattle.sparse_pattern.proofs.BuiltLanes.{IsBuilt}
 use Rattle.sparse_sums.proofs.UnionLanes.{IsEither}
 use Rattle.sparse_sums.proofs.pattern.spadd_pattern.Given as goal
 
 abbrev pub invariant-loop-i : goal.invariant-loop-i
 invariant-loop-i l = record {
-  values_count : vec_len l.sums ≡ vec_len l.indices;
   built : IsBuilt l.a.minor_dim (IsEither l.a l.b) l.i l.offsets.items l.indices.items;
 }

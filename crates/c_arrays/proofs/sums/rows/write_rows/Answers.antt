@@ -1,8 +1,9 @@
-use Rattle.std.proofs.Common.{◌≡◌, ◌+◌, ◌<◌, ◌≤◌, ℕ, length, set, ap, subst, ◌∙◌, refl, arith}
+use Rattle.std.proofs.Common.{◌≡◌, ◌+◌, ◌<◌, ◌≤◌, ℕ, length, set, ap, subst, ◌∙◌, refl, rules, arith}
 use Rattle.std.proofs.lemmas.List.{drop-set-lt, length-set}
 use Rattle.sparse_pattern.specs.Raw.{start_of}
 use Rattle.sparse_pattern.proofs.PatternLanes.{length-lane}
-use Rattle.c_arrays.proofs.Filling.{unchanged_later, filled_none, filled_then}
+use Rattle.c_arrays.specs.InnerFilling.{filled_none, filled_then}
+use Rattle.c_arrays.proofs.Filling.{unchanged_later}
 use Rattle.c_arrays.proofs.ScaledSums.{HasRows, no_rows, row_more, rows_held}
 use Rattle.c_arrays.proofs.sums.rows.write_rows.Goals as goal
 
@@ -13,6 +14,8 @@ loop-i-init g c =
     let b = c.args.b.now in
     let offsets = c.args.offsets.now in
     record {
+      same_indices = refl;
+      same_values = refl;
       most = omega arith;
       built = no_rows g.T.Ring.ring (f a.scale) (f b.scale) a.matrix b.matrix offsets
           c.args.indices.now c.args.values.now (omega (arith, c.requires.offsets_room));
@@ -20,11 +23,12 @@ loop-i-init g c =
       offsets_rest = refl;
     }
 
-pub merge_lanes-at-requires-clause-room : goal.merge_lanes-at-requires-clause-room
-merge_lanes-at-requires-clause-room g c =
+pub merge_lanes-requires-clause-room : goal.merge_lanes-requires-clause-room
+merge_lanes-requires-clause-room g c =
     let p = c.args.a.now.matrix.pattern in
     let q = c.args.b.now.matrix.pattern in
     let i = c.loop-i.i in
+    let inv = c.loop-i.invariant in
     let lt : i < p.major_dim = omega (arith, c.loop-i-test.true, c.major_dim-i-end.ensures) in
     let va = c.requires.first.valid.lanes i lt in
     let vb = c.requires.second.valid.lanes i (omega (arith, lt, c.requires.rows)) in
@@ -38,32 +42,11 @@ merge_lanes-at-requires-clause-room g c =
       va.inside,
       vb.ordered,
       vb.inside,
-      c.loop-i.invariant.most,
+      inv.most,
       c.requires.room,
-      c.loop-i.auto.indices,
-    )
-
-pub merge_lanes-at-requires-clause-values_room : goal.merge_lanes-at-requires-clause-values_room
-merge_lanes-at-requires-clause-values_room g c =
-    let p = c.args.a.now.matrix.pattern in
-    let q = c.args.b.now.matrix.pattern in
-    let i = c.loop-i.i in
-    let lt : i < p.major_dim = omega (arith, c.loop-i-test.true, c.major_dim-i-end.ensures) in
-    let va = c.requires.first.valid.lanes i lt in
-    let vb = c.requires.second.valid.lanes i (omega (arith, lt, c.requires.rows)) in
-    omega (
-      arith,
-      ap length c.row.ensures.indices,
-      ap length c.row-in-loop-i.ensures.indices,
-      length-lane p i va,
-      length-lane q i vb,
-      va.ordered,
-      va.inside,
-      vb.ordered,
-      vb.inside,
-      c.loop-i.invariant.most,
       c.requires.values_room,
-      c.loop-i.auto.values,
+      inv.filled.indices_count,
+      inv.filled.values_count,
     )
 
 pub loop-i-preserved : goal.loop-i-preserved
@@ -76,15 +59,18 @@ loop-i-preserved g c =
     let i = c.loop-i.i in
     let was = c.loop-i in
     let inv = c.loop-i.invariant in
-    let merged = c.merge_lanes-at in
+    let merged = c.merge_lanes.ensures in
+    let now = c.merge_lanes.new.output in
     let one = c.row.ensures in
     let two = c.row-in-loop-i.ensures in
     let lt : i < p.major_dim = omega (arith, c.loop-i-test.true, c.major_dim-i-end.ensures) in
     let va = c.requires.first.valid.lanes i lt in
     let vb = c.requires.second.valid.lanes i (omega (arith, lt, c.requires.rows)) in
-    let most : merged.result ≤ start_of p (i + 1) + start_of q (i + 1) = omega (
+    let filled = filled_then inv.filled merged.kept.2 in
+    let most : now.end ≤ start_of p (i + 1) + start_of q (i + 1) = omega (
       arith,
-      merged.ensures.most,
+      merged.room,
+      merged.kept.2.within,
       ap length one.indices,
       ap length two.indices,
       length-lane p i va,
@@ -93,20 +79,16 @@ loop-i-preserved g c =
       vb.ordered,
       inv.most,
     ) in
-    let within : merged.result ≤ length merged.new.indices = omega (
-      arith,
-      most,
-      va.inside,
-      vb.inside,
-      c.requires.room,
-      c.loop-i.auto.indices,
-      merged.auto.indices,
-    ) in
+    let within : now.end ≤ length now.indices.now =
+    omega (arith, most, va.inside, vb.inside, c.requires.room, filled.indices_count) in
     record {
+      same_indices = merged.kept.0 ∙ inv.same_indices;
+      same_values = merged.kept.1 ∙ inv.same_values;
       most = most;
       built = row_more g.T.Ring.ring (f a.scale) (f b.scale) a.matrix b.matrix
-          c.requires.first c.requires.second c.requires.rows c.requires.cols i was.at
-          merged.result was.offsets was.indices merged.new.indices was.values merged.new.values lt
+          c.requires.first c.requires.second c.requires.rows c.requires.cols i was.entries.end
+          now.end was.offsets was.entries.indices.now now.indices.now was.entries.values.now
+          now.values.now lt
           (omega (
             arith,
             lt,
@@ -115,9 +97,9 @@ loop-i-preserved g c =
             length-set c.args.offsets.now 0 0,
           )) within inv.built
           (rw (one.indices, one.values, one.scale, two.indices, two.values, two.scale)
-          at merged.ensures.gained);
-      filled = filled_then inv.filled merged.ensures.filled;
-      offsets_rest = drop-set-lt (i + 1 + 1) was.offsets (i + 1) merged.result (omega arith)
+          at merged.gained);
+      filled = filled;
+      offsets_rest = drop-set-lt (i + 1 + 1) was.offsets (i + 1) now.end (omega arith)
           ∙ unchanged_later (i + 1) (i + 1 + 1) (set c.args.offsets.now 0 0) was.offsets (omega arith)
           inv.offsets_rest;
     }
@@ -131,14 +113,18 @@ returns-clause-written g c =
     let p = a.matrix.pattern in
     let q = b.matrix.pattern in
     let done = c.loop-i in
+    let out = done.entries in
+    let inv = done.invariant in
     let sa = c.requires.first in
     let sb = c.requires.second in
     let whole : done.i ≡ p.major_dim =
     omega (arith, c.loop-i-test.false, done.auto.i-end, c.major_dim-i-end.ensures) in
     let end_a = ap (λ n. start_of p n) whole ∙ sa.valid.last in
     let end_b = ap (λ n. start_of q n) (whole ∙ c.requires.rows) ∙ sb.valid.last in
+    let held =
     rows_held R (f a.scale) (f b.scale) a.matrix b.matrix sa sb c.requires.rows c.requires.cols
-    done.at done.offsets done.indices done.values
-    (omega (arith, done.invariant.most, end_a, end_b, c.requires.values_room, done.auto.values))
-    (subst (λ (n : ℕ). HasRows R (f a.scale) (f b.scale) a.matrix b.matrix n done.at
-    done.offsets done.indices done.values) whole done.invariant.built)
+    out.end done.offsets out.indices.now out.values.now
+    (omega (arith, inv.most, end_a, end_b, c.requires.values_room, inv.filled.values_count))
+    (subst (λ (n : ℕ). HasRows R (f a.scale) (f b.scale) a.matrix b.matrix n out.end
+    done.offsets out.indices.now out.values.now) whole inv.built) in
+    search rules
