@@ -1,9 +1,8 @@
 -- The values of two lanes whose indices are merged: each entry appended adds its value to the sum at its index.
 use Rattle.std.proofs.Common.{◌≡◌, ℕ, ◌+◌, ◌<◌, ◌≤◌, ◌⊎◌, Bool, true, false, List, []}
-use Rattle.std.proofs.Common.{◌∷◌, ◌++◌, length, get_or, map, take, drop, Contains, length-append}
+use Rattle.std.proofs.Common.{◌∷◌, ◌++◌, length, get_or, map, take, drop, length-append}
 use Rattle.std.proofs.Common.{append_assoc, ap, sym, ◌∙◌, refl, arith}
 use Rattle.std.specs.Prelude.{nat_eq, zip}
-use Rattle.std.specs.List.Sorted.{IsStrictlyIncreasing}
 use Rattle.std.proofs.lemmas.List.{append-nil, get_or_default, length_push, length-map}
 use Rattle.std.proofs.lemmas.List.{length-take-le, length-drop, take-append-drop}
 use Rattle.std.proofs.lemmas.List.{map-append, append_cancel_left}
