@@ -1,7 +1,7 @@
 -- The pattern of a product, lane by lane.
 use Rattle.std.proofs.Common.{◌≡◌, ℕ, ◌+◌, ◌<◌, ◌↔◌, ◌⊎◌, inl, inr, List, [], ◌∷◌, ◌++◌, length}
-use Rattle.std.proofs.Common.{take, get_or, All, Contains, subst, sym, refl}
-use Rattle.std.proofs.lemmas.List.Elements.{Contains-get_or}
+use Rattle.std.proofs.Common.{take, get_or, All, Contains, subst, sym, refl, arith}
+use Rattle.std.proofs.lemmas.List.Elements.{All-contains, Contains-get_or}
 use Rattle.sparse_pattern.specs.Raw.{Raw, raw_of, lane_of, IsValid, IsEntry}
 use Rattle.sparse_pattern.specs.InnerGainedLanes.{GainsLane}
 use Rattle.sparse_pattern.proofs.BuiltLanes.{IsBuilt, lane_gained, all_built, minor_index_below}
@@ -42,6 +42,14 @@ pub all_lanes : {n : ℕ} {offsets indices : List ℕ} (a b d : Raw) → n ≡ a
 all_lanes {n} {offsets} {indices} a b d whole is below =
     all_built b.minor_dim (IsInProduct a b) n a.major_dim d offsets indices whole is
     (λ i j h. h.1.in_lane.lane) below
+
+-- empty lanes have no index
+pub in_lanes_none : (d : Raw) (lanes : List ℕ) → IsValid d → All (λ k. lane_of d k ≡ []) lanes
+    → (j : ℕ) → IsInLanes d lanes j → ⊥
+in_lanes_none d lanes valid empty j h =
+    let none = All-contains (λ k. lane_of d k ≡ []) lanes h.0 empty h.1 in
+    let has = subst (λ l. Contains l j) none
+    ((lane_has d valid h.0 j h.2.in_lane.lane).1 h.2) in omega (arith, has.1)
 
 pub lane_below : (d : Raw) → IsValid d → (i : ℕ) → i < d.major_dim
     → All (λ k. k < d.minor_dim) (lane_of d i)

@@ -6,6 +6,7 @@ pub(crate) mod multiplicands;
 mod pattern;
 mod prealloc;
 mod product;
+mod read_ahead;
 mod rows;
 mod scatter;
 mod search;

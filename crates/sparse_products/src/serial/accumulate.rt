@@ -10,6 +10,7 @@ ghost use Rattle.sparse_products.specs.InnerUpdates.{steps_below};
 ghost use Rattle.sparse_products.specs.InnerAccumulators.{AreAdded, AreNoted};
 
 use super::multiplicands::Matrices;
+use super::read_ahead::lists_only_empty_lanes;
 use sparse_algebra::recall;
 use sparse_algebra::scalar::Ring;
 use sparse_compressed::CsMatrix;
@@ -83,9 +84,22 @@ pub(super) fn add_product_row<T: Ring, S: Accumulators>(
         + steps_below (i + 1) matrices.entry.a.now.pattern matrices.entry.b.now.pattern }
 {
     let (lanes, entries) = lane_entries(matrices.a, i);
+    if lists_only_empty_lanes(lanes, matrices.b.pattern()) {
+        tick_for_each(lanes, steps);
+        return;
+    }
     for (k, entry) in lanes.iter().zip(entries) {
         steps.tick();
         add_matrix_row(alpha.mul(*entry), matrices.b, *k, row_sums, target, steps);
+    }
+}
+
+// Adds a step for each index of a lane. The compiler removes the loop, since steps occupy no memory.
+fn tick_for_each(lane: &[usize], steps: &mut Steps)
+    ensures { steps.new ≡ steps.old + length lane.now }
+{
+    for _ in lane {
+        steps.tick();
     }
 }
 

@@ -1,5 +1,5 @@
 use Rattle.std.proofs.Common.{◌≡◌, ◌+◌, ◌<◌, ℕ, length, get_or}
-use Rattle.std.proofs.Common.{take, sym, ◌∙◌, ap, rules, arith}
+use Rattle.std.proofs.Common.{[], All, take, sym, ◌∙◌, ap, rules, arith}
 use Rattle.std.specs.Prelude.{zip}
 use Rattle.std.proofs.lemmas.List.{length_push, take_all}
 use Rattle.std.proofs.lemmas.Slice.Zip.{zip_turn, zip_end}
@@ -10,9 +10,10 @@ use Rattle.sparse_compressed.specs.PlainOfLanes.{plain_of_rows}
 use Rattle.sparse_compressed.proofs.LaneValues.{values_of, length-values, row_sum}
 use Rattle.sparse_compressed.proofs.AddedLanes.{sum_zip_more}
 use Rattle.sparse_products.specs.InnerUpdates.{triples_below}
-use Rattle.sparse_products.proofs.ProductSums.{triples_more}
+use Rattle.sparse_products.proofs.ProductSums.{steps_none, triples_more}
 use Rattle.sparse_products.proofs.AddedTerms.{added_none, added_then, added_same, noted_none, noted_then}
-use Rattle.sparse_products.proofs.ProductLanes.{in_lanes_then, lane_below}
+use Rattle.sparse_products.proofs.ProductLanes.{in_lanes_none, in_lanes_then, lane_below}
+use Rattle.sparse_products.proofs.ProductRows.{zero_off}
 use Rattle.sparse_products.proofs.serial.accumulate.add_product_row.Goals as goal
 
 pub loop-k-init : goal.loop-k-init
@@ -133,5 +134,36 @@ returns g c =
         inv.counted,
         whole,
         ap (λ n. triples_below n a.pattern b.pattern) whole,
+      );
+    }
+
+pub lists_only_empty_lanes-requires : goal.lists_only_empty_lanes-requires
+lists_only_empty_lanes-requires g c =
+    let a = c.args.matrices.a.now.pattern in
+    rw (c.lane_entries.ensures.indices, c.pattern.ensures.pattern, ← c.requires.inner)
+    (lane_below a c.lane_entries.ensures.sound.valid c.args.i c.requires.lane)
+
+pub returns-then-lists_only_empty_lanes : goal.returns-then-lists_only_empty_lanes
+returns-then-lists_only_empty_lanes g c =
+    let R = g.T.Ring.ring in
+    let f = g.T.Ring.value in
+    let a = c.args.matrices.a.now in
+    let b = c.args.matrices.b.now in
+    let i = c.args.i in
+    let sa = c.lane_entries.ensures.sound in
+    let sb = c.pattern.ensures.sound in
+    let empty : All (λ k. lane_of b.pattern k ≡ []) (lane_of a.pattern i) =
+    rw (c.lane_entries.ensures.indices, c.pattern.ensures.pattern) at
+    c.lists_only_empty_lanes.ensures c.if-lists_only_empty_lanes.true in
+    let none = in_lanes_none b.pattern (lane_of a.pattern i) sb.valid empty in
+    record {
+      added = added_same (λ j. sym (zero_off R f sa sb c.requires.inner i c.requires.lane []
+          (λ j h. absurd (none j h)) j (λ h. omega (arith, h.1)))) added_none;
+      noted = noted_none none;
+      counted = omega (
+        arith,
+        c.tick_for_each.ensures,
+        ap length c.lane_entries.ensures.indices,
+        steps_none a.pattern b.pattern sa.valid i c.requires.lane empty,
       );
     }
