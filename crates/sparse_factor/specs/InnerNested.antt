@@ -63,17 +63,17 @@ module _ (R : CommRing) {T : Type 0} (f : T → R.Carrier) (z : T) where
       (R.add (R.add (R.mul a (first i)) (R.mul b (second i)))
       (R.add (R.mul c (third i)) (R.mul d (fourth i))))
 
-  -- y is x less the columns from k to k + 3, each from its cursor on, times its pivot and its entry
-  -- there
-  pub record IsLessFour (p : Raw) (values : List T) (k : ℕ) (cursors : List ℕ) (x y : List T)
+  -- element i of the update of x by column k from offset c on
+  abbrev pub update_by : Raw → List T → List T → ℕ → ℕ → ℕ → R.Carrier
+  update_by p values x k c i =
+      R.mul (scale_at values x k c) (column_from R f p values k c i)
+
+  -- y is x after the updates by the columns from k to k + 3, each from its cursor on
+  pub record IsUpdatedByFour (p : Raw) (values : List T) (k : ℕ) (cursors : List ℕ) (x y : List T)
       : Type 0 where
     pub each : (i : ℕ) → i < length x → elements R f z y i
         ≡ R.add (R.add (R.add (R.add (elements R f z x i)
-        (R.mul (scale_at values x k (slice_index cursors k))
-        (column_from R f p values k (slice_index cursors k) i)))
-        (R.mul (scale_at values x (k + 1) (slice_index cursors (k + 1)))
-        (column_from R f p values (k + 1) (slice_index cursors (k + 1)) i)))
-        (R.mul (scale_at values x (k + 2) (slice_index cursors (k + 2)))
-        (column_from R f p values (k + 2) (slice_index cursors (k + 2)) i)))
-        (R.mul (scale_at values x (k + 3) (slice_index cursors (k + 3)))
-        (column_from R f p values (k + 3) (slice_index cursors (k + 3)) i))
+        (update_by p values x k (slice_index cursors k) i))
+        (update_by p values x (k + 1) (slice_index cursors (k + 1)) i))
+        (update_by p values x (k + 2) (slice_index cursors (k + 2)) i))
+        (update_by p values x (k + 3) (slice_index cursors (k + 3)) i)

@@ -1,7 +1,7 @@
 //! Columns of a pattern that are nested in the next column: their rows behind the first are its first rows.
 
 ghost use Rattle.std.specs.Prelude.{◌<◌, All, IfOk, IsTrue, length};
-ghost use Rattle.sparse_factor.specs.InnerNested.{AreFour, AreNested, IsRestFirst};
+ghost use Rattle.sparse_factor.specs.InnerNested.{AreFour, AreNested, IsNested, IsRestFirst};
 
 use sparse_pattern::pattern::SparsityPattern;
 use std::alloc::{AllocError, Global};
@@ -13,10 +13,18 @@ pub fn nested_columns(alloc: Global, pattern: &SparsityPattern) -> Result<Vec<bo
     let count = pattern.major_dim();
     let mut nested = Vec::with_capacity(alloc, count)?;
     for k in 0..count {
-        let is_nested = k + 1 < count && begins_with_rest(pattern.lane(k + 1), pattern.lane(k));
-        nested.push(is_nested)?;
+        nested.push(is_nested(pattern, k))?;
     }
     Ok(nested)
+}
+
+// Returns whether a column is nested in the next one.
+fn is_nested(pattern: &SparsityPattern, k: usize) -> bool
+    requires { k < pattern.now.major_dim }
+    ensures { IsTrue result → IsNested pattern.now k }
+{
+    let count = pattern.major_dim();
+    k + 1 < count && begins_with_rest(pattern.lane(k + 1), pattern.lane(k))
 }
 
 // Returns whether the rows behind the first one are the first of `next`.

@@ -3,7 +3,7 @@
 ghost use Rattle.std.specs.Prelude.{◌≡◌, ◌+◌, ◌<◌, ◌≤◌, All, length, slice_index, slice_range};
 ghost use Rattle.sparse_pattern.specs.Raw.{IsInLane, start_of, end_of};
 ghost use Rattle.sparse_dense_ops.specs.SparseVectors.{AddsMultiple, sparse_elements};
-ghost use Rattle.sparse_factor.specs.InnerNested.{AddsFour, AreFirstRows, IsLessFour};
+ghost use Rattle.sparse_factor.specs.InnerNested.{AddsFour, AreFirstRows, IsUpdatedByFour};
 ghost use Rattle.sparse_factor.specs.InnerNested.{column_from, moved, moved_four, scale_at};
 
 use sparse_algebra::scalar::Ring;
@@ -62,7 +62,7 @@ pub fn subtract_four<T: Ring>(
     requires fourth { AreFirstRows pattern.now k (slice_index cursors.old k) (k + 3)
         (slice_index cursors.old (k + 3)) }
     ensures moved { cursors.new ≡ moved_four cursors.old k }
-    ensures less { IsLessFour T.ring T.value T.zero_value pattern.now values.now k cursors.old
+    ensures less { IsUpdatedByFour T.ring T.value T.zero_value pattern.now values.now k cursors.old
         column.old column.new }
 {
     let at = advance_four(cursors, k);
@@ -78,7 +78,7 @@ pub fn subtract_four<T: Ring>(
 #[inline(always)]
 fn advance(cursors: &mut [usize], k: usize) -> usize
     requires column { k < length cursors.old }
-    requires fits { slice_index cursors.old k + 1 < 2 ^ 64 }
+    requires fits { slice_index cursors.old k < usize.MAX }
     ensures cursor { result ≡ slice_index cursors.old k }
     ensures moved { cursors.new ≡ moved cursors.old k }
 {
@@ -91,10 +91,10 @@ fn advance(cursors: &mut [usize], k: usize) -> usize
 #[inline(always)]
 fn advance_four(cursors: &mut [usize], k: usize) -> (usize, usize, usize, usize)
     requires columns { k + 3 < length cursors.old }
-    requires fits { slice_index cursors.old k + 1 < 2 ^ 64 }
-    requires fits_1 { slice_index cursors.old (k + 1) + 1 < 2 ^ 64 }
-    requires fits_2 { slice_index cursors.old (k + 2) + 1 < 2 ^ 64 }
-    requires fits_3 { slice_index cursors.old (k + 3) + 1 < 2 ^ 64 }
+    requires fits { slice_index cursors.old k < usize.MAX }
+    requires fits_1 { slice_index cursors.old (k + 1) < usize.MAX }
+    requires fits_2 { slice_index cursors.old (k + 2) < usize.MAX }
+    requires fits_3 { slice_index cursors.old (k + 3) < usize.MAX }
     ensures first { result.0 ≡ slice_index cursors.old k }
     ensures second { result.1 ≡ slice_index cursors.old (k + 1) }
     ensures third { result.2 ≡ slice_index cursors.old (k + 2) }
