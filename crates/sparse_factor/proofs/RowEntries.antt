@@ -8,9 +8,9 @@ use Rattle.sparse_algebra.specs.Algebra.{CommRing}
 use Rattle.sparse_pattern.specs.Raw.{end_of, IsInLane}
 use Rattle.sparse_compressed.specs.Compressed.{Compressed, IsSound}
 use Rattle.sparse_compressed.specs.PlainOfLanes.{plain_of_cols}
-use Rattle.sparse_dense_ops.specs.SparseVectors.{elements}
+use Rattle.sparse_dense_ops.specs.SparseVectors.{AddsMultiple, elements}
 use Rattle.sparse_factor.specs.InnerFactors.{AreCursors, IsCursor, IsUpdated, IsLowerPattern, IsRowOf}
-use Rattle.sparse_factor.specs.InnerNested.{moved}
+use Rattle.sparse_factor.specs.InnerNested.{moved, scale_at}
 use Rattle.sparse_factor.proofs.Cursors.{AreCursorsAt, at_cursor, cursors_start, cursors_more}
 use Rattle.sparse_factor.proofs.FilledSets.{no_entry_zero}
 use Rattle.sparse_factor.proofs.MovedCursors.{length-moved}
@@ -69,6 +69,10 @@ module _ {R : CommRing} {T : Type 0} {f : T → R.Carrier} {z : T} {m : Compress
   -- the whole row is read
   pub all_read : length row ≤ q → IsUpdatedBy R f z m j b j w
   all_read end = subst (λ k. IsUpdatedBy R f z m j b k w) (get_or_past row q j end) s.left
+
+  -- the entries of the row are in columns of the matrix
+  pub row_columns : (r : ℕ) → r < length row → slice_index row r < m.pattern.major_dim
+  row_columns r lt = (s.is.stored r lt).in_lane.lane
 
   -- the same elements
   pub read-same : (x : ℕ → R.Carrier) → ((i : ℕ) → i < length b → x i ≡ w i) → j ≤ length b
@@ -185,3 +189,23 @@ module _ {R : CommRing} {T : Type 0} {f : T → R.Carrier} {z : T} {m : Compress
         let two : Step l (slice_index cursors l) (q + 1) =
         subst (λ l. Step l (slice_index cursors l) (q + 1)) (sym is) one in
         subst (Step l d) (sym next) (subst (λ d. Step l d (q + 1)) (sym at) two) below pivot added
+
+-- the update by the column of the next entry, which is not made from the diagonal on
+pub one_read : {R : CommRing} {T : Type 0} {f : T → R.Carrier} {z : T} {m : Compressed T} {j : ℕ}
+    {row : List ℕ} {b : List T} {q : ℕ} {cursors : List ℕ} (x y : List T)
+    → IsRowRead R f z m j row b q cursors (elements R f z x) → q < length row
+    → length x ≡ length b
+    → (slice_index row q < j → AddsMultiple R f z
+    (scale_at R f z m.values x (slice_index row q) (slice_index cursors (slice_index row q)))
+    (cut R f z m (slice_index row q) (slice_index cursors (slice_index row q))) x y)
+    → (j ≤ slice_index row q → y ≡ x)
+    → IsRowRead R f z m j row b (q + 1) (moved cursors (slice_index row q)) (elements R f z y)
+one_read {R} {f = f} {z} {m} {j} {row} {b} {q} {cursors} x y s lt long less unchanged =
+    let k = slice_index row q in
+    let c = slice_index cursors k in
+    elim (lt_or_ge k j) [
+      | inl below ↦ entry_updated s lt k c (q + 1) refl refl refl below (elements R f z x k)
+          (s.above k below) (elements R f z y) (λ i i_lt. less below i (omega (arith, i_lt, long)))
+      | inr over ↦ subst (λ y. IsRowRead R f z m j row b (q + 1) (moved cursors k)
+          (elements R f z y)) (sym (unchanged over)) (diagonal_skipped s lt over)
+    ]

@@ -48,6 +48,33 @@ module _ (R : CommRing) {T : Type 0} (f : T → R.Carrier) where
       (length-between values c (c + n) (omega (arith, le, inside, fits))
       ∙ sym (length-between p.indices c (c + n) (omega (arith, le, inside))))
 
+-- an offset of a column is an offset of the pattern
+pub offset_within : {p : Raw} {k c : ℕ} → IsValid p → IsInLane p k c → c < length p.indices
+offset_within {k = k} valid here =
+    let to = here.to in
+    omega (arith, to, (valid.lanes k here.lane).inside)
+
+-- where the rows of column k from offset c on are the first of those of column l from offset d on,
+-- these many entries of column l are there
+pub first_within : {p : Raw} {k c l d : ℕ} → IsValid p → l < p.major_dim → AreFirstRows p k c l d
+    → (n : ℕ) → c + n ≡ end_of p k → d + n ≤ length p.indices
+first_within {l = l} valid lane first n end =
+    let fits = first.fits in
+    omega (arith, end, fits, (valid.lanes l lane).inside)
+
+-- the rows of a column from an offset on are rows of the matrix
+pub rows_within : {p : Raw} {k c : ℕ} → IsValid p → IsInLane p k c → (n : ℕ) → c + n ≡ end_of p k
+    → All (λ i. i < p.minor_dim) (slice_range p.indices c (c + n))
+rows_within {p} {k} {c} valid here n end q d lt =
+    let lane = valid.lanes k here.lane in
+    let from = here.from in
+    let room : q < n = omega (arith, lt, end, length-between p.indices c (c + n)
+    (omega (arith, end, lane.inside))) in
+    rw (
+      get_or-between p.indices c (c + n) q d (omega arith),
+      get_or_default p.indices (c + q) d 0 (omega (arith, room, end, lane.inside)),
+    ) (lane.bounded (c + q) (omega arith) (omega arith))
+
 -- equal rows from two offsets on
 rows_shared : (p : Raw) (k c l d n : ℕ) → AreFirstRows p k c l d → c + n ≡ end_of p k
     → end_of p k ≤ length p.indices → end_of p l ≤ length p.indices
@@ -86,6 +113,16 @@ module _ (R : CommRing) where
       ∙ ap (λ t. R.add t (R.add s s')) (R.laws.add_assoc (R.add w q') r r'
       ∙ ap (λ t. R.add t (R.add r r')) (R.laws.add_assoc (R.add x p) q q'))
 
+  -- the same four terms
+  sums-same : (x : R.Carrier) {p q r s p' q' r' s' : R.Carrier} → p ≡ p' → q ≡ q' → r ≡ r'
+      → s ≡ s' → R.add (R.add (R.add (R.add x p) q) r) s
+      ≡ R.add (R.add (R.add (R.add x p') q') r') s'
+  sums-same x {p} {q} {r} {s} {p'} {q'} {r'} {s'} ep eq er es =
+      ap (λ t. R.add (R.add (R.add (R.add x t) q) r) s) ep
+      ∙ ap (λ t. R.add (R.add (R.add (R.add x p') t) r) s) eq
+      ∙ ap (λ t. R.add (R.add (R.add (R.add x p') q') t) s) er
+      ∙ ap (R.add (R.add (R.add (R.add x p') q') r')) es
+
 -- the entries of four columns in the rows of the first, and then the rest of the others
 module _ (R : CommRing) {T : Type 0} (f : T → R.Carrier) (z : T) {p : Raw} (valid : IsValid p)
     (values : List T) (fits : length values ≡ length p.indices) (k : ℕ)
@@ -101,6 +138,10 @@ module _ (R : CommRing) {T : Type 0} (f : T → R.Carrier) (z : T) {p : Raw} (va
   -- the next n entries of column l, in the rows of the first column
   abbrev part : ℕ → ℕ → R.Carrier
   part l i = next_entries R f p.indices values (at k) (at l) n i
+
+  -- column l from its cursor on
+  abbrev column : ℕ → ℕ → R.Carrier
+  column l = column_from R f p values l (at l)
 
   inside : (l : ℕ) → l < p.major_dim → end_of p l ≤ length p.indices
   inside l lane = (valid.lanes l lane).inside
@@ -121,9 +162,9 @@ module _ (R : CommRing) {T : Type 0} (f : T → R.Carrier) (z : T) {p : Raw} (va
   whole i = ap (λ e. sparse_elements R f (slice_range p.indices (at k) e)
       (slice_range values (at k) e) i) end
 
-  pub four_updated : (x x1 x2 x3 y : List T) {b c d : R.Carrier}
-      → AddsFour R f z (scale_at R f z values x k (at k)) b c d (part k) (part (k + 1))
-      (part (k + 2)) (part (k + 3)) x x1
+  pub four_updated : (x x1 x2 x3 y : List T) {a b c d : R.Carrier}
+      → AddsFour R f z a b c d (part k) (part (k + 1)) (part (k + 2)) (part (k + 3)) x x1
+      → a ≡ scale_at R f z values x k (at k)
       → b ≡ scale_at R f z values x (k + 1) (at (k + 1))
       → c ≡ scale_at R f z values x (k + 2) (at (k + 2))
       → d ≡ scale_at R f z values x (k + 3) (at (k + 3))
@@ -132,9 +173,9 @@ module _ (R : CommRing) {T : Type 0} (f : T → R.Carrier) (z : T) {p : Raw} (va
       → AddsMultiple R f z c (column_from R f p values (k + 2) (at (k + 2) + n)) x2 x3
       → AddsMultiple R f z d (column_from R f p values (k + 3) (at (k + 3) + n)) x3 y
       → IsUpdatedByFour R f z p values k cursors x y
-  four_updated x x1 x2 x3 y {b} {c} {d} four is_b is_c is_d long1 long2 long3 rest1 rest2 rest3 = record {
+  four_updated x x1 x2 x3 y {a} {b} {c} {d} four is_a is_b is_c is_d long1 long2 long3 rest1 rest2
+      rest3 = record {
     each = λ i lt.
-        let a = scale_at R f z values x k (at k) in
         let xi = elements R f z x i in
         let left : ℕ → R.Carrier = λ l. column_from R f p values l (at l + n) i in
         let join : (e : R.Carrier) (l : ℕ) (lane : l < p.major_dim)
@@ -149,25 +190,8 @@ module _ (R : CommRing) {T : Type 0} (f : T → R.Carrier) (z : T) {p : Raw} (va
         ∙ regrouped R xi (R.mul a (part k i)) (R.mul b (part (k + 1) i))
         (R.mul c (part (k + 2) i)) (R.mul d (part (k + 3) i)) (R.mul b (left (k + 1)))
         (R.mul c (left (k + 2))) (R.mul d (left (k + 3)))
-        ∙ ap (λ t. R.add (R.add (R.add (R.add xi (R.mul a t)) (R.add (R.mul b (part (k + 1) i))
-        (R.mul b (left (k + 1))))) (R.add (R.mul c (part (k + 2) i)) (R.mul c (left (k + 2)))))
-        (R.add (R.mul d (part (k + 3) i)) (R.mul d (left (k + 3))))) (whole i)
-        ∙ ap (λ t. R.add (R.add (R.add (R.add xi (R.mul a (column_from R f p values k (at k) i))) t)
-        (R.add (R.mul c (part (k + 2) i)) (R.mul c (left (k + 2)))))
-        (R.add (R.mul d (part (k + 3) i)) (R.mul d (left (k + 3)))))
-        (join b (k + 1) (omega (arith, lanes)) second
-        ∙ ap (λ e. R.mul e (column_from R f p values (k + 1) (at (k + 1)) i)) is_b)
-        ∙ ap (λ t. R.add (R.add (R.add (R.add xi (R.mul a (column_from R f p values k (at k) i)))
-        (R.mul (scale_at R f z values x (k + 1) (at (k + 1)))
-        (column_from R f p values (k + 1) (at (k + 1)) i))) t)
-        (R.add (R.mul d (part (k + 3) i)) (R.mul d (left (k + 3)))))
-        (join c (k + 2) (omega (arith, lanes)) third
-        ∙ ap (λ e. R.mul e (column_from R f p values (k + 2) (at (k + 2)) i)) is_c)
-        ∙ ap (R.add (R.add (R.add (R.add xi (R.mul a (column_from R f p values k (at k) i)))
-        (R.mul (scale_at R f z values x (k + 1) (at (k + 1)))
-        (column_from R f p values (k + 1) (at (k + 1)) i)))
-        (R.mul (scale_at R f z values x (k + 2) (at (k + 2)))
-        (column_from R f p values (k + 2) (at (k + 2)) i))))
-        (join d (k + 3) lanes fourth
-        ∙ ap (λ e. R.mul e (column_from R f p values (k + 3) (at (k + 3)) i)) is_d);
+        ∙ sums-same R xi (ap (R.mul a) (whole i) ∙ ap (λ e. R.mul e (column k i)) is_a)
+        (join b (k + 1) (omega (arith, lanes)) second ∙ ap (λ e. R.mul e (column (k + 1) i)) is_b)
+        (join c (k + 2) (omega (arith, lanes)) third ∙ ap (λ e. R.mul e (column (k + 2) i)) is_c)
+        (join d (k + 3) lanes fourth ∙ ap (λ e. R.mul e (column (k + 3) i)) is_d);
   }

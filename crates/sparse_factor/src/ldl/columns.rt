@@ -114,6 +114,8 @@ fn update_column<T: Ring>(
         (elements T.ring T.value T.zero_value column.new)
         (elements T.ring T.value T.zero_value column.old) }
 {
+    recall(pattern.minor_indices());
+    recall(structure.rows.minor_indices());
     let (row, nested) = (structure.rows.lane(j), structure.nested);
     let mut q = 0;
     while q < row.len() {

@@ -6,6 +6,7 @@ ghost use Rattle.sparse_dense_ops.specs.SparseVectors.{AddsMultiple, sparse_elem
 ghost use Rattle.sparse_factor.specs.InnerNested.{AddsFour, AreFirstRows, IsUpdatedByFour};
 ghost use Rattle.sparse_factor.specs.InnerNested.{column_from, moved, moved_four, scale_at};
 
+use sparse_algebra::recall;
 use sparse_algebra::scalar::Ring;
 use sparse_dense_ops::usaxpy;
 use sparse_pattern::pattern::SparsityPattern;
@@ -32,6 +33,7 @@ pub fn subtract_one<T: Ring>(
         column.old column.new }
     ensures unchanged { j ≤ k → column.new ≡ column.old }
 {
+    recall(pattern.minor_indices());
     let at = advance(cursors, k);
     if k < j {
         let scale = scale_of(values, column, k, at);
@@ -65,10 +67,11 @@ pub fn subtract_four<T: Ring>(
     ensures less { IsUpdatedByFour T.ring T.value T.zero_value pattern.now values.now k cursors.old
         column.old column.new }
 {
+    let (offsets, rows) = (pattern.major_offsets(), pattern.minor_indices());
     let at = advance_four(cursors, k);
     let scales = scales_of(values, column, k, at);
-    let shared = pattern.major_offsets()[k + 1] - at.0;
-    add_shared(scales, pattern, values, at, shared, column);
+    let shared = offsets[k + 1] - at.0;
+    add_shared(scales, rows, values, at, shared, column);
     add_column(scales.1, pattern, values, k + 1, at.1 + shared, column);
     add_column(scales.2, pattern, values, k + 2, at.2 + shared, column);
     add_column(scales.3, pattern, values, k + 3, at.3 + shared, column);
@@ -173,28 +176,28 @@ fn add_column<T: Ring>(
 #[inline(always)]
 fn add_shared<T: Ring>(
     scales: (T, T, T, T),
-    pattern: &SparsityPattern,
+    rows: &[usize],
     values: &[T],
     at: (usize, usize, usize, usize),
     shared: usize,
     column: &mut [T],
 )
-    requires fits { length values.now ≡ length pattern.now.indices }
+    requires fits { length values.now ≡ length rows.now }
     requires first { at.0 + shared ≤ length values.now }
     requires second { at.1 + shared ≤ length values.now }
     requires third { at.2 + shared ≤ length values.now }
     requires fourth { at.3 + shared ≤ length values.now }
     requires inside { All (λ i. i < length column.old)
-        (slice_range pattern.now.indices at.0 (at.0 + shared)) }
+        (slice_range rows.now at.0 (at.0 + shared)) }
     ensures { AddsFour T.ring T.value T.zero_value (T.value scales.0) (T.value scales.1)
         (T.value scales.2) (T.value scales.3)
-        (sparse_elements T.ring T.value (slice_range pattern.now.indices at.0 (at.0 + shared))
+        (sparse_elements T.ring T.value (slice_range rows.now at.0 (at.0 + shared))
         (slice_range values.now at.0 (at.0 + shared)))
-        (sparse_elements T.ring T.value (slice_range pattern.now.indices at.0 (at.0 + shared))
+        (sparse_elements T.ring T.value (slice_range rows.now at.0 (at.0 + shared))
         (slice_range values.now at.1 (at.1 + shared)))
-        (sparse_elements T.ring T.value (slice_range pattern.now.indices at.0 (at.0 + shared))
+        (sparse_elements T.ring T.value (slice_range rows.now at.0 (at.0 + shared))
         (slice_range values.now at.2 (at.2 + shared)))
-        (sparse_elements T.ring T.value (slice_range pattern.now.indices at.0 (at.0 + shared))
+        (sparse_elements T.ring T.value (slice_range rows.now at.0 (at.0 + shared))
         (slice_range values.now at.3 (at.3 + shared)))
         column.old column.new }
 {
@@ -205,7 +208,7 @@ fn add_shared<T: Ring>(
         &values[r..r + shared],
         &values[s..s + shared],
     );
-    add_four(scales, &pattern.minor_indices()[p..p + shared], lanes, column);
+    add_four(scales, &rows[p..p + shared], lanes, column);
 }
 
 // Adds multiples of four lists of values to the entries in the same rows. Not inlined: in a larger function the
