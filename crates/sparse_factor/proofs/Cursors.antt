@@ -6,6 +6,7 @@ use Rattle.sparse_algebra.proofs.Cases.{three, same_or_not, lt_add_one_cases, le
 use Rattle.sparse_pattern.specs.Raw.{Raw, end_of, IsEntry, IsValid}
 use Rattle.sparse_pattern.proofs.PatternLanes.{rises_at}
 use Rattle.sparse_factor.specs.InnerFactors.{AreCursors, IsCursor, IsRowOf}
+use Rattle.sparse_factor.specs.InnerNested.{moved}
 
 module _ {p : Raw} {j k c : ℕ} (valid : IsValid p) (lane : k < p.major_dim)
     (cursor : IsCursor p j k c) where
@@ -87,8 +88,8 @@ module _ {p : Raw} {j : ℕ} {row : List ℕ} (valid : IsValid p) (is : IsRowOf 
   -- the cursor of entry q advances
   pub cursors_more : {q : ℕ} {cursors : List ℕ} → q < length row
       → AreCursorsAt p j row q cursors → slice_index row q < length cursors
-      → AreCursorsAt p j row (q + 1) (set cursors (slice_index row q)
-      (slice_index cursors (slice_index row q) + 1))
+      → AreCursorsAt p j row (q + 1) (moved cursors (slice_index row q))
+  unfolding moved
   cursors_more {q} {cursors} lt h inside =
       let k = slice_index row q in
       let c = slice_index cursors k in

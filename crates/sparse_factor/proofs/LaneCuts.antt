@@ -11,17 +11,17 @@ use Rattle.sparse_pattern.proofs.PatternLanes.{length-lane, get_or-lane}
 use Rattle.sparse_compressed.specs.Compressed.{Compressed, IsSound}
 use Rattle.sparse_compressed.specs.PlainOfLanes.{plain_of_cols}
 use Rattle.sparse_compressed.proofs.LaneValues.{values_of, lane_value_is}
-use Rattle.sparse_dense_ops.specs.SparseVectors.{AddsMultiple, sparse_elements}
+use Rattle.sparse_dense_ops.specs.SparseVectors.{sparse_elements}
 use Rattle.sparse_dense_ops.proofs.SparseVectors.{sparse_elements-drop, sparse_elements-none}
 use Rattle.sparse_dense_ops.proofs.SparseVectors.{drop_range}
 use Rattle.sparse_dense_ops.proofs.RingSteps.{add_off}
 use Rattle.sparse_factor.specs.InnerFactors.{IsCursor, term}
+use Rattle.sparse_factor.specs.InnerNested.{column_from}
 
 module _ (R : CommRing) {T : Type 0} (f : T → R.Carrier) (z : T) where
   -- column k from offset c on, as a vector
   abbrev pub cut : Compressed T → ℕ → ℕ → ℕ → R.Carrier
-  cut m k c = sparse_elements R f (slice_range m.pattern.indices c (end_of m.pattern k))
-      (slice_range m.values c (end_of m.pattern k))
+  cut m k c = column_from R f m.pattern m.values k c
 
   module _ {m : Compressed T} {j k c : ℕ} (sound : IsSound m) (lane : k < m.pattern.major_dim)
       (cursor : IsCursor m.pattern j k c) where
@@ -84,20 +84,19 @@ module _ (R : CommRing) {T : Type 0} (f : T → R.Carrier) (z : T) where
         (sym (get_or-between m.pattern.indices c (end_of m.pattern k) q e room
         ∙ get_or_default m.pattern.indices (c + q) e 0 (omega (arith, room, v.inside)))) bound
 
-    module _ (scale : R.Carrier) (x y : List T)
-        (added : AddsMultiple R f z (R.neg scale) (cut m k c) x y) where
-      pub added-above : (i : ℕ) → i < j → i < length x → f (get_or y i z) ≡ f (get_or x i z)
+    module _ (scale : R.Carrier) (n : ℕ) (x y : ℕ → R.Carrier)
+        (added : (i : ℕ) → i < n → y i ≡ R.add (x i) (R.mul (R.neg scale) (cut m k c i))) where
+      pub added-above : (i : ℕ) → i < j → i < n → y i ≡ x i
       added-above i less lt = added i lt ∙ add_off R _ _
           (ap (R.mul (R.neg scale)) (cut_above i less) ∙ mul_zero R _)
 
       -- the update by the column, times its pivot and its entry in row j
       pub added-below : (d : ℕ → R.Carrier)
-          → scale ≡ R.mul (d k) ((plain_of_cols R f m).value j k) → (i : ℕ) → j ≤ i
-          → i < length x → f (get_or y i z)
-          ≡ R.add (f (get_or x i z)) (R.neg (term R (plain_of_cols R f m).value d i j k))
+          → scale ≡ R.mul (d k) ((plain_of_cols R f m).value j k) → (i : ℕ) → j ≤ i → i < n
+          → y i ≡ R.add (x i) (R.neg (term R (plain_of_cols R f m).value d i j k))
       added-below d is i le lt =
           let l = (plain_of_cols R f m).value in
-          added i lt ∙ ap (R.add (f (get_or x i z))) (
+          added i lt ∙ ap (R.add (x i)) (
           ap (R.mul (R.neg scale)) (cut_below i le) ∙ R.laws.mul_comm _ (l i k)
           ∙ mul_neg R (l i k) scale
           ∙ ap R.neg (ap (R.mul (l i k)) is ∙ sym (R.laws.mul_assoc (l i k) (d k) (l j k)))

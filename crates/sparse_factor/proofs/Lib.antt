@@ -38,3 +38,9 @@ mod UniqueFactors
 mod GatheredColumns
 mod EntryValues
 mod ColumnSteps
+mod AddedFour
+mod SharedRows
+mod NestedTails
+mod FourEntries
+mod MovedCursors
+mod NestedFlags

@@ -13,8 +13,10 @@ ghost use Rattle.sparse_algebra.specs.declared.error.OperationErrorKind.TheVaria
 ghost use Rattle.sparse_dense_ops.specs.Solutions.{HasSameValues, IsSolution};
 
 mod columns;
+mod nested;
 mod numeric;
 mod solve;
+mod updates;
 
 use crate::factorization::CscSymbolicCholesky;
 use numeric::factor_on_fill;

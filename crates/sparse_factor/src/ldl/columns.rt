@@ -7,28 +7,38 @@ ghost use Rattle.sparse_compressed.specs.PlainOfLanes.{plain_of_cols};
 ghost use Rattle.sparse_factor.specs.InnerFactors.{AreCursors, AreInverses, ArePartFactors};
 ghost use Rattle.sparse_factor.specs.InnerFactors.{IsColumnGathered};
 ghost use Rattle.sparse_factor.specs.InnerFactors.{IsFilledPattern, IsIncluded, IsUpdated};
-ghost use Rattle.sparse_factor.specs.InnerFactors.{IsLowerPattern, IsRowOf};
+ghost use Rattle.sparse_factor.specs.InnerFactors.{IsLowerPattern};
+ghost use Rattle.sparse_factor.specs.InnerNested.{AreNested};
 ghost use Rattle.sparse_algebra.specs.declared.error.OperationErrorKind.TheVariants.{Singular};
 ghost use Rattle.sparse_pattern.specs.TransposedPattern.{IsTransposedPattern};
 ghost use Rattle.sparse_dense_ops.specs.SparseVectors.{elements};
 
+use super::nested::takes_four;
+use super::updates::{subtract_four, subtract_one};
 use sparse_algebra::error::OperationError;
 use sparse_algebra::recall;
 use sparse_algebra::scalar::{Ring, Units};
 use sparse_csr_csc::csc::CscMatrix;
-use sparse_dense_ops::{axpy_csc_col, usaxpy};
+use sparse_dense_ops::axpy_csc_col;
 use sparse_pattern::pattern::SparsityPattern;
+
+// What is known of the pattern of L before its values are: its transpose, whose lanes are the rows of L, and for each
+// column whether it is nested in the next one.
+#[derive(Drop)]
+pub struct Structure<'a> {
+    pub rows: &'a SparsityPattern,
+    pub nested: &'a [bool],
+}
 
 // Computes the columns of L, the diagonal of D and the inverses of its entries, for the symmetric matrix whose lower
 // triangle is `lower`.
 //
 // Left-looking (Davis 2006, chapter 4): column j of L is column j of the matrix, less the updates by the columns before
-// it that have row j, divided by the pivot. `rows` is the transposed pattern of L. `cursors` has for each column of L
-// the offset of its first row from j on. `column` is a scratch column: before step j it has the pivots in the rows
+// it that have row j, divided by the pivot. `cursors` has for each column of L the offset of its first row from j on. `column` is a scratch column: before step j it has the pivots in the rows
 // before j, and zeros from row j on. On return it has all pivots.
 pub fn factor_columns<T: Units>(
     lower: &CscMatrix<T>,
-    rows: &SparsityPattern,
+    structure: &Structure<'_>,
     l: &mut CscMatrix<T>,
     inverses: &mut [T],
     cursors: &mut [usize],
@@ -36,7 +46,8 @@ pub fn factor_columns<T: Units>(
 ) -> Result<(), OperationError>
     requires filled { IsFilledPattern l.old.pattern }
     requires included { IsIncluded lower.now.pattern l.old.pattern }
-    requires transposed { IsTransposedPattern l.old.pattern rows.now }
+    requires transposed { IsTransposedPattern l.old.pattern structure.now.rows.now }
+    requires nested { AreNested l.old.pattern structure.now.nested.now }
     requires pivots { length inverses.old ≡ l.old.pattern.major_dim }
     requires count { l.old.pattern.major_dim ≤ length cursors.old }
     requires cursors { AreCursors l.old.pattern 0 cursors.old }
@@ -57,12 +68,10 @@ pub fn factor_columns<T: Units>(
     ensures kind { IfErr result (λ e. e ≡ Singular) }
 {
     recall(l.values());
-    let (starts, columns) = (rows.major_offsets(), rows.minor_indices());
     let (pattern, values) = l.pattern_and_values_mut();
     for j in 0..inverses.len() {
         axpy_csc_col(T::one(), lower, j, column);
-        let row = &columns[starts[j]..starts[j + 1]];
-        update_column(pattern, values, row, j, cursors, column);
+        update_column(pattern, values, structure, j, cursors, column);
         let pivot = column[j];
         let Some(inverse) = pivot.recip() else {
             return Err(OperationError::of_singular_diagonal());
@@ -76,12 +85,11 @@ pub fn factor_columns<T: Units>(
 }
 
 // Updates column j: subtracts from it, from row j on, each column k before it that has row j, times pivot k and the
-// entry (j, k) of L. Moves the cursors past row j. `row` has the columns with an entry in row j of L, and `column` has
-// the pivots in the rows before j.
+// entry (j, k) of L. Moves the cursors past row j. `column` has the pivots in the rows before j.
 fn update_column<T: Ring>(
     pattern: &SparsityPattern,
     values: &[T],
-    row: &[usize],
+    structure: &Structure<'_>,
     j: usize,
     cursors: &mut [usize],
     column: &mut [T],
@@ -89,7 +97,9 @@ fn update_column<T: Ring>(
     requires square { pattern.now.minor_dim ≡ pattern.now.major_dim }
     requires lower { IsLowerPattern pattern.now }
     requires fits { length values.now ≡ length pattern.now.indices }
-    requires row { IsRowOf pattern.now j row.now }
+    requires lane { j < pattern.now.minor_dim }
+    requires transposed { IsTransposedPattern pattern.now structure.now.rows.now }
+    requires nested { AreNested pattern.now structure.now.nested.now }
     requires count { pattern.now.major_dim ≤ length cursors.old }
     requires cursors { AreCursors pattern.now j cursors.old }
     requires rows { length column.old ≡ pattern.now.major_dim }
@@ -104,15 +114,18 @@ fn update_column<T: Ring>(
         (elements T.ring T.value T.zero_value column.new)
         (elements T.ring T.value T.zero_value column.old) }
 {
-    let (offsets, rows) = (pattern.major_offsets(), pattern.minor_indices());
-    for q in 0..row.len() {
+    recall(pattern.minor_indices());
+    recall(structure.rows.minor_indices());
+    let (row, nested) = (structure.rows.lane(j), structure.nested);
+    let mut q = 0;
+    while q < row.len() {
         let k = row[q];
-        let at = cursors[k];
-        cursors[k] = at + 1;
-        if k < j {
-            let end = offsets[k + 1];
-            let scale = column[k].mul(values[at]).neg();
-            usaxpy(scale, &values[at..end], &rows[at..end], column);
+        if takes_four(nested, row, q) {
+            subtract_four(pattern, values, k, cursors, column);
+            q += 4;
+        } else {
+            subtract_one(pattern, values, k, j, cursors, column);
+            q += 1;
         }
     }
 }

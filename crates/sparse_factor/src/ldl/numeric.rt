@@ -14,7 +14,8 @@ ghost use Rattle.sparse_pattern.specs.Raw.{IsEntry};
 ghost use Rattle.sparse_pattern.specs.TransposedPattern.{IsTransposedPattern};
 ghost use Rattle.sparse_dense_ops.specs.SparseVectors.{elements};
 
-use super::columns::factor_columns;
+use super::columns::{Structure, factor_columns};
+use super::nested::nested_columns;
 use sparse_algebra::error::OperationError;
 use sparse_algebra::recall;
 use sparse_algebra::scalar::{Ring, Units, Zero};
@@ -114,6 +115,11 @@ fn factor_lower<T: Units>(
     let mut inverses = zeros(alloc, n)?;
     let mut d = zeros(alloc, n)?;
     let mut cursors = Vec::from_slice(alloc, l.col_offsets())?;
-    factor_columns(lower, rows, &mut l, &mut inverses, &mut cursors, &mut d)?;
+    let nested = nested_columns(alloc, l.pattern())?;
+    let structure = Structure {
+        rows,
+        nested: &nested,
+    };
+    factor_columns(lower, &structure, &mut l, &mut inverses, &mut cursors, &mut d)?;
     Ok((l, d, inverses))
 }

@@ -3,23 +3,7 @@ use Rattle.std.proofs.Math.Seq.{take-append_seam}
 use Rattle.sparse_compressed.specs.PlainOfLanes.{plain_of_cols}
 use Rattle.sparse_factor.specs.InnerFactors.{ArePartFactors}
 use Rattle.sparse_factor.proofs.ColumnSteps.{column_updated, step_done, step_singular}
-use Rattle.sparse_factor.proofs.TransposedRows.{lane_is_row}
 use Rattle.sparse_factor.proofs.ldl.columns.factor_columns.Goals as goal
-
-pub update_column-requires-clause-row : goal.update_column-requires-clause-row
-update_column-requires-clause-row g c =
-    rw (
-      c.pattern_and_values_mut-values.ensures.pattern,
-      c.major_offsets-starts.ensures.offsets,
-      c.minor_indices-columns.ensures.indices,
-    ) (lane_is_row c.args.l.now.pattern c.args.rows.now c.requires.transposed
-    c.major_offsets-starts.ensures.valid c.loop-j.j (omega (
-      arith,
-      c.loop-j-test.true,
-      c.requires.transposed.major_dim,
-      c.requires.filled.square,
-      c.requires.pivots,
-    )))
 
 pub returns-in_default-clause-singular : goal.returns-in_default-clause-singular
 returns-in_default-clause-singular g c = λ m d part.

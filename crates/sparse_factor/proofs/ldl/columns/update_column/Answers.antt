@@ -1,8 +1,9 @@
-use Rattle.std.proofs.Common.{◌∙◌, refl, length-set}
+use Rattle.std.proofs.Common.{◌≡◌, ◌<◌, length, slice_index, ap, sym, subst, ◌∙◌, refl, arith}
+use Rattle.std.proofs.lemmas.List.{get_or_default}
 use Rattle.sparse_compressed.specs.Compressed.{compressed_of}
-use Rattle.sparse_factor.proofs.RowEntries.{none_read, all_read, entry_within, entry_rows}
-use Rattle.sparse_factor.proofs.RowEntries.{entry_updated, diagonal_skipped}
-use Rattle.sparse_factor.proofs.ldl.columns.update_column.Goals.{then-k-j, else-k-j}
+use Rattle.sparse_factor.proofs.FourEntries.{four_fourth, four_read, four_second, four_third}
+use Rattle.sparse_factor.proofs.RowEntries.{none_read, all_read, one_read, row_columns}
+use Rattle.sparse_factor.proofs.TransposedRows.{lane_is_row}
 use Rattle.sparse_factor.proofs.ldl.columns.update_column.Goals as goal
 
 pub loop-q-init : goal.loop-q-init
@@ -10,41 +11,55 @@ loop-q-init g c =
     let need = c.requires in
     record {
       count = refl;
+      rows = refl;
       read = none_read _ _ _ {m = compressed_of c.args.pattern.now c.args.values.now}
-          (record { valid = c.major_offsets-offsets.ensures.valid; count = need.fits })
-          need.lower need.row need.square need.rows need.count need.cursors;
+          (record { valid = c.minor_indices.ensures.valid; count = need.fits })
+          need.lower (rw c.lane-row.ensures (lane_is_row c.args.pattern.now c.args.structure.now.rows.now
+          need.transposed c.minor_indices-2.ensures.valid c.args.j (omega
+          (arith, need.lane, need.transposed.major_dim)))) need.square need.rows need.count
+          need.cursors;
     }
 
-pub bounds-values-at : goal.bounds-values-at
-bounds-values-at g c = entry_within c.loop-q.invariant.read c.loop-q-test.true
+pub takes_four-requires-clause-inside : goal.takes_four-requires-clause-inside
+takes_four-requires-clause-inside g c = λ r d lt.
+    let column = row_columns c.loop-q.invariant.read r lt in
+    let same = get_or_default c.lane-row.result.now r d 0 lt in
+    let count = c.requires.nested.count in
+    omega (arith, column, same, count)
 
-pub usaxpy-requires-clause-inside : goal.usaxpy-requires-clause-inside
-usaxpy-requires-clause-inside g c =
-    rw (c.minor_indices-rows.ensures.indices, c.major_offsets-offsets.ensures.offsets)
-    (entry_rows c.loop-q.invariant.read c.loop-q-test.true)
+pub subtract_four-requires-clause-second : goal.subtract_four-requires-clause-second
+subtract_four-requires-clause-second g c = four_second c.loop-q.column c.loop-q.invariant.read
+    c.requires.nested (c.takes_four.ensures c.if-takes_four.true)
+
+pub subtract_four-requires-clause-third : goal.subtract_four-requires-clause-third
+subtract_four-requires-clause-third g c = four_third c.loop-q.column c.loop-q.invariant.read
+    c.requires.nested (c.takes_four.ensures c.if-takes_four.true)
+
+pub subtract_four-requires-clause-fourth : goal.subtract_four-requires-clause-fourth
+subtract_four-requires-clause-fourth g c = four_fourth c.loop-q.column c.loop-q.invariant.read
+    c.requires.nested (c.takes_four.ensures c.if-takes_four.true)
+
+pub loop-q-preserved-then-takes_four : goal.loop-q-preserved-then-takes_four
+loop-q-preserved-then-takes_four g c =
+    let so_far = c.loop-q.invariant in
+    record {
+      count = c.subtract_four.auto.cursors ∙ so_far.count;
+      rows = c.subtract_four.auto.column ∙ so_far.rows;
+      read = rw c.subtract_four.ensures.moved (four_read c.loop-q.column so_far.read
+          c.requires.nested (c.takes_four.ensures c.if-takes_four.true) so_far.rows
+          c.subtract_four.ensures.less);
+    }
 
 pub loop-q-preserved : goal.loop-q-preserved
 loop-q-preserved g c =
-    let read = c.loop-q.invariant.read in
-    let lt = c.loop-q-test.true in
-    let count = length-set c.loop-q.cursors _ _ ∙ c.loop-q.invariant.count in
-    elim c.if-k-j.branch [
-      | then-k-j w ↦
-          let added = rw (
-            w.neg-scale.ensures,
-            c.minor_indices-rows.ensures.indices,
-            c.major_offsets-offsets.ensures.offsets,
-          ) at w.usaxpy.ensures in
-          record {
-            count = count;
-            read = rw w.column-is (entry_updated read lt w.if-k-j.true w.index-column-k.is
-                w.index-values-at.is w.mul.ensures added w.usaxpy.auto.y);
-          }
-      | else-k-j w ↦ record {
-        count = count;
-        read = rw w.column-is (diagonal_skipped read lt w.if-k-j.false);
-      }
-    ]
+    let so_far = c.loop-q.invariant in
+    record {
+      count = c.subtract_one.auto.cursors ∙ so_far.count;
+      rows = c.subtract_one.auto.column ∙ so_far.rows;
+      read = rw c.subtract_one.ensures.moved (one_read c.loop-q.column c.subtract_one.new.column
+          so_far.read c.loop-q-test.true so_far.rows c.subtract_one.ensures.less
+          c.subtract_one.ensures.unchanged);
+    }
 
 pub returns-clause-left : goal.returns-clause-left
 returns-clause-left g c = all_read c.loop-q.invariant.read c.loop-q-test.false
