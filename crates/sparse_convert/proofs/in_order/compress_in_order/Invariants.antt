@@ -11,6 +11,6 @@ invariant-loop-offset g l = record {
   within : vec_len l.offsets ≤ l.triplets.major_dim + 1;
   most : vec_len l.indices ≤ l.offset;
   lane_room : l.triplets.major_dim < vec_capacity l.offsets;
-  index_room : vec_capacity l.indices ≡ length l.majors.now;
-  value_room : vec_capacity l.sums ≡ length l.majors.now;
+  index_room : vec_capacity l.indices ≡ length l.majors;
+  value_room : vec_capacity l.sums ≡ length l.majors;
 }
