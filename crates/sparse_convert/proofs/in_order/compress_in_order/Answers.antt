@@ -44,7 +44,7 @@ loop-offset-preserved g c =
     record {
       held = rw (
         lane,
-        next_triplet t.lists p c.index-values-offset.result lt
+        next_triplet t p c.index-values-offset.result lt
             c.index-values-offset.is,
       ) (next.held (take p (list_of t)) inv.held);
       within = omega (arith, next.lanes, below);
@@ -59,17 +59,17 @@ pub from_offset_and_indices_unchecked-pattern-requires :
 from_offset_and_indices_unchecked-pattern-requires g c =
     let inv = c.loop-offset.invariant in
     let end : c.len.result ≡ length c.loop-offset.indices.items = omega arith in
-    let merged = rw (← end, ← c.end_lanes.ensures.ended) at (all_read c.args.triplets.now.lists
+    let merged = rw (← end, ← c.end_lanes.ensures.ended) at (all_read c.args.triplets.now
     c.loop-offset.offset (omega arith) (omega (arith, inv.within)) inv.held) in
-    triplets_valid c.args.triplets.now.lists merged
+    triplets_valid c.args.triplets.now merged
 
 pub returns : goal.returns
 returns g c =
     let inv = c.loop-offset.invariant in
     let end : c.len.result ≡ length c.loop-offset.indices.items = omega arith in
-    let merged = rw (← end, ← c.end_lanes.ensures.ended) at (all_read c.args.triplets.now.lists
+    let merged = rw (← end, ← c.end_lanes.ensures.ended) at (all_read c.args.triplets.now
     c.loop-offset.offset (omega arith) (omega (arith, inv.within)) inv.held) in
     let built = c.from_pattern_and_values.ensures in
-    triplets_represented c.args.triplets.now.lists merged built.sound
+    triplets_represented c.args.triplets.now merged built.sound
     (built.is ∙ ap (λ d. compressed_of d c.loop-offset.sums.items)
     c.from_offset_and_indices_unchecked-pattern.ensures)

@@ -17,7 +17,7 @@ merge_lanes-requires g c =
       sorted = lanes.sorted;
       below = λ i. All-permutation (λ e. e.0 < t.minor_dim) (triplets_of_lane (list_of t) i)
           (entries_of_lane offsets c.in_ok-lanes.lanes.entries.items i) (lanes.moved i)
-          (lane_below t.lists i);
+          (lane_below t i);
     })
 
 pub returns : goal.returns
