@@ -4,7 +4,7 @@ use Rattle.std.proofs.Common.{length, All, slice_index, refl, ap, sym, ◌∙◌
 use Rattle.sparse_algebra.proofs.Cases.{lt_add_one_cases, lt_or_ge}
 use Rattle.sparse_algebra.specs.Algebra.{CommRing}
 use Rattle.sparse_pattern.specs.Raw.{raw_of, IsValid, IsEntry}
-use Rattle.sparse_algebra.specs.Plain.{Plain, IsProper, plain_of_triplets}
+use Rattle.sparse_algebra.specs.Plain.{Plain, IsProper}
 use Rattle.sparse_algebra.proofs.PlainLemmas.{same_plain}
 use Rattle.sparse_convert.specs.declared.borrowed.Triplets.{Triplets}
 use Rattle.sparse_compressed.specs.Compressed.{Compressed, compressed_of, IsSound}
