@@ -6,8 +6,9 @@ use Rattle.std.proofs.Common.{slice_index, append_assoc, append-nil, take_all, r
 use Rattle.std.proofs.Common.{subst, arith}
 use Rattle.sparse_algebra.proofs.Cases.{lt_or_ge}
 use Rattle.sparse_algebra.specs.Algebra.{CommRing}
-use Rattle.sparse_coo_dense.specs.Coo.{zip_triplets}
-use Rattle.sparse_convert.specs.InnerTripletLanes.{AreTriplets, triplets_of_lane}
+use Rattle.sparse_convert.specs.declared.borrowed.Triplets.{Triplets}
+use Rattle.sparse_convert.specs.InnerTripletLanes.{triplets_of_lane}
+use Rattle.sparse_convert.specs.InnerTripletLists.{list_of}
 use Rattle.sparse_convert.specs.InnerMerged.{AreMerged, AreLanesMerged, KeepsFirst}
 use Rattle.sparse_convert.specs.InnerInOrder.{AreInOrder}
 use Rattle.sparse_convert.proofs.Merging.{empty_merged}
@@ -144,13 +145,12 @@ module _ {R : CommRing} {T : Type 0} {f : T → R.Carrier} {z : T} where
           }
 
   -- after the last triplet, and once all lanes are ended
-  pub all_read : {n rows : ℕ} {majors minors starts is : List ℕ} {values vs : List T}
-      (lists : AreTriplets rows majors minors values) (p : ℕ) → length majors ≤ p → n ≤ rows
-      → AreInOrder R f z n (take p (zip_triplets majors minors values)) starts is vs
-      → AreLanesMerged R f z (triplets_of_lane (zip_triplets majors minors values)) rows
-      (starts ++ replicate (rows + 1 - length starts) (length is)) is vs
-  all_read {n} {rows} {majors} {minors} {starts} {is} {values} {vs} lists p most le h =
-      let whole = take_all p (zip_triplets majors minors values)
-      (omega (arith, triplet_count lists)) in
-      closed (lanes_ended rows le (subst (λ l. AreInOrder R f z n l starts is vs) whole h))
-      (lane_past lists rows (omega arith))
+  pub all_read : (l : Triplets T) {n : ℕ} {starts is : List ℕ} {vs : List T} (p : ℕ)
+      → length l.majors.now ≤ p → n ≤ l.major_dim
+      → AreInOrder R f z n (take p (list_of l)) starts is vs
+      → AreLanesMerged R f z (triplets_of_lane (list_of l)) l.major_dim
+      (starts ++ replicate (l.major_dim + 1 - length starts) (length is)) is vs
+  all_read l {n} {starts} {is} {vs} p most le h =
+      let whole = take_all p (list_of l) (omega (arith, triplet_count l)) in
+      closed (lanes_ended l.major_dim le (subst (λ ts. AreInOrder R f z n ts starts is vs) whole h))
+      (lane_past l l.major_dim (omega arith))

@@ -4,14 +4,15 @@ use Rattle.std.proofs.Common.{length, All, slice_index, refl, ap, sym, ◌∙◌
 use Rattle.sparse_algebra.proofs.Cases.{lt_add_one_cases, lt_or_ge}
 use Rattle.sparse_algebra.specs.Algebra.{CommRing}
 use Rattle.sparse_pattern.specs.Raw.{raw_of, IsValid, IsEntry}
-use Rattle.sparse_algebra.specs.Plain.{Plain, IsProper, plain_of_triplets}
+use Rattle.sparse_algebra.specs.Plain.{Plain, IsProper}
 use Rattle.sparse_algebra.proofs.PlainLemmas.{same_plain}
-use Rattle.sparse_coo_dense.specs.Coo.{zip_triplets}
+use Rattle.sparse_convert.specs.declared.borrowed.Triplets.{Triplets}
 use Rattle.sparse_compressed.specs.Compressed.{Compressed, compressed_of, IsSound}
 use Rattle.sparse_compressed.specs.PlainOfLanes.{plain_of_rows}
 use Rattle.sparse_compressed.proofs.Arrays.{plain_of_rows-from_places}
-use Rattle.sparse_convert.specs.InnerTripletLanes.{AreTriplets, Represents, index_sum}
+use Rattle.sparse_convert.specs.InnerTripletLanes.{Represents, index_sum}
 use Rattle.sparse_convert.specs.InnerTripletLanes.{triplets_of_lane}
+use Rattle.sparse_convert.specs.InnerTripletLists.{list_of, plain_of_list}
 use Rattle.sparse_convert.specs.InnerMerged.{AreMerged, AreLanesMerged, KeepsFirst}
 use Rattle.sparse_convert.proofs.IndexSums.{has_index, index_sum-none, all_has}
 use Rattle.sparse_convert.proofs.Merging.{merged_kept}
@@ -134,23 +135,20 @@ module _ {R : CommRing} {T : Type 0} {f : T → R.Carrier} {z : T} {lane : ℕ �
   }
 
 -- merged lanes of triplets are a sound matrix, which has the plain matrix of the triplets
-module _ {R : CommRing} {T : Type 0} {f : T → R.Carrier} {z : T} {rows cols : ℕ}
-    {majors minors starts is : List ℕ} {values vs : List T}
-    (lists : AreTriplets rows majors minors values) (minors_below : All (λ j. j < cols) minors)
-    (h : AreLanesMerged R f z (triplets_of_lane (zip_triplets majors minors values)) rows starts is
-    vs) where
-  pub triplets_valid : IsValid (raw_of rows cols starts is)
-  triplets_valid = merged_valid (lane_below lists minors_below) (lane_past lists) h
+module _ {R : CommRing} {T : Type 0} {f : T → R.Carrier} {z : T} {starts is : List ℕ}
+    {vs : List T} (l : Triplets T)
+    (h : AreLanesMerged R f z (triplets_of_lane (list_of l)) l.major_dim starts is vs) where
+  pub triplets_valid : IsValid (raw_of l.major_dim l.minor_dim starts is)
+  triplets_valid = merged_valid (lane_below l) (lane_past l) h
 
   pub triplets_represented : {m : Compressed T} → IsSound m
-      → m ≡ compressed_of (raw_of rows cols starts is) vs
-      → Represents R f (plain_of_triplets R f rows cols (zip_triplets majors minors values)) m
+      → m ≡ compressed_of (raw_of l.major_dim l.minor_dim starts is) vs
+      → Represents R f (plain_of_list l R f) m
   triplets_represented sound built =
-      let ts = zip_triplets majors minors values in
+      let ts = list_of l in
       record {
-        plain = (merged_represents (lane_below lists minors_below) (lane_past lists) h sound built).plain
-            ∙ same_plain (plain_of_entries R f (triplets_of_lane ts) rows cols)
-            (plain_of_triplets R f rows cols ts) refl refl (λ i j. lane_has i j ts)
-            (λ i j. lane_sum R f i j ts);
+        plain = (merged_represents (lane_below l) (lane_past l) h sound built).plain
+            ∙ same_plain (plain_of_entries R f (triplets_of_lane ts) l.major_dim l.minor_dim)
+            (plain_of_list l R f) refl refl (λ i j. lane_has i j ts) (λ i j. lane_sum R f i j ts);
         sound = sound;
       }

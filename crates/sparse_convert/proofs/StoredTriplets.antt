@@ -45,6 +45,16 @@ module _ {T : Type 0} where
   zip_of_transposed [] = refl
   zip_of_transposed (t ∷ ts) = ap (λ l. transposed t ∷ l) (zip_of_transposed ts)
 
+  -- the parts of a coordinate list with rows and columns exchanged
+  pub exchanged_parts : {n m : ℕ} {rows cols : List ℕ} {values : List T}
+      → AreParts n m rows cols values → AreParts m n cols rows values
+  exchanged_parts parts = record {
+    row_count = parts.col_count;
+    col_count = parts.row_count;
+    rows_bounded = parts.cols_bounded;
+    cols_bounded = parts.rows_bounded;
+  }
+
   module _ (m : Compressed T) (sound : IsSound m) where
     long : length (entries_of m.pattern) ≡ length m.values
     long = length-entries m.pattern sound.valid ∙ sym sound.count
@@ -79,12 +89,7 @@ module _ {T : Type 0} where
         (map (λ (t : ℕ × ℕ × T). t.1) (lane_triplets m))
         (map (λ (t : ℕ × ℕ × T). t.0) (lane_triplets m))
         (map (λ (t : ℕ × ℕ × T). t.2) (lane_triplets m))
-    parts_by_cols = record {
-      row_count = parts_by_rows.col_count;
-      col_count = parts_by_rows.row_count;
-      rows_bounded = parts_by_rows.cols_bounded;
-      cols_bounded = parts_by_rows.rows_bounded;
-    }
+    parts_by_cols = exchanged_parts parts_by_rows
 
 -- the plain matrix of the transposed triplets is the transpose
 pub plain_of_transposed_list : (R : CommRing) {T : Type 0} (f : T → R.Carrier) (rows cols : ℕ)

@@ -14,83 +14,62 @@ use Rattle.sparse_algebra.specs.Sums.{where_true}
 use Rattle.sparse_algebra.specs.Plain.{is_at, plain_of_triplets}
 use Rattle.sparse_algebra.proofs.SumLemmas.{sum_by-permutation, sum_by-same}
 use Rattle.sparse_algebra.proofs.PlainLemmas.{same_plain}
-use Rattle.sparse_coo_dense.specs.Coo.{AreParts, zip_triplets}
 use Rattle.sparse_coo_dense.proofs.TripletLists.{bounded, length-triplets, row_at, rows-zip}
 use Rattle.sparse_coo_dense.proofs.TripletLists.{triplet_at}
 use Rattle.sparse_compressed.proofs.Arrays.{value_at}
-use Rattle.sparse_convert.specs.InnerTripletLanes.{AreTriplets, LanesStrictlyIncrease, entries_of_lane}
+use Rattle.sparse_convert.specs.declared.borrowed.Triplets.{Triplets}
+use Rattle.sparse_convert.specs.InnerTripletLists.{list_of}
+use Rattle.sparse_convert.specs.InnerTripletLanes.{LanesStrictlyIncrease, entries_of_lane}
 use Rattle.sparse_convert.specs.InnerTripletLanes.{triplets_of_lane, index_sum, plain_of_lanes}
 use Rattle.sparse_convert.proofs.ByKey.{no_element, same_key, sorted-map}
 use Rattle.sparse_convert.proofs.Folds.{any-filter, any-map, sum_by-filter, sum_by-map, where_and}
 use Rattle.sparse_convert.proofs.IndexSums.{has_index}
 
--- the parts of a coordinate list are triplets by rows and by columns
-module _ {T : Type 0} {n m : ℕ} {rows cols : List ℕ} {values : List T}
-    (parts : AreParts n m rows cols values) where
-  pub by_rows : AreTriplets n rows cols values
-  by_rows = record {
-    minor_count = parts.col_count ∙ sym parts.row_count;
-    value_count = sym parts.row_count;
-    below = parts.rows_bounded;
-  }
+module _ {T : Type 0} (l : Triplets T) where
+  abbrev majors : List ℕ
+  majors = l.majors.now
 
-  pub by_cols : AreTriplets m cols rows values
-  by_cols = record {
-    minor_count = parts.row_count ∙ sym parts.col_count;
-    value_count = sym parts.col_count;
-    below = parts.cols_bounded;
-  }
+  abbrev minors : List ℕ
+  minors = l.minors.now
 
-module _ {T : Type 0} {n : ℕ} {majors minors : List ℕ} {values : List T}
-    (lists : AreTriplets n majors minors values) where
   abbrev ts : List (ℕ × ℕ × T)
-  ts = zip_triplets majors minors values
-
-  row_count : length majors ≡ length values
-  row_count = sym lists.value_count
-
-  col_count : length minors ≡ length values
-  col_count = lists.minor_count ∙ sym lists.value_count
+  ts = list_of l
 
   pub triplet_count : length ts ≡ length majors
-  triplet_count = length-triplets majors minors values row_count col_count ∙ lists.value_count
+  triplet_count = length-triplets majors minors l.values.now l.lists.row_count l.lists.col_count
+      ∙ sym l.lists.row_count
 
   pub majors_back : map (λ (t : ℕ × ℕ × T). t.0) ts ≡ majors
-  majors_back = rows-zip majors minors values row_count col_count
+  majors_back = rows-zip majors minors l.values.now l.lists.row_count l.lists.col_count
 
   -- one more triplet
-  pub next_triplet : (p : ℕ) (v : T) → p < length majors → v ≡ get_or values p v
+  pub next_triplet : (p : ℕ) (v : T) → p < length majors → v ≡ get_or l.values.now p v
       → take (p + 1) ts ≡ take p ts ++ (slice_index majors p, slice_index minors p, v) ∷ []
-  next_triplet p v lt is = triplet_at majors minors values p (slice_index majors p)
-      (slice_index minors p) v row_count col_count (omega (arith, row_count))
+  next_triplet p v lt is = triplet_at majors minors l.values.now p (slice_index majors p)
+      (slice_index minors p) v l.lists.row_count l.lists.col_count
+      (omega (arith, l.lists.row_count))
       (get_or_default majors p 0 (slice_index majors p) lt)
-      (get_or_default minors p 0 (slice_index minors p) (omega (arith, lists.minor_count))) is
+      (get_or_default minors p 0 (slice_index minors p)
+      (omega (arith, l.lists.row_count, l.lists.col_count))) is
 
   -- the indices of a triplet
   indices_at : (k : ℕ) (t : ℕ × ℕ × T) → k < length ts
       → ((get_or ts k t).0 ≡ slice_index majors k) × ((get_or ts k t).1 ≡ slice_index minors k)
-  indices_at k t lt = row_at majors minors values k t row_count col_count
-      (omega (arith, triplet_count, row_count))
+  indices_at k t lt = row_at majors minors l.values.now k t l.lists.row_count l.lists.col_count
+      (omega (arith, triplet_count, l.lists.row_count))
 
-  pub all_inside : {m : ℕ} → All (λ j. j < m) minors → All (λ t. (t.0 < n) × (t.1 < m)) ts
-  all_inside {m} minors_below = bounded n m majors minors values record {
-    row_count = row_count;
-    col_count = col_count;
-    rows_bounded = lists.below;
-    cols_bounded = minors_below;
-  }
+  pub all_inside : All (λ t. (t.0 < l.major_dim) × (t.1 < l.minor_dim)) ts
+  all_inside = bounded l.major_dim l.minor_dim majors minors l.values.now l.lists
 
   -- no triplet is in a lane at or above the bound
-  pub lane_past : (i : ℕ) → n ≤ i → triplets_of_lane ts i ≡ []
+  pub lane_past : (i : ℕ) → l.major_dim ≤ i → triplets_of_lane ts i ≡ []
   lane_past i le = ap (map (λ (t : ℕ × ℕ × T). (t.1, t.2)))
-      (no_element (λ t. t.0) n i ts le (λ k t lt.
-      omega (arith, indices_at k t lt, lists.below k 0 (omega (arith, triplet_count)))))
+      (no_element (λ t. t.0) l.major_dim i ts le (λ k t lt. (all_inside k t lt).0))
 
-  pub lane_below : {m : ℕ} → All (λ j. j < m) minors → (i : ℕ)
-      → All (λ e. e.0 < m) (triplets_of_lane ts i)
-  lane_below {m} minors_below i = All-map (λ e. e.0 < m) (λ t. (t.1, t.2))
-      (filter (λ t. eqb t.0 i) ts) (All-filter (λ t. eqb t.0 i) (λ t. t.1 < m) ts
-      (λ k d lt. (all_inside minors_below k d lt).1))
+  pub lane_below : (i : ℕ) → All (λ e. e.0 < l.minor_dim) (triplets_of_lane ts i)
+  lane_below i = All-map (λ e. e.0 < l.minor_dim) (λ t. (t.1, t.2))
+      (filter (λ t. eqb t.0 i) ts) (All-filter (λ t. eqb t.0 i) (λ t. t.1 < l.minor_dim) ts
+      (λ k d lt. (all_inside k d lt).1))
 
   -- a relation between the minor indices of any two triplets of a lane holds between those of its
   -- entries
@@ -117,7 +96,8 @@ module _ {T : Type 0} {n : ℕ} {majors minors : List ℕ} {values : List T}
   lane_sorted up i = sorted-map (λ e. e.0) (λ t. (t.1, t.2)) (filter (λ t. eqb t.0 i) ts)
       (λ p q d le within. elim (lt_or_ge p q) [
         | inl lt ↦ lane_pairs (λ a b. a ≤ b)
-            (λ p q lt within same. up p q 0 (omega arith) (omega (arith, lists.minor_count)))
+            (λ p q lt within same. up p q 0 (omega arith)
+            (omega (arith, l.lists.row_count, l.lists.col_count)))
             i p q d lt within
         | inr ge ↦
             let e : p ≡ q = omega arith in

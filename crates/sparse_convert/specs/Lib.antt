@@ -1,4 +1,5 @@
 pub mod InnerTripletLanes
+pub mod InnerTripletLists
 pub mod InnerMerged
 pub mod InnerInOrder
 pub mod OneMatrix

@@ -1,6 +1,7 @@
 //! Conversions between coordinate lists, CSR, CSC and dense matrices.
 #![tactic(auto)]
 
+mod borrowed;
 mod coarse_passes;
 mod counted;
 mod in_order;

@@ -1,7 +1,7 @@
 use Rattle.std.proofs.Common.{◌≡◌, ◌-◌, ◌<◌, ◌++◌, [], ◌∷◌, length, slice_index, take}
 use Rattle.std.proofs.Common.{vec_len, ap, ◌∙◌, arith}
-use Rattle.sparse_coo_dense.specs.Coo.{zip_triplets}
 use Rattle.sparse_compressed.specs.Compressed.{compressed_of}
+use Rattle.sparse_convert.specs.InnerTripletLists.{list_of}
 use Rattle.sparse_convert.proofs.InOrder.{all_read, nothing_read}
 use Rattle.sparse_convert.proofs.MergedLanes.{triplets_represented, triplets_valid}
 use Rattle.sparse_convert.proofs.Triplets.{next_triplet}
@@ -36,17 +36,17 @@ loop-offset-preserved g c =
     let p = c.loop-offset.offset in
     let inv = c.loop-offset.invariant in
     let next = c.if-not-push_triplet.ensures in
-    let ts = zip_triplets c.args.majors.now c.args.minors.now c.args.values.now in
-    let major = slice_index c.args.majors.now p in
-    let lt : p < length c.args.majors.now = c.loop-offset-test.true in
-    let below : major < c.args.major_dim = c.requires.lists.below p 0 lt in
+    let t = c.args.triplets.now in
+    let major = slice_index t.majors.now p in
+    let lt : p < length t.majors.now = c.loop-offset-test.true in
+    let below : major < t.major_dim = t.lists.rows_bounded p 0 lt in
     let lane : vec_len c.push_triplet.new.offsets - 1 ≡ major = omega (arith, next.lanes) in
     record {
       held = rw (
         lane,
-        next_triplet c.requires.lists p c.index-values-offset.result lt
+        next_triplet t p c.index-values-offset.result lt
             c.index-values-offset.is,
-      ) (next.held (take p ts) inv.held);
+      ) (next.held (take p (list_of t)) inv.held);
       within = omega (arith, next.lanes, below);
       most = omega (arith, next.grown, inv.most);
       lane_room = omega (arith, next.lane_room, inv.lane_room);
@@ -59,17 +59,17 @@ pub from_offset_and_indices_unchecked-pattern-requires :
 from_offset_and_indices_unchecked-pattern-requires g c =
     let inv = c.loop-offset.invariant in
     let end : c.len.result ≡ length c.loop-offset.indices.items = omega arith in
-    let merged = rw (← end, ← c.end_lanes.ensures.ended) at (all_read c.requires.lists
+    let merged = rw (← end, ← c.end_lanes.ensures.ended) at (all_read c.args.triplets.now
     c.loop-offset.offset (omega arith) (omega (arith, inv.within)) inv.held) in
-    triplets_valid c.requires.lists c.requires.minors_below merged
+    triplets_valid c.args.triplets.now merged
 
 pub returns : goal.returns
 returns g c =
     let inv = c.loop-offset.invariant in
     let end : c.len.result ≡ length c.loop-offset.indices.items = omega arith in
-    let merged = rw (← end, ← c.end_lanes.ensures.ended) at (all_read c.requires.lists
+    let merged = rw (← end, ← c.end_lanes.ensures.ended) at (all_read c.args.triplets.now
     c.loop-offset.offset (omega arith) (omega (arith, inv.within)) inv.held) in
     let built = c.from_pattern_and_values.ensures in
-    triplets_represented c.requires.lists c.requires.minors_below merged built.sound
+    triplets_represented c.args.triplets.now merged built.sound
     (built.is ∙ ap (λ d. compressed_of d c.loop-offset.sums.items)
     c.from_offset_and_indices_unchecked-pattern.ensures)

@@ -2,26 +2,23 @@ use Rattle.std.proofs.Common.{ap, ◌∙◌}
 use Rattle.sparse_algebra.specs.Plain.{plain_of_triplets, plain_transpose}
 use Rattle.sparse_coo_dense.proofs.CooParts.{parts-split}
 use Rattle.sparse_compressed.specs.PlainOfLanes.{plain_of_cols}
-use Rattle.sparse_convert.proofs.Triplets.{by_cols}
-use Rattle.sparse_convert.proofs.StoredTriplets.{plain_of_transposed_list, zip_of_transposed}
+use Rattle.sparse_convert.proofs.StoredTriplets.{exchanged_parts, plain_of_transposed_list}
+use Rattle.sparse_convert.proofs.StoredTriplets.{zip_of_transposed}
 use Rattle.sparse_convert.proofs.serial.convert_coo_csc.Goals as goal
 
-pub compress-requires-clause-lists : goal.compress-requires-clause-lists
-compress-requires-clause-lists g c = rw c.ncols.ensures (by_cols (parts-split c.args.coo.now _ _ _
-    c.row_indices.ensures.rows c.col_indices.ensures.cols c.values.ensures
-    c.row_indices.ensures.inside))
-
-pub compress-requires-clause-minors_below : goal.compress-requires-clause-minors_below
-compress-requires-clause-minors_below g c = rw c.nrows.ensures (parts-split c.args.coo.now _ _ _
-    c.row_indices.ensures.rows c.col_indices.ensures.cols c.values.ensures
-    c.row_indices.ensures.inside).rows_bounded
+pub invariant_of-triplets : goal.invariant_of-triplets
+invariant_of-triplets g c = record {
+  lists = rw (c.nrows.ensures, c.ncols.ensures) (exchanged_parts (parts-split c.args.coo.now _ _ _
+      c.row_indices.ensures.rows c.col_indices.ensures.cols c.values.ensures
+      c.row_indices.ensures.inside));
+}
 
 pub returns-clause-plain : goal.returns-clause-plain
 returns-clause-plain g c =
     let R = g.T.Ring.ring in
     let f = g.T.Ring.value in
     let m = c.args.coo.now in
-    ap (plain_of_cols R f) c.from_cs.ensures ∙ ap (plain_transpose R) c.in_ok-cs.ensures.plain
+    ap (plain_of_cols R f) c.from_cs.ensures ∙ ap (plain_transpose R) c.in_ok-compress.ensures.plain
     ∙ rw (
       c.nrows.ensures,
       c.ncols.ensures,
