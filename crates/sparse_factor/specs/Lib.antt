@@ -8,3 +8,4 @@ pub mod InnerCountedPairs
 pub mod Factorisations
 pub mod Factors
 pub mod InnerFactors
+pub mod OrderedFactors

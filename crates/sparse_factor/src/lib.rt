@@ -5,3 +5,4 @@
 pub mod factorization;
 pub mod laws;
 pub mod ldl;
+pub mod ordered;
