@@ -38,3 +38,5 @@ mod UniqueFactors
 mod GatheredColumns
 mod EntryValues
 mod ColumnSteps
+mod SymmetricMatrices
+mod OrderedSystems
