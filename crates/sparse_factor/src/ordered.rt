@@ -89,10 +89,7 @@ impl<T: Units> Ldl<T> {
     ///     Ok(b.as_slice() == [1, 1, 1].map(W64::new).as_slice())
     /// }
     /// ```
-    pub fn factor_ordered(
-        alloc: Global,
-        a: &CscMatrix<T>,
-    ) -> Result<OrderedLdl<T>, OperationError>
+    pub fn factor_ordered(alloc: Global, a: &CscMatrix<T>) -> Result<OrderedLdl<T>, OperationError>
         requires square { a.now.pattern.minor_dim ≡ a.now.pattern.major_dim }
         ensures rows { IfOk result (λ s. length s.order ≡ a.now.pattern.minor_dim) }
         ensures equation { IfOk result (λ s. HasSameValues T.ring (length s.order) (length s.order)

@@ -2,16 +2,17 @@
 
 ghost use Rattle.std.specs.Prelude.{◌≡◌, nat_lt, length, IfOk};
 ghost use Rattle.sparse_algebra.specs.Plain.{plain_kept};
+ghost use Rattle.sparse_coo_dense.specs.DensePlain.{plain_of_dense};
 ghost use Rattle.sparse_compressed.specs.PlainOfLanes.{plain_of_cols};
 ghost use Rattle.sparse_factor.specs.Factors.{symmetric_of};
-ghost use Rattle.sparse_permutation.specs.PermutedPatterns.{HasPermutedRows};
-ghost use Rattle.sparse_permutation.specs.PermutedPlain.{plain_permuted};
+ghost use Rattle.sparse_permutation.specs.PermutedPlain.{plain_permuted, plain_rows_permuted};
 
 use sparse_algebra::recall;
 use sparse_algebra::scalar::Ring;
 use sparse_compressed::laws::{kept_cols_law, transpose_law};
 use sparse_coo_dense::dense::DMatrix;
 use sparse_csr_csc::csc::CscMatrix;
+use sparse_permutation::laws::dense_rows_law;
 use sparse_permutation::permutation::Permutation;
 use sparse_permutation::rows::permute_rows;
 use sparse_permutation::symmetric::permute_symmetric_csc;
@@ -68,16 +69,22 @@ pub fn permuted_matrix<T: Ring>(
 }
 
 // Returns P B.
-pub fn permuted_rows<T: Copy>(
+pub fn permuted_rows<T: Ring>(
     alloc: Global,
     b: &DMatrix<T>,
     permutation: &Permutation,
 ) -> Result<DMatrix<T>, AllocError>
     requires rows { b.now.nrows ≡ length permutation.now }
-    ensures { IfOk result (HasPermutedRows permutation.now b.now) }
+    ensures rows { IfOk result (λ d. d.nrows ≡ b.now.nrows) }
+    ensures cols { IfOk result (λ d. d.ncols ≡ b.now.ncols) }
+    ensures plain { IfOk result (λ d. plain_of_dense T.ring T.value d
+        ≡ plain_rows_permuted T.ring permutation.now (plain_of_dense T.ring T.value b.now)) }
 {
+    recall(b.as_slice());
+    recall(permutation.order());
+    dense_rows_law::<T>();
     match permute_rows(alloc, b, permutation) {
-        Ok(permuted) => Ok(permuted),
+        Ok(moved) => Ok(moved),
         Err(_) => Err(AllocError),
     }
 }
