@@ -117,10 +117,7 @@ fn solved<T: Scalar>(
 }
 
 // The solution in the order of `minimum_degree`.
-fn solution_by_degree<T: Scalar>(
-    turn: &mut Turn,
-    given: Operands<'_>,
-) -> Result<String, Failure> {
+fn solution_by_degree<T: Scalar>(turn: &mut Turn, given: Operands<'_>) -> Result<String, Failure> {
     let alloc = turn.alloc();
     let matrix = square::<T>(alloc, given.a)?;
     turn.begin();

@@ -40,3 +40,4 @@ mod EntryValues
 mod ColumnSteps
 mod SymmetricMatrices
 mod OrderedSystems
+mod PermutedFactors

@@ -33,7 +33,6 @@ pub record IsOrdered {T : Type 0} (s : OrderedFactors T) : Type 0 where
   pub back : IsOrder s.inverse
   pub inverse : IsInverse s.order s.inverse
   pub count : length s.order ≡ s.factors.l.pattern.minor_dim
-  pub square : s.factors.l.pattern.major_dim ≡ s.factors.l.pattern.minor_dim
 
 module _ (R : CommRing) {T : Type 0} (f : T → R.Carrier) where
   -- P A Pᵀ, where A is the symmetric matrix with the entries of a on and above the diagonal

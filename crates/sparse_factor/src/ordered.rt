@@ -20,6 +20,7 @@ mod whole;
 use crate::ldl::Ldl;
 use error::OrderedFactorError;
 use sparse_algebra::error::OperationError;
+use sparse_algebra::recall;
 use sparse_algebra::scalar::Units;
 use sparse_coo_dense::dense::DMatrix;
 use sparse_csr_csc::csc::CscMatrix;
@@ -106,6 +107,7 @@ impl<T: Units> Ldl<T> {
     {
         let whole = symmetric_matrix(alloc, a)?;
         let permutation = minimum_degree(alloc, whole.pattern())?;
+        recall(permutation.order());
         factor_whole(alloc, whole, permutation)
     }
 
@@ -185,7 +187,8 @@ impl<T: Units> OrderedLdl<T> {
     {
         let mut permuted = permuted_rows(alloc, b, &self.permutation)?;
         self.factors.solve_mut(&mut permuted);
-        *b = permuted_rows(alloc, &permuted, &self.inverse)?;
+        let solution = permuted_rows(alloc, &permuted, &self.inverse)?;
+        *b = solution;
         Ok(())
     }
 
@@ -245,6 +248,7 @@ fn factor_whole<T: Units>(
         (plain_permuted T.ring permutation (plain_of_cols T.ring T.value a)) l d → ⊥) }
     ensures kinds { IfErr result (λ e. (e ≡ Singular) ⊎ (e ≡ OutOfMemory)) }
 {
+    recall(permutation.order());
     let inverse = permutation.inverse(alloc)?;
     let permuted = permuted_matrix(alloc, a, &permutation)?;
     let factors = Ldl::factor(alloc, &permuted)?;

@@ -1,8 +1,10 @@
 //! Symmetric matrices with both triangles stored, and their permutations.
 
-ghost use Rattle.std.specs.Prelude.{◌≡◌, nat_lt, length, IfOk};
+ghost use Rattle.std.specs.Prelude.{◌≡◌, nat_lt, length, map, IfOk};
+ghost use Rattle.std.specs.List.{filter};
 ghost use Rattle.sparse_algebra.specs.Plain.{plain_kept};
 ghost use Rattle.sparse_coo_dense.specs.DensePlain.{plain_of_dense};
+ghost use Rattle.sparse_compressed.specs.Compressed.{lane_triplets, transposed};
 ghost use Rattle.sparse_compressed.specs.PlainOfLanes.{plain_of_cols};
 ghost use Rattle.sparse_factor.specs.Factors.{symmetric_of};
 ghost use Rattle.sparse_permutation.specs.PermutedPlain.{plain_permuted, plain_rows_permuted};
@@ -44,6 +46,8 @@ pub fn symmetric_matrix<T: Ring>(
 fn below_diagonal<T: Ring>(alloc: Global, a: &CscMatrix<T>) -> Result<CscMatrix<T>, AllocError>
     ensures rows { IfOk result (λ m. m.pattern.minor_dim ≡ a.now.pattern.minor_dim) }
     ensures columns { IfOk result (λ m. m.pattern.major_dim ≡ a.now.pattern.major_dim) }
+    ensures kept { IfOk result (λ m. map transposed (lane_triplets m)
+        ≡ filter (λ t. nat_lt t.1 t.0) (map transposed (lane_triplets a.now))) }
     ensures plain { IfOk result (λ m. plain_of_cols T.ring T.value m
         ≡ plain_kept T.ring (λ i j. nat_lt j i) (plain_of_cols T.ring T.value a.now)) }
 {
@@ -59,6 +63,8 @@ pub fn permuted_matrix<T: Ring>(
 ) -> Result<CscMatrix<T>, AllocError>
     requires square { a.pattern.minor_dim ≡ a.pattern.major_dim }
     requires length { a.pattern.minor_dim ≡ length permutation.now }
+    ensures rows { IfOk result (λ m. m.pattern.minor_dim ≡ a.pattern.minor_dim) }
+    ensures columns { IfOk result (λ m. m.pattern.major_dim ≡ a.pattern.major_dim) }
     ensures plain { IfOk result (λ m. plain_of_cols T.ring T.value m
         ≡ plain_permuted T.ring permutation.now (plain_of_cols T.ring T.value a)) }
 {
