@@ -16,7 +16,7 @@ use Rattle.sparse_factor.proofs.OrderedSystems.{permuted_back}
 use Rattle.sparse_factor.proofs.SymmetricMatrices.{permuted_itself}
 
 -- m has P A Pᵀ as its plain matrix
-module _ (R : CommRing) {T : Type 0} (f : T → R.Carrier) (z : T) {p q : List ℕ} (a m : Compressed T)
+module _ (R : CommRing) {T : Type 0} (f : T → R.Carrier) (z : T) (p q : List ℕ) (a m : Compressed T)
     (symmetric : IsSymmetric R (plain_of_cols R f a))
     (is : plain_of_cols R f m ≡ plain_permuted R p (plain_of_cols R f a)) where
   same : symmetric_of R f m ≡ plain_permuted R p (plain_of_cols R f a)
