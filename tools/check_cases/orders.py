@@ -2,7 +2,7 @@
 from itertools import permutations
 
 from .matrices import dense_of, drawn, matrix_of, shown, shown_pattern, words_after
-from .systems import fill
+from .systems import NOT_DIAGONAL, fill, ldl, ldl_solution, square
 from .words import Picture, Refused, Unreadable, index_of, misfit
 
 # The most rows of a pattern whose orders are all tried.
@@ -56,8 +56,51 @@ def least(matrix, measure):
     return min(measure(permuted(matrix, list(order))) for order in permutations(range(matrix.nrows)))
 
 
+def symmetric(matrix):
+    """Returns the symmetric matrix of an upper triangle."""
+    upper = {(row, col): value for (row, col), value in square(matrix).entries.items() if row <= col}
+    return matrix.with_entries({**upper, **{(col, row): value for (row, col), value in upper.items()}})
+
+
+def ldl_in_order(scalars, matrix, order):
+    """Returns L and the diagonal of D, where L D L' is the symmetric matrix of an upper triangle in this order."""
+    whole = symmetric(matrix)
+    try:
+        return ldl(scalars, permuted(whole, order))
+    except Refused as refused:
+        if refused.kind == "Singular":
+            raise Refused("Singular", "A pivot has no inverse in this order.") from refused
+        raise
+
+
+def solution_in_order(scalars, matrix, order, b):
+    """Returns the X of A X = B by the factors of the matrix in an order."""
+    l, d = ldl_in_order(scalars, matrix, order)
+    if len(order) != b.nrows:
+        raise misfit()
+    x = ldl_solution(scalars, l, d, permuted_rows(b, order))
+    return permuted_rows(x, [order.index(row) for row in range(len(order))])
+
+
+def solution_in_any_order(scalars, matrix, b):
+    """Returns the X of A X = B by the factors in the orders that have some, which must agree."""
+    found = []
+    for order in permutations(range(square(matrix).nrows)):
+        try:
+            found.append(solution_in_order(scalars, matrix, list(order), b))
+        except Refused as refused:
+            if refused.kind != "Singular":
+                raise
+    if not found:
+        raise NOT_DIAGONAL
+    if any(x != found[0] for x in found):
+        raise Unreadable("the solutions in two orders differ")
+    return found[0]
+
+
 def answer(words, over):
     """Returns the answer of a call on an order, or `None` if the call is not one."""
+    by_columns = over._replace(form="columns")
     match words:
         case ["order", "identity", int(size)]:
             return words_after("order", range(index_of(size)))
@@ -76,6 +119,14 @@ def answer(words, over):
             return drawn(permuted_rows(dense_of(a, over), order_of(order)))
         case ["entries", "of", "factor", "minimum-degree", Picture() as a]:
             return str(least(matrix_of(a, over), lambda it: len(fill("fill", it))))
+        case ["ldl", Picture() as a, "in", *order] | ["copy", "ldl", Picture() as a, "in", *order]:
+            l, d = ldl_in_order(over.scalars, square(matrix_of(a, by_columns)), order_of(order))
+            return " ".join([drawn(l), *map(str, d)])
+        case ["ldl", Picture() as a, "\\", Picture() as b, "in", *order]:
+            a, b = square(matrix_of(a, by_columns)), dense_of(b, over)
+            return drawn(solution_in_order(over.scalars, a, order_of(order), b))
+        case ["ordered", "ldl", Picture() as a, "\\", Picture() as b]:
+            return drawn(solution_in_any_order(over.scalars, matrix_of(a, by_columns), dense_of(b, over)))
         case ["bandwidth", "cuthill-mckee", Picture() as a]:
             return str(least(matrix_of(a, over), lambda it: max((abs(i - j) for i, j in it.entries), default=0)))
     return None

@@ -3,6 +3,7 @@
 use nalgebra_sparse::expr::ExprError;
 use nalgebra_sparse::io::{MatrixMarketError, MatrixMarketErrorKind};
 use nalgebra_sparse::ops::serial::OperationError;
+use nalgebra_sparse::ordered::error::OrderedFactorError;
 use nalgebra_sparse::ordering::{PermutationError, PermuteError};
 use nalgebra_sparse::pattern::SparsityPatternFormatError;
 use nalgebra_sparse::{SparseFormatError, SparseFormatErrorKind};
@@ -27,6 +28,8 @@ pub enum Failure {
     Order(PermutationError),
     /// The error of an operation with a permutation.
     Permuting(PermuteError),
+    /// The error of a factorisation in a given order.
+    Factoring(OrderedFactorError),
     /// The error of a Matrix Market text.
     Reading(MatrixMarketError),
     /// The error of an expression.
@@ -56,6 +59,7 @@ impl Failure {
                 format!(in alloc; "{kind}: {error}")
             }
             Failure::Permuting(error) => format!(in alloc; "{error:?}: {error}"),
+            Failure::Factoring(error) => format!(in alloc; "{error:?}: {error}"),
             Failure::Reading(error) => {
                 let (kind, message) = (error.kind(), error.message());
                 format!(in alloc; "{kind:?}: {message}")
@@ -122,6 +126,15 @@ impl From<PermuteError> for Failure {
         match error {
             PermuteError::OutOfMemory => Failure::Memory,
             error => Failure::Permuting(error),
+        }
+    }
+}
+
+impl From<OrderedFactorError> for Failure {
+    fn from(error: OrderedFactorError) -> Failure {
+        match error {
+            OrderedFactorError::OutOfMemory => Failure::Memory,
+            error => Failure::Factoring(error),
         }
     }
 }

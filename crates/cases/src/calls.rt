@@ -11,6 +11,7 @@ use case_objects::constructors::{Constructors, constructed, is_constructor, of_p
 use case_objects::dense::{DENSE, dense_call};
 use case_objects::pattern_calls::{PATTERN_CALLS, pattern_call};
 use case_operations::operations::{Operations, operation};
+use case_orders::ordered::{ORDERED_CALLS, ordered_call};
 use case_orders::orders::{ORDER_CALLS, order_call};
 use case_orders::permuted::{PERMUTED_CALLS, Permuted, permuted_call};
 use case_orders::reduced::{REDUCED_CALLS, reduced_call};
@@ -106,13 +107,16 @@ fn of_object<T: Scalar, F: Form<T>>(
     }
 }
 
-// The answer of a call of a permutation or of a permuted matrix, or of an operation.
+// The answer of a call of a permutation, of a permuted matrix or of its factors, or of an operation.
 fn of_order<T: Scalar, F: Form<T>>(turn: &mut Turn, words: &[Word<'_>]) -> Result<String, Failure> {
     if let Some((call, given)) = call_of(ORDER_CALLS, words) {
         return order_call(turn, call, given);
     }
     if let Some((call, given)) = call_of(PERMUTED_CALLS, words) {
         return permuted_call::<T, F>(turn, call, given);
+    }
+    if let Some((call, given)) = call_of(ORDERED_CALLS, words) {
+        return ordered_call::<T>(turn, call, given);
     }
     match call_of(REDUCED_CALLS, words) {
         Some((call, given)) => reduced_call(turn, call, given),

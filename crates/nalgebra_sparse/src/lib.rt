@@ -17,7 +17,7 @@ pub use sparse_csr_csc::csc::CscMatrix;
 pub use sparse_csr_csc::csr::CsrMatrix;
 pub use sparse_csr_csc::{csc, csr};
 pub use sparse_expr as expr;
-pub use sparse_factor::{factorization, ldl};
+pub use sparse_factor::{factorization, ldl, ordered};
 pub use sparse_pattern::entry::{SparseEntry, SparseEntryMut};
 pub use sparse_pattern::error::{SparseFormatError, SparseFormatErrorKind};
 pub use sparse_pattern::pattern;

@@ -44,3 +44,6 @@ mod NestedTails
 mod FourEntries
 mod MovedCursors
 mod NestedFlags
+mod SymmetricMatrices
+mod OrderedSystems
+mod PermutedFactors

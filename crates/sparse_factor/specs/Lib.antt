@@ -9,3 +9,4 @@ pub mod Factorisations
 pub mod Factors
 pub mod InnerFactors
 pub mod InnerNested
+pub mod OrderedFactors

@@ -1,7 +1,8 @@
 //! The pattern of the Cholesky factor of a sparse matrix, and the exact factorisation L D Lᵀ of a symmetric matrix over
-//! a commutative ring.
+//! a commutative ring, also in another order of its rows and columns.
 #![tactic(auto)]
 
 pub mod factorization;
 pub mod laws;
 pub mod ldl;
+pub mod ordered;
