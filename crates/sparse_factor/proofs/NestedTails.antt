@@ -31,8 +31,12 @@ module _ {p : Raw} (valid : IsValid p) {k j c d : ℕ} (nested : IsNested p k)
 
   size : end_of p k - s ≤ end_of p l - t + 1
   size = let fits = nested.rest.fits in
-      omega (arith, fits, length-lane p k (valid.lanes k here.lane),
-      length-lane p l (valid.lanes l next.lane))
+      omega (
+        arith,
+        fits,
+        length-lane p k (valid.lanes k here.lane),
+        length-lane p l (valid.lanes l next.lane),
+      )
 
   -- the rows behind the first of column k are the first of the next column
   same_rows : (i : ℕ) → s + (i + 1) < end_of p k

@@ -169,7 +169,12 @@ fn add_column<T: Ring>(
         (column_from T.ring T.value pattern.now values.now k from) column.old column.new }
 {
     let end = pattern.major_offsets()[k + 1];
-    usaxpy(scale, &values[from..end], &pattern.minor_indices()[from..end], column);
+    usaxpy(
+        scale,
+        &values[from..end],
+        &pattern.minor_indices()[from..end],
+        column,
+    );
 }
 
 // Adds multiples of `shared` entries of four columns, each from an offset of its own on, in the rows of the first.

@@ -6,8 +6,11 @@ use Rattle.sparse_factor.proofs.ldl.updates.subtract_four.Goals as goal
 
 pub advance_four-at-requires-clause-fits : goal.advance_four-at-requires-clause-fits
 advance_four-at-requires-clause-fits g c =
-    omega (arith, offset_within c.minor_indices-rows.ensures.valid c.requires.cursor,
-    ap length c.minor_indices-rows.ensures.indices)
+    omega (
+      arith,
+      offset_within c.minor_indices-rows.ensures.valid c.requires.cursor,
+      ap length c.minor_indices-rows.ensures.indices,
+    )
 
 pub scales_of-scales-requires-clause-first : goal.scales_of-scales-requires-clause-first
 scales_of-scales-requires-clause-first g c =
