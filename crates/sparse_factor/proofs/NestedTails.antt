@@ -1,6 +1,6 @@
 -- The rows of a nested column from row j on are the first of those of the next column from row j on.
-use Rattle.std.proofs.Common.{◌≡◌, ℕ, zero, ◌+◌, ◌-◌, ◌<◌, ◌≤◌, inl, inr, length, get_or}
-use Rattle.std.proofs.Common.{slice_index, ap, sym, subst, ◌∙◌, refl, arith}
+use Rattle.std.proofs.Common.{◌≡◌, ℕ, ◌+◌, ◌-◌, ◌<◌, ◌≤◌, inl, inr, length}
+use Rattle.std.proofs.Common.{slice_index, ap, sym, ◌∙◌, arith}
 use Rattle.sparse_algebra.proofs.Cases.{three, lt_or_ge}
 use Rattle.sparse_pattern.specs.Raw.{Raw, start_of, end_of, lane_of, IsInLane, IsValid}
 use Rattle.sparse_pattern.proofs.PatternLanes.{length-lane, get_or-lane, rises_at}
@@ -31,8 +31,12 @@ module _ {p : Raw} (valid : IsValid p) {k j c d : ℕ} (nested : IsNested p k)
 
   size : end_of p k - s ≤ end_of p l - t + 1
   size = let fits = nested.rest.fits in
-      omega (arith, fits, length-lane p k (valid.lanes k here.lane),
-      length-lane p l (valid.lanes l next.lane))
+      omega (
+        arith,
+        fits,
+        length-lane p k (valid.lanes k here.lane),
+        length-lane p l (valid.lanes l next.lane),
+      )
 
   -- the rows behind the first of column k are the first of the next column
   same_rows : (i : ℕ) → s + (i + 1) < end_of p k

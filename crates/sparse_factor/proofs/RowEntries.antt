@@ -113,8 +113,13 @@ module _ {R : CommRing} {T : Type 0} {f : T → R.Carrier} {z : T} {m : Compress
     entry_row = entry_found.1
 
     pub row_within : j < length b
-    row_within = omega (arith, (s.sound.valid.lanes k lane).bounded c cursor.from entry_found.0,
-        entry_found.1, s.square, s.rows)
+    row_within = omega (
+      arith,
+      (s.sound.valid.lanes k lane).bounded c cursor.from entry_found.0,
+      entry_found.1,
+      s.square,
+      s.rows,
+    )
 
     entry_value : (plain_of_cols R f m).value j k ≡ elements R f z m.values c
     entry_value = value_at_entry R f s.sound z (record {

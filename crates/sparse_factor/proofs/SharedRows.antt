@@ -1,13 +1,13 @@
 -- Four columns of which the rows of the first are read once for all: the part in these rows, and the
 -- rest of each of the other three.
-use Rattle.std.proofs.Common.{◌≡◌, ℕ, ◌+◌, ◌-◌, ◌<◌, ◌≤◌, List, ◌++◌, length, get_or, take, drop}
-use Rattle.std.proofs.Common.{slice_index, slice_range, All, ap, sym, subst, ◌∙◌, refl, arith}
+use Rattle.std.proofs.Common.{◌≡◌, ℕ, ◌+◌, ◌-◌, ◌<◌, ◌≤◌, List, ◌++◌, length, take, drop}
+use Rattle.std.proofs.Common.{slice_index, slice_range, All, ap, sym, ◌∙◌, arith}
 use Rattle.std.proofs.lemmas.List.{get_or_default, same_lists, take-append-drop, take-take}
 use Rattle.std.proofs.lemmas.List.Edits.{get_or-between, length-between}
 use Rattle.sparse_algebra.specs.Algebra.{CommRing}
 use Rattle.sparse_algebra.specs.Sums.{where_true}
 use Rattle.std.specs.Prelude.{nat_eq}
-use Rattle.sparse_pattern.specs.Raw.{Raw, start_of, end_of, IsInLane, IsValid}
+use Rattle.sparse_pattern.specs.Raw.{Raw, end_of, IsInLane, IsValid}
 use Rattle.sparse_sums.proofs.Adding.{sum_zip-append}
 use Rattle.sparse_dense_ops.specs.SparseVectors.{AddsMultiple, elements, sparse_elements}
 use Rattle.sparse_dense_ops.proofs.SparseVectors.{drop_range}
@@ -68,8 +68,13 @@ pub rows_within : {p : Raw} {k c : ℕ} → IsValid p → IsInLane p k c → (n 
 rows_within {p} {k} {c} valid here n end q d lt =
     let lane = valid.lanes k here.lane in
     let from = here.from in
-    let room : q < n = omega (arith, lt, end, length-between p.indices c (c + n)
-    (omega (arith, end, lane.inside))) in
+    let room : q < n = omega (
+      arith,
+      lt,
+      end,
+      length-between p.indices c (c + n)
+          (omega (arith, end, lane.inside)),
+    ) in
     rw (
       get_or-between p.indices c (c + n) q d (omega arith),
       get_or_default p.indices (c + q) d 0 (omega (arith, room, end, lane.inside)),
@@ -175,23 +180,23 @@ module _ (R : CommRing) {T : Type 0} (f : T → R.Carrier) (z : T) {p : Raw} (va
       → IsUpdatedByFour R f z p values k cursors x y
   four_updated x x1 x2 x3 y {a} {b} {c} {d} four is_a is_b is_c is_d long1 long2 long3 rest1 rest2
       rest3 = record {
-    each = λ i lt.
-        let xi = elements R f z x i in
-        let left : ℕ → R.Carrier = λ l. column_from R f p values l (at l + n) i in
-        let join : (e : R.Carrier) (l : ℕ) (lane : l < p.major_dim)
-        → AreFirstRows p k (at k) l (at l) → R.add (R.mul e (part l i)) (R.mul e (left l))
-        ≡ R.mul e (column_from R f p values l (at l) i) =
-        λ e l lane first. sym (R.laws.distrib e (part l i) (left l))
-        ∙ ap (R.mul e) (sym (parts l lane first i)) in
-        rest3 i (omega (arith, lt, long3))
-        ∙ ap (λ t. R.add t (R.mul d (left (k + 3)))) (rest2 i (omega (arith, lt, long2))
-        ∙ ap (λ t. R.add t (R.mul c (left (k + 2)))) (rest1 i (omega (arith, lt, long1))
-        ∙ ap (λ t. R.add t (R.mul b (left (k + 1)))) (four i lt)))
-        ∙ regrouped R xi (R.mul a (part k i)) (R.mul b (part (k + 1) i))
-        (R.mul c (part (k + 2) i)) (R.mul d (part (k + 3) i)) (R.mul b (left (k + 1)))
-        (R.mul c (left (k + 2))) (R.mul d (left (k + 3)))
-        ∙ sums-same R xi (ap (R.mul a) (whole i) ∙ ap (λ e. R.mul e (column k i)) is_a)
-        (join b (k + 1) (omega (arith, lanes)) second ∙ ap (λ e. R.mul e (column (k + 1) i)) is_b)
-        (join c (k + 2) (omega (arith, lanes)) third ∙ ap (λ e. R.mul e (column (k + 2) i)) is_c)
-        (join d (k + 3) lanes fourth ∙ ap (λ e. R.mul e (column (k + 3) i)) is_d);
-  }
+        each = λ i lt.
+            let xi = elements R f z x i in
+            let left : ℕ → R.Carrier = λ l. column_from R f p values l (at l + n) i in
+            let join : (e : R.Carrier) (l : ℕ) (lane : l < p.major_dim)
+            → AreFirstRows p k (at k) l (at l) → R.add (R.mul e (part l i)) (R.mul e (left l))
+            ≡ R.mul e (column_from R f p values l (at l) i) =
+            λ e l lane first. sym (R.laws.distrib e (part l i) (left l))
+            ∙ ap (R.mul e) (sym (parts l lane first i)) in
+            rest3 i (omega (arith, lt, long3))
+            ∙ ap (λ t. R.add t (R.mul d (left (k + 3)))) (rest2 i (omega (arith, lt, long2))
+            ∙ ap (λ t. R.add t (R.mul c (left (k + 2)))) (rest1 i (omega (arith, lt, long1))
+            ∙ ap (λ t. R.add t (R.mul b (left (k + 1)))) (four i lt)))
+            ∙ regrouped R xi (R.mul a (part k i)) (R.mul b (part (k + 1) i))
+            (R.mul c (part (k + 2) i)) (R.mul d (part (k + 3) i)) (R.mul b (left (k + 1)))
+            (R.mul c (left (k + 2))) (R.mul d (left (k + 3)))
+            ∙ sums-same R xi (ap (R.mul a) (whole i) ∙ ap (λ e. R.mul e (column k i)) is_a)
+            (join b (k + 1) (omega (arith, lanes)) second ∙ ap (λ e. R.mul e (column (k + 1) i)) is_b)
+            (join c (k + 2) (omega (arith, lanes)) third ∙ ap (λ e. R.mul e (column (k + 2) i)) is_c)
+            (join d (k + 3) lanes fourth ∙ ap (λ e. R.mul e (column (k + 3) i)) is_d);
+      }

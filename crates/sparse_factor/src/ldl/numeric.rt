@@ -120,6 +120,13 @@ fn factor_lower<T: Units>(
         rows,
         nested: &nested,
     };
-    factor_columns(lower, &structure, &mut l, &mut inverses, &mut cursors, &mut d)?;
+    factor_columns(
+        lower,
+        &structure,
+        &mut l,
+        &mut inverses,
+        &mut cursors,
+        &mut d,
+    )?;
     Ok((l, d, inverses))
 }
