@@ -1,8 +1,8 @@
 -- Four entries of row j, in nested columns one after the other, that are read together.
-use Rattle.std.proofs.Common.{◌≡◌, ◌≢◌, ℕ, ◌+◌, ◌<◌, ◌≤◌, List, Bool, length, get_or}
+use Rattle.std.proofs.Common.{◌≡◌, ℕ, ◌+◌, ◌<◌, ◌≤◌, List, Bool, length}
 use Rattle.std.proofs.Common.{slice_index, ap, sym, subst, ◌∙◌, refl, arith}
 use Rattle.sparse_algebra.specs.Algebra.{CommRing}
-use Rattle.sparse_pattern.specs.Raw.{Raw, end_of, IsEntry, IsInLane}
+use Rattle.sparse_pattern.specs.Raw.{IsEntry, IsInLane}
 use Rattle.sparse_compressed.specs.Compressed.{Compressed}
 use Rattle.sparse_dense_ops.specs.SparseVectors.{elements}
 use Rattle.sparse_factor.specs.InnerFactors.{IsCursor}

@@ -1,5 +1,5 @@
 -- Cursors of which one or four are moved to the next entry.
-use Rattle.std.proofs.Common.{◌≡◌, ◌≢◌, ℕ, ◌+◌, ◌<◌, List, length, slice_index, sym, ◌∙◌, arith}
+use Rattle.std.proofs.Common.{◌≡◌, ℕ, ◌+◌, ◌<◌, List, length, slice_index, ◌∙◌, arith}
 use Rattle.std.proofs.Common.{get_or-set_other, length-set}
 use Rattle.sparse_factor.specs.InnerNested.{moved}
 

@@ -1,6 +1,6 @@
 -- The rows of a nested column from row j on are the first of those of the next column from row j on.
-use Rattle.std.proofs.Common.{◌≡◌, ℕ, zero, ◌+◌, ◌-◌, ◌<◌, ◌≤◌, inl, inr, length, get_or}
-use Rattle.std.proofs.Common.{slice_index, ap, sym, subst, ◌∙◌, refl, arith}
+use Rattle.std.proofs.Common.{◌≡◌, ℕ, ◌+◌, ◌-◌, ◌<◌, ◌≤◌, inl, inr, length}
+use Rattle.std.proofs.Common.{slice_index, ap, sym, ◌∙◌, arith}
 use Rattle.sparse_algebra.proofs.Cases.{three, lt_or_ge}
 use Rattle.sparse_pattern.specs.Raw.{Raw, start_of, end_of, lane_of, IsInLane, IsValid}
 use Rattle.sparse_pattern.proofs.PatternLanes.{length-lane, get_or-lane, rises_at}

@@ -1,13 +1,13 @@
 -- Four columns of which the rows of the first are read once for all: the part in these rows, and the
 -- rest of each of the other three.
-use Rattle.std.proofs.Common.{◌≡◌, ℕ, ◌+◌, ◌-◌, ◌<◌, ◌≤◌, List, ◌++◌, length, get_or, take, drop}
-use Rattle.std.proofs.Common.{slice_index, slice_range, All, ap, sym, subst, ◌∙◌, refl, arith}
+use Rattle.std.proofs.Common.{◌≡◌, ℕ, ◌+◌, ◌-◌, ◌<◌, ◌≤◌, List, ◌++◌, length, take, drop}
+use Rattle.std.proofs.Common.{slice_index, slice_range, All, ap, sym, ◌∙◌, arith}
 use Rattle.std.proofs.lemmas.List.{get_or_default, same_lists, take-append-drop, take-take}
 use Rattle.std.proofs.lemmas.List.Edits.{get_or-between, length-between}
 use Rattle.sparse_algebra.specs.Algebra.{CommRing}
 use Rattle.sparse_algebra.specs.Sums.{where_true}
 use Rattle.std.specs.Prelude.{nat_eq}
-use Rattle.sparse_pattern.specs.Raw.{Raw, start_of, end_of, IsInLane, IsValid}
+use Rattle.sparse_pattern.specs.Raw.{Raw, end_of, IsInLane, IsValid}
 use Rattle.sparse_sums.proofs.Adding.{sum_zip-append}
 use Rattle.sparse_dense_ops.specs.SparseVectors.{AddsMultiple, elements, sparse_elements}
 use Rattle.sparse_dense_ops.proofs.SparseVectors.{drop_range}

@@ -34,8 +34,9 @@ pub struct Structure<'a> {
 // triangle is `lower`.
 //
 // Left-looking (Davis 2006, chapter 4): column j of L is column j of the matrix, less the updates by the columns before
-// it that have row j, divided by the pivot. `cursors` has for each column of L the offset of its first row from j on. `column` is a scratch column: before step j it has the pivots in the rows
-// before j, and zeros from row j on. On return it has all pivots.
+// it that have row j, divided by the pivot. `cursors` has for each column of L the offset of its first row from j on.
+// `column` is a scratch column: before step j it has the pivots in the rows before j, and zeros from row j on. On return
+// it has all pivots.
 pub fn factor_columns<T: Units>(
     lower: &CscMatrix<T>,
     structure: &Structure<'_>,

@@ -27,7 +27,7 @@ pub fn subtract_one<T: Ring>(
     requires count { pattern.now.major_dim ≤ length cursors.old }
     requires cursor { IsInLane pattern.now k (slice_index cursors.old k) }
     ensures moved { cursors.new ≡ moved cursors.old k }
-    ensures less { k < j → AddsMultiple T.ring T.value T.zero_value
+    ensures updated { k < j → AddsMultiple T.ring T.value T.zero_value
         (scale_at T.ring T.value T.zero_value values.now column.old k (slice_index cursors.old k))
         (column_from T.ring T.value pattern.now values.now k (slice_index cursors.old k))
         column.old column.new }
@@ -64,7 +64,7 @@ pub fn subtract_four<T: Ring>(
     requires fourth { AreFirstRows pattern.now k (slice_index cursors.old k) (k + 3)
         (slice_index cursors.old (k + 3)) }
     ensures moved { cursors.new ≡ moved_four cursors.old k }
-    ensures less { IsUpdatedByFour T.ring T.value T.zero_value pattern.now values.now k cursors.old
+    ensures updated { IsUpdatedByFour T.ring T.value T.zero_value pattern.now values.now k cursors.old
         column.old column.new }
 {
     let (offsets, rows) = (pattern.major_offsets(), pattern.minor_indices());

@@ -1,4 +1,4 @@
-use Rattle.std.proofs.Common.{◌≡◌, ◌<◌, length, slice_index, ap, sym, subst, ◌∙◌, refl, arith}
+use Rattle.std.proofs.Common.{◌∙◌, refl, arith}
 use Rattle.std.proofs.lemmas.List.{get_or_default}
 use Rattle.sparse_compressed.specs.Compressed.{compressed_of}
 use Rattle.sparse_factor.proofs.FourEntries.{four_fourth, four_read, four_second, four_third}
@@ -47,7 +47,7 @@ loop-q-preserved-then-takes_four g c =
       rows = c.subtract_four.auto.column ∙ so_far.rows;
       read = rw c.subtract_four.ensures.moved (four_read c.loop-q.column so_far.read
           c.requires.nested (c.takes_four.ensures c.if-takes_four.true) so_far.rows
-          c.subtract_four.ensures.less);
+          c.subtract_four.ensures.updated);
     }
 
 pub loop-q-preserved : goal.loop-q-preserved
@@ -57,7 +57,7 @@ loop-q-preserved g c =
       count = c.subtract_one.auto.cursors ∙ so_far.count;
       rows = c.subtract_one.auto.column ∙ so_far.rows;
       read = rw c.subtract_one.ensures.moved (one_read c.loop-q.column c.subtract_one.new.column
-          so_far.read c.loop-q-test.true so_far.rows c.subtract_one.ensures.less
+          so_far.read c.loop-q-test.true so_far.rows c.subtract_one.ensures.updated
           c.subtract_one.ensures.unchanged);
     }
 

@@ -1,4 +1,4 @@
-use Rattle.std.proofs.Common.{◌≡◌, ℕ, ◌-◌, length}
+use Rattle.std.proofs.Common.{◌≡◌, ◌-◌, length}
 use Rattle.sparse_compressed.specs.Compressed.{compressed_of}
 use Rattle.sparse_dense_ops.specs.SparseVectors.{elements}
 use Rattle.sparse_factor.proofs.RowEntries.{IsRowRead}

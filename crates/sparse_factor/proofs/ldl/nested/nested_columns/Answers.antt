@@ -1,4 +1,4 @@
-use Rattle.std.proofs.Common.{ap, ◌∙◌, length, length-append, arith}
+use Rattle.std.proofs.Common.{length-append, arith}
 use Rattle.sparse_factor.proofs.NestedFlags.{flags_more}
 use Rattle.sparse_factor.proofs.ldl.nested.nested_columns.Goals as goal
 

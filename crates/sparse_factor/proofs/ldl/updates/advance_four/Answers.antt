@@ -1,4 +1,4 @@
-use Rattle.std.proofs.Common.{◌≡◌, ap, ◌∙◌, arith, slice_index, ◌+◌}
+use Rattle.std.proofs.Common.{ap, ◌∙◌, slice_index, ◌+◌}
 use Rattle.sparse_factor.specs.InnerNested.{moved}
 use Rattle.sparse_factor.proofs.MovedCursors.{second_behind, third_behind, fourth_behind}
 use Rattle.sparse_factor.proofs.ldl.updates.advance_four.Goals as goal

@@ -1,7 +1,6 @@
-use Rattle.std.proofs.Common.{◌≡◌, ◌+◌, ◌-◌, ◌<◌, ◌≤◌, ◌∙◌, arith, ap, length, slice_index}
+use Rattle.std.proofs.Common.{◌-◌, ◌∙◌, arith, ap, length, slice_index}
 use Rattle.sparse_pattern.specs.Raw.{end_of}
 use Rattle.sparse_factor.proofs.SharedRows.{first_within, four_updated, offset_within, rows_within}
-use Rattle.sparse_factor.proofs.ldl.updates.subtract_four.Given.{Over}
 use Rattle.sparse_factor.proofs.ldl.updates.subtract_four.Goals as goal
 
 pub advance_four-at-requires-clause-fits : goal.advance_four-at-requires-clause-fits
@@ -53,8 +52,8 @@ add_shared-requires-clause-inside g c =
     ) (rows_within c.minor_indices-rows.ensures.valid need.cursor n
     (omega (arith, need.cursor.to)))
 
-pub returns-clause-less : goal.returns-clause-less
-returns-clause-less g c =
+pub returns-clause-updated : goal.returns-clause-updated
+returns-clause-updated g c =
     let need = c.requires in
     let n = end_of c.args.pattern.now c.args.k - slice_index c.args.cursors.now c.args.k in
     let at = c.advance_four-at.ensures in
