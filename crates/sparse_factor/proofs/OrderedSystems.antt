@@ -1,6 +1,6 @@
 -- The factors of P A Pᵀ solve the system of A.
-use Rattle.std.proofs.Common.{◌≡◌, ℕ, ◌<◌, inl, inr, true, false, ◌&&◌, List, length, get_or}
-use Rattle.std.proofs.Common.{ap, sym, ◌∙◌, refl, arith, subst}
+use Rattle.std.proofs.Common.{◌≡◌, ℕ, ◌<◌, inl, inr, true, List, length, get_or}
+use Rattle.std.proofs.Common.{ap, sym, ◌∙◌, refl, arith}
 use Rattle.std.specs.Prelude.{nat_lt}
 use Rattle.sparse_algebra.proofs.Cases.{true_or_false, and_parts}
 use Rattle.sparse_algebra.proofs.SumLemmas.{where_yes, where_no}

@@ -1,5 +1,5 @@
 -- The factors of P A Pᵀ, where A is symmetric, are those of the upper triangle of P A Pᵀ.
-use Rattle.std.proofs.Common.{◌≡◌, ℕ, ◌<◌, List, length, ap, sym, ◌∙◌, arith, subst}
+use Rattle.std.proofs.Common.{◌≡◌, ℕ, List, length, ap, sym, ◌∙◌, arith, subst}
 use Rattle.sparse_algebra.specs.Algebra.{CommRing}
 use Rattle.sparse_algebra.specs.Plain.{Plain}
 use Rattle.sparse_compressed.specs.Compressed.{Compressed}
@@ -11,7 +11,7 @@ use Rattle.sparse_factor.specs.Factorisations.{IsFactorisation, IsUnitLower}
 use Rattle.sparse_factor.specs.Factors.{AreOnlyFactorsOf, Factors, HasNoFactors, HavePivots}
 use Rattle.sparse_factor.specs.Factors.{diagonal, plain_of_factors, symmetric_of}
 use Rattle.sparse_factor.specs.OrderedFactors.{AreFactorsOfPermuted, AreOnlyFactorsOfPermuted}
-use Rattle.sparse_factor.specs.OrderedFactors.{OrderedFactors, ordered_of, plain_of_ordered}
+use Rattle.sparse_factor.specs.OrderedFactors.{ordered_of, plain_of_ordered}
 use Rattle.sparse_factor.proofs.OrderedSystems.{permuted_back}
 use Rattle.sparse_factor.proofs.SymmetricMatrices.{permuted_itself}
 

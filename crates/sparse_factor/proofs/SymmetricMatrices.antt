@@ -1,6 +1,6 @@
 -- Symmetric matrices: the sum of an upper triangle and its mirror image, and their permutations.
-use Rattle.std.proofs.Common.{◌≡◌, ℕ, ◌<◌, ◌≤◌, inl, inr, Bool, true, false, ◌&&◌, min, max, List}
-use Rattle.std.proofs.Common.{length, ap, sym, ◌∙◌, refl, arith}
+use Rattle.std.proofs.Common.{◌≡◌, ℕ, ◌≤◌, inl, inr, Bool, true, false, ◌&&◌, min, max, List}
+use Rattle.std.proofs.Common.{ap, sym, ◌∙◌, refl, arith}
 use Rattle.std.specs.Prelude.{nat_le, nat_lt, ◌||◌}
 use Rattle.std.proofs.Math.Nat.{min_comm, max_comm, min-eq_left, min-eq_right, max-eq_left}
 use Rattle.std.proofs.Math.Nat.{max-eq_right}

@@ -1,4 +1,4 @@
-use Rattle.std.proofs.Common.{ap, sym, ◌∙◌}
+use Rattle.std.proofs.Common.{sym, ◌∙◌}
 use Rattle.std.proofs.lemmas.Result.{err_from_is_err_and}
 use Rattle.sparse_factor.proofs.PermutedFactors.{no_permuted_factors, only_permuted_factors}
 use Rattle.sparse_factor.proofs.PermutedFactors.{ordered_equation, permuted_factors}
