@@ -76,8 +76,8 @@ impl<T: Units> Ldl<T> {
     ///
     /// A left-looking factorisation on the pattern of the fill (Davis 2006, chapter 4): for each entry (j, k) of L one
     /// multiplication for each entry of column k from row j on. At the peak it holds the factors, the inverses of the
-    /// diagonal of D, the transposed pattern of L, the transposed upper triangle of `a`, and one number for each row.
-    /// The symbolic factorisation before it holds a copy of the pattern of `a`, beside its own memory.
+    /// diagonal of D, the transposed pattern of L, the transposed upper triangle of `a`, and one number and one flag for
+    /// each row. The symbolic factorisation before it holds a copy of the pattern of `a`, beside its own memory.
     ///
     /// # Errors
     ///
