@@ -11,6 +11,7 @@ use nalgebra_sparse::factorization::CscSymbolicCholesky;
 use nalgebra_sparse::io::load_coo_from_matrix_market_str;
 use nalgebra_sparse::laws::compressed::{equal_law, stands_law};
 use nalgebra_sparse::laws::plain::identity_product_law;
+use nalgebra_sparse::ldl::Ldl;
 use nalgebra_sparse::ops::Op;
 use nalgebra_sparse::ops::serial::{mul_csr, spsolve_csc_lower_triangular};
 use nalgebra_sparse::scalar::{Mod, Ring, W64};
@@ -59,6 +60,47 @@ fn a_system_is_solved_modulo_seven(alloc: Global) -> Result<bool, Fail> {
     let mut b = DMatrix::from_column_slice(alloc, 2, 1, &[1, 5].map(Mod::new))?;
     spsolve_csc_lower_triangular(Op::NoOp(&l), &mut b)?;
     Ok(b.as_slice() == [4, 5].map(Mod::new).as_slice())
+}
+
+// The matrix of a grid of 5 by 5 points, on and above the diagonal: 4 at each point, -1 between neighbours,
+// which is 100 modulo 101.
+fn grid(alloc: Global) -> Result<CooMatrix<Mod<101>>, AllocError> {
+    let mut list = CooMatrix::new(alloc, 25, 25);
+    for i in 0..25 {
+        push_within(&mut list, i, i, 4)?;
+        push_within(&mut list, i, i + 5, 100)?;
+        if i % 5 < 4 {
+            push_within(&mut list, i, i + 1, 100)?;
+        }
+    }
+    Ok(list)
+}
+
+// Appends a triplet if it is within the shape.
+fn push_within(
+    list: &mut CooMatrix<Mod<101>>,
+    row: usize,
+    col: usize,
+    value: u64,
+) -> Result<(), AllocError> {
+    if row < list.nrows() && col < list.ncols() {
+        list.push(row, col, Mod::new(value))?;
+    }
+    Ok(())
+}
+
+fn a_grid_is_ordered_and_solved(alloc: Global) -> Result<bool, Fail> {
+    let a = convert_coo_csc(alloc, &grid(alloc)?)?;
+    let mut b = DMatrix::repeat(alloc, 25, 1, Mod::new(1))?;
+    if a.nrows() != a.ncols() || a.nrows() != b.nrows() {
+        return Ok(false);
+    }
+    let mut x = b.clone(alloc)?;
+    let natural = Ldl::factor(alloc, &a)?;
+    natural.solve_mut(&mut b);
+    let ordered = Ldl::factor_ordered(alloc, &a)?;
+    ordered.solve_mut(alloc, &mut x)?;
+    Ok(x == b && natural.l().nnz() == 129 && ordered.factors().l().nnz() < 129)
 }
 
 // A law: the identity times a matrix is that matrix.
@@ -119,5 +161,6 @@ fn the_tutorial(rt: HostRuntime) {
     assert!(rt; holds(&rt, repeated_triplets_are_summed(alloc)));
     assert!(rt; holds(&rt, a_symmetric_file_fills_in(alloc)));
     assert!(rt; holds(&rt, a_system_is_solved_modulo_seven(alloc)));
+    assert!(rt; holds(&rt, a_grid_is_ordered_and_solved(alloc)));
     assert!(rt; holds(&rt, the_identity_changes_nothing(alloc)));
 }
