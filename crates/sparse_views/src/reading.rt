@@ -8,6 +8,7 @@ ghost use Rattle.sparse_compressed.specs.PlainOfLanes.{plain_of_rows};
 ghost use Rattle.sparse_compressed.specs.StoredEntries.{IsEntryAt, IsEntryOf, IsInBounds};
 ghost use Rattle.sparse_dense_ops.specs.SparseVectors.{elements};
 
+use sparse_algebra::recall;
 use sparse_algebra::scalar::Ring;
 use sparse_compressed::{CsLane, CsMatrix, CsView, LaneIndices};
 use sparse_dense_ops::usdot;
@@ -31,6 +32,7 @@ pub(crate) fn get_lane<'a, T>(arrays: &CsView<'a, T>, i: usize) -> Option<CsLane
     ensures lane { IfSome result (λ lane. lane ≡ lane_at arrays.now i) }
     ensures sound { IsSound arrays.now }
 {
+    recall(arrays.values());
     if i < arrays.major_dim() {
         Some(lane(arrays, i))
     } else {
@@ -58,6 +60,7 @@ pub(crate) fn get_entry<'a, T>(
     ensures entry { IsEntryOf arrays.now i j result }
     ensures sound { IsSound arrays.now }
 {
+    recall(arrays.values());
     if i < arrays.major_dim() && j < arrays.minor_dim() {
         Some(index_entry(arrays, i, j))
     } else {
