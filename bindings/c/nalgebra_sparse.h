@@ -555,6 +555,22 @@ int32_t nalgebra_sparse_factor_symmetric_mod(
     int64_t *out_diagonal, size_t out_diagonal_len,
     size_t *out_places);
 
+/* Writes to *out_column at which column the factorisation of that A stops, counted from 0, since its pivot has no
+ * inverse: the first *out_column rows and columns of A have factors L D L^T, and so have fewer of them, but more have
+ * none. If A has factors, *out_column becomes `size`.
+ *
+ * The column is found by bisection: the call factors about log2(size) blocks of A, each made of its first rows and
+ * columns.
+ *
+ * Statuses: OUT_OF_MEMORY; the first fault of the arrays, as for nalgebra_sparse_transpose.
+ */
+int32_t nalgebra_sparse_factor_symmetric_pivot(
+    size_t size,
+    const size_t *offsets, size_t offsets_len,
+    const size_t *indices, size_t indices_len,
+    const int64_t *values, size_t values_len,
+    size_t *out_column);
+
 /* Reads the bytes of a text in Matrix Market format, with integers or as an array of integers, and writes the shape of
  * its matrix and the number of its triplets: the size for nalgebra_sparse_read.
  *
@@ -613,7 +629,7 @@ int32_t nalgebra_sparse_write(
  * A handle has a matrix that the library owns, over the integers modulo 2^64, or none: then it is {NULL}, like
  * NALGEBRA_SPARSE_NO_MATRIX. The calls below take handles instead of arrays, so a chain of them checks each array once.
  * Transposes, multiples, sums and products copy no operand; a solve with a triangle and a factorisation copy the
- * matrix, and each solve copies its right-hand side. Their contracts are equations between the plain matrices behind
+ * matrix, each solve copies its right-hand side, and a product with a dense matrix copies the dense matrix. Their contracts are equations between the plain matrices behind
  * handles (crates/sparse_c/src/handles.rt, handle_operations.rt, handle_systems.rt and handle_texts.rt). No call over
  * handles computes modulo another number.
  *
@@ -704,6 +720,17 @@ int32_t nalgebra_sparse_matrix_add_scaled(
  */
 int32_t nalgebra_sparse_matrix_multiply(nalgebra_sparse_matrix *a, nalgebra_sparse_matrix *b, nalgebra_sparse_matrix *out);
 
+/* Writes the product of the matrix behind `a` and a dense matrix with `cols` columns to `out_values`, column by column.
+ * b_values has the values of the dense matrix, column by column: b_values_len is the number of columns of the matrix
+ * times `cols`, and out_values needs as many numbers as the matrix has rows, times `cols`. In addition the call
+ * allocates a copy of the dense matrix, and the product. Statuses: INVALID_STRUCTURE if the dense matrix has another
+ * number of values; TOO_SMALL.
+ */
+int32_t nalgebra_sparse_matrix_multiply_dense(
+    nalgebra_sparse_matrix *a, size_t cols,
+    const int64_t *b_values, size_t b_values_len,
+    int64_t *out_values, size_t out_values_len);
+
 /* Stores in `out` the matrix that `a` holds: both handles share it, and each must be freed. No array is copied. */
 int32_t nalgebra_sparse_matrix_clone(nalgebra_sparse_matrix *a, nalgebra_sparse_matrix *out);
 
@@ -770,6 +797,24 @@ int32_t nalgebra_sparse_matrix_factor(nalgebra_sparse_matrix *a, nalgebra_sparse
  * another number of values; `values` is then unchanged.
  */
 int32_t nalgebra_sparse_factors_solve(nalgebra_sparse_factors *f, size_t cols, int64_t *values, size_t values_len);
+
+/* Writes the number of rows of L, which is its number of columns, and its number of entries: the sizes for
+ * nalgebra_sparse_factors_read.
+ */
+int32_t nalgebra_sparse_factors_sizes(nalgebra_sparse_factors *f, size_t *out_size, size_t *out_places);
+
+/* Writes the factors behind `f` as nalgebra_sparse_factor_symmetric does: L by columns, and the diagonal of D to
+ * out_diagonal. out_offsets needs one number more than L has columns, out_indices and out_values one for each entry of
+ * L, and out_diagonal one for each row of L. *out_places becomes the number of entries of L. In addition the call
+ * allocates a copy of the factors. Statuses: TOO_SMALL.
+ */
+int32_t nalgebra_sparse_factors_read(
+    nalgebra_sparse_factors *f,
+    size_t *out_offsets, size_t out_offsets_len,
+    size_t *out_indices, size_t out_indices_len,
+    int64_t *out_values, size_t out_values_len,
+    int64_t *out_diagonal, size_t out_diagonal_len,
+    size_t *out_places);
 
 /* Stores in `out` the factors that `f` holds: both handles share them, and each must be freed. No array is copied. */
 int32_t nalgebra_sparse_factors_clone(nalgebra_sparse_factors *f, nalgebra_sparse_factors *out);

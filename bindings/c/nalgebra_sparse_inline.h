@@ -388,6 +388,11 @@ static inline int32_t nalgebra_sparse_factor_symmetric_mod_cols(
     return nalgebra_sparse_written(status, out, a.rows, a.cols, places);
 }
 
+static inline int32_t nalgebra_sparse_factor_symmetric_pivot_cols(nalgebra_sparse_cols a, size_t *out_column) {
+    if (a.rows != a.cols) return NALGEBRA_SPARSE_SHAPE_MISMATCH;
+    return nalgebra_sparse_factor_symmetric_pivot(a.cols, NALGEBRA_SPARSE_LANES(a, a.cols), out_column);
+}
+
 /* ---- handles */
 
 static inline int32_t nalgebra_sparse_matrix_from_text_bytes(const uint8_t *text, size_t text_len, nalgebra_sparse_matrix *out) {
@@ -401,6 +406,12 @@ static inline int32_t nalgebra_sparse_matrix_text_length(nalgebra_sparse_matrix 
     int32_t status = nalgebra_sparse_matrix_to_text(a, &nothing, 0, out_length);
     /* No text is empty. */
     return status == NALGEBRA_SPARSE_TOO_SMALL ? NALGEBRA_SPARSE_DONE : status;
+}
+
+static inline int32_t nalgebra_sparse_matrix_multiply_dense_values(
+    nalgebra_sparse_matrix *a, size_t cols, const int64_t *b_values, size_t b_values_len, int64_t *out_values, size_t out_values_len) {
+    return nalgebra_sparse_matrix_multiply_dense(
+        a, cols, NALGEBRA_SPARSE_VALUES(b_values, b_values_len), NALGEBRA_SPARSE_VALUES(out_values, out_values_len));
 }
 
 static inline int32_t nalgebra_sparse_matrix_solve_lower_values(

@@ -89,19 +89,20 @@ static uint64_t inverse(uint64_t odd) {
     return x;
 }
 
-/* Mirrors the entries above the diagonal, and says whether all pivots of the elimination are odd. */
-static int has_factors(plain *a) {
+/* Mirrors the entries above the diagonal, and returns the column of the first pivot of the elimination that is even, or
+ * the size if all are odd. */
+static size_t even_pivot(plain *a) {
     EACH(i, a->size) EACH(j, i) a->value[i][j] = a->value[j][i];
     plain p = *a;
     EACH(k, p.size) {
-        if (p.value[k][k] % 2 == 0) return 0;
+        if (p.value[k][k] % 2 == 0) return k;
         uint64_t pivot = inverse(p.value[k][k]);
         for (size_t i = k + 1; i < p.size; i++) {
             uint64_t multiple = p.value[i][k] * pivot;
             EACH(j, p.size) p.value[i][j] -= multiple * p.value[k][j];
         }
     }
-    return 1;
+    return p.size;
 }
 
 static void check_solves(nalgebra_sparse_matrix *a, const plain *p) {
@@ -120,19 +121,76 @@ static void check_solves(nalgebra_sparse_matrix *a, const plain *p) {
     }
 }
 
+/* The column at which the factorisation of a matrix stops is `stop`. */
+static void check_pivot(nalgebra_sparse_matrix *a, size_t stop) {
+    nalgebra_sparse_matrix turned = NALGEBRA_SPARSE_NO_MATRIX;
+    size_t offsets[MOST + 1], indices[ROOM], size, cols, places, column = 77;
+    int64_t values[ROOM];
+    CHECK(nalgebra_sparse_matrix_transpose(a, &turned) == 0);
+    CHECK(nalgebra_sparse_matrix_sizes(&turned, &size, &cols, &places) == 0);
+    CHECK(nalgebra_sparse_matrix_read(&turned, offsets, size + 1, indices, ROOM, values, ROOM, &places) == 0);
+    CHECK(nalgebra_sparse_factor_symmetric_pivot(size, offsets, size + 1, indices, places, values, places, &column) == 0);
+    CHECK(column == stop);
+    CHECK(nalgebra_sparse_factor_symmetric_pivot(size, offsets, size, indices, places, values, places, &column) == NALGEBRA_SPARSE_INVALID_STRUCTURE);
+    CHECK(column == stop);
+    nalgebra_sparse_matrix_free(&turned);
+}
+
+/* Reads factors, and compares L D L^T with the matrix. */
+static void check_read(nalgebra_sparse_factors *f, const plain *a) {
+    uint64_t l[MOST][MOST] = {{0}};
+    size_t offsets[MOST + 1], indices[ROOM], size = 77, places = 77, count = 77;
+    int64_t values[ROOM], diagonal[MOST];
+    CHECK(nalgebra_sparse_factors_sizes(f, &size, &places) == 0 && size == a->size && places <= ROOM);
+    diagonal[0] = 77;
+    if (size > 0) {
+        CHECK(nalgebra_sparse_factors_read(f, offsets, size + 1, indices, places, values, places, diagonal, size - 1, &count) == NALGEBRA_SPARSE_TOO_SMALL);
+        CHECK(count == places && diagonal[0] == 77);
+        count = 77;
+        CHECK(nalgebra_sparse_factors_read(f, offsets, size + 1, indices, places - 1, values, places, diagonal, size, &count) == NALGEBRA_SPARSE_TOO_SMALL);
+        CHECK(count == places && diagonal[0] == 77);
+    }
+    CHECK(nalgebra_sparse_factors_read(f, offsets, size + 1, indices, places, values, ROOM, diagonal, MOST, &count) == 0);
+    CHECK(count == places && offsets[0] == 0 && offsets[size] == places);
+    EACH(j, size) {
+        CHECK(indices[offsets[j]] == j && values[offsets[j]] == 1 && diagonal[j] % 2 != 0);
+        for (size_t k = offsets[j]; k < offsets[j + 1]; k++) l[indices[k]][j] = (uint64_t)values[k];
+    }
+    EACH(i, size) EACH(j, size) {
+        uint64_t sum = 0;
+        EACH(k, size) sum += l[i][k] * (uint64_t)diagonal[k] * l[j][k];
+        CHECK(sum == a->value[i][j]);
+    }
+}
+
+/* Products with dense matrices, into arrays that are long enough, and too short. */
+static void check_products(nalgebra_sparse_matrix *a, const plain *p) {
+    size_t cols = below(COLS + 1), count = p->size * cols;
+    int64_t b[MOST * COLS] = {0}, c[MOST * COLS + 1];
+    memset(c, 77, sizeof c);
+    int64_t mark = c[0];
+    EACH(k, count) b[k] = random_value();
+    if (count > 0) CHECK(nalgebra_sparse_matrix_multiply_dense(a, cols, b, count, c, count - 1) == NALGEBRA_SPARSE_TOO_SMALL);
+    CHECK(nalgebra_sparse_matrix_multiply_dense(a, cols, b, count + 1, c, count) == NALGEBRA_SPARSE_INVALID_STRUCTURE && c[0] == mark);
+    CHECK(nalgebra_sparse_matrix_multiply_dense(a, cols, b, count, c, count + 1) == 0);
+    CHECK(solves(p, cols, b, c) && c[count] == mark);
+}
+
 static void check_factors(nalgebra_sparse_matrix *a, const plain *p) {
     size_t cols = below(COLS + 1), count = p->size * cols;
     int64_t b[MOST * COLS] = {0}, x[MOST * COLS];
     nalgebra_sparse_factors f = NALGEBRA_SPARSE_NO_FACTORS, g = NALGEBRA_SPARSE_NO_FACTORS;
     plain symmetric = *p;
-    int exist = has_factors(&symmetric);
+    size_t stop = even_pivot(&symmetric);
     int32_t status = nalgebra_sparse_matrix_factor(a, &f);
-    if (!exist) {
+    check_pivot(a, stop);
+    if (stop < p->size) {
         CHECK(status == NALGEBRA_SPARSE_SINGULAR && f.factors == NULL);
         return;
     }
     CHECK(status == 0 && nalgebra_sparse_factors_clone(&f, &g) == 0);
     nalgebra_sparse_factors_free(&f);
+    check_read(&g, &symmetric);
     EACH(k, count) b[k] = random_value();
     EACH(again, 2) {
         memcpy(x, b, sizeof b);
@@ -194,7 +252,7 @@ static void check_texts(void) {
 static void refuse(void) {
     nalgebra_sparse_matrix none = NALGEBRA_SPARSE_NO_MATRIX, wide = NALGEBRA_SPARSE_NO_MATRIX, one = NALGEBRA_SPARSE_NO_MATRIX;
     nalgebra_sparse_factors f = NALGEBRA_SPARSE_NO_FACTORS, g = NALGEBRA_SPARSE_NO_FACTORS;
-    size_t zero[] = {0}, length = 77;
+    size_t zero[] = {0}, length = 77, size = 77;
     int64_t five[] = {5}, x[] = {10, 77};
     uint8_t text[TEXT];
     CHECK(nalgebra_sparse_matrix_solve_lower(&none, false, 1, x, 1) == NALGEBRA_SPARSE_EMPTY_HANDLE);
@@ -202,6 +260,10 @@ static void refuse(void) {
     CHECK(nalgebra_sparse_matrix_factor(&none, &f) == NALGEBRA_SPARSE_EMPTY_HANDLE);
     CHECK(nalgebra_sparse_factors_solve(&f, 1, x, 1) == NALGEBRA_SPARSE_EMPTY_HANDLE);
     CHECK(nalgebra_sparse_factors_clone(&f, &g) == NALGEBRA_SPARSE_EMPTY_HANDLE);
+    /* An empty handle is found before arrays of the wrong length. */
+    CHECK(nalgebra_sparse_factors_sizes(&f, &size, &length) == NALGEBRA_SPARSE_EMPTY_HANDLE && size == 77 && length == 77);
+    CHECK(nalgebra_sparse_factors_read(&f, zero, 0, zero, 0, x, 0, x, 0, &length) == NALGEBRA_SPARSE_EMPTY_HANDLE && length == 77);
+    CHECK(nalgebra_sparse_matrix_multiply_dense(&none, 1, five, 1, x, 0) == NALGEBRA_SPARSE_EMPTY_HANDLE);
     CHECK(nalgebra_sparse_matrix_to_text(&none, text, TEXT, &length) == NALGEBRA_SPARSE_EMPTY_HANDLE && length == 77);
     CHECK(nalgebra_sparse_matrix_text_length(&none, &length) == NALGEBRA_SPARSE_EMPTY_HANDLE && length == 77);
     CHECK(nalgebra_sparse_matrix_from_triplets(1, 2, zero, 1, zero, 1, five, 1, &wide) == 0);
@@ -218,6 +280,8 @@ static void refuse(void) {
     CHECK(nalgebra_sparse_matrix_solve_lower_values(&one, false, 0, NULL, 0) == 0);
     CHECK(nalgebra_sparse_matrix_solve_upper_values(&one, false, 0, NULL, 9) == 0);
     CHECK(nalgebra_sparse_factors_solve_values(&f, 0, NULL, 0) == 0);
+    CHECK(nalgebra_sparse_matrix_multiply_dense_values(&one, 0, NULL, 0, NULL, 0) == 0);
+    CHECK(nalgebra_sparse_matrix_multiply_dense_values(&one, 1, five, 1, NULL, 9) == NALGEBRA_SPARSE_TOO_SMALL);
     CHECK(nalgebra_sparse_matrix_from_text_bytes(NULL, 0, &one) == NALGEBRA_SPARSE_INVALID_TEXT && one.matrix != NULL);
     nalgebra_sparse_matrix_free(&one), nalgebra_sparse_matrix_free(&wide);
     nalgebra_sparse_factors_free(&f), nalgebra_sparse_factors_free(&f);
@@ -229,12 +293,13 @@ int main(void) {
     EACH(i, CASES) {
         plain p = make(&a);
         check_solves(&a, &p);
+        check_products(&a, &p);
         check_factors(&a, &p);
         check_text(&a, &p);
     }
     nalgebra_sparse_matrix_free(&a);
     check_texts();
     refuse();
-    printf("c: %d random solves, factors and texts over handles equal plain matrices, and each error is returned\n", (int)CASES);
+    printf("c: %d random solves, factors, dense products and texts over handles equal plain matrices, and each error is returned\n", (int)CASES);
     return 0;
 }

@@ -48,10 +48,13 @@ void __wrap_free(void *block) {
  * column; a right-hand side with two columns; and a text. */
 static const size_t OFFSETS[] = {0, 2, 3, 5}, INDICES[] = {0, 2, 1, 0, 2}, ROWS[] = {2, 0, 2, 1}, COLS[] = {1, 2, 1, 0};
 static const int64_t VALUES[] = {1, 2, 3, 4, 5}, SIDES[] = {1, -2, 3, 4, 5, 6};
+/* The values of a matrix whose second pivot has no inverse. */
+static const int64_t EVEN_VALUES[] = {1, 2, 6, 4, 5};
 static const char LINES[] = "%%MatrixMarket matrix coordinate integer symmetric\n3 3 2\n1 1 5\n3 1 -7\n";
 
 #define PATTERN OFFSETS, 4, INDICES, 5
 #define MATRIX PATTERN, VALUES, 5
+#define EVEN PATTERN, EVEN_VALUES, 5
 #define LISTS ROWS, 4, COLS, 4, VALUES, 4
 #define BYTES (const uint8_t *)LINES, sizeof LINES - 1
 #define TO_PATTERN t->offsets, ROOM, t->indices, ROOM
@@ -89,6 +92,7 @@ static const char LINES[] = "%%MatrixMarket matrix coordinate integer symmetric\
     CALL(solve_symmetric_mod, 7, 3, 2, MATRIX, SIDES, 6, TO_VALUES)     \
     CALL(factor_symmetric, 3, MATRIX, TO_FACTORS)                       \
     CALL(factor_symmetric_mod, 7, 3, MATRIX, TO_FACTORS)                \
+    CALL(factor_symmetric_pivot, 3, EVEN, &t->count)                    \
     CALL(read_sizes, BYTES, &t->rows, &t->cols, &t->count)              \
     CALL(read, BYTES, TO_PATTERN, TO_VALUES, &t->count)                 \
     CALL(write_length, 3, 3, LISTS, &t->count)                          \
@@ -110,6 +114,7 @@ static nalgebra_sparse_factors f = NALGEBRA_SPARSE_NO_FACTORS, g = NALGEBRA_SPAR
     CALL(matrix_subtract, &a, &b, &out)                          \
     CALL(matrix_add_scaled, 2, &a, -3, &b, &out)                 \
     CALL(matrix_multiply, &a, &b, &out)                          \
+    CALL(matrix_multiply_dense, &a, 2, SIDES, 6, TO_VALUES)      \
     CALL(matrix_clone, &a, &out)                                 \
     CALL(matrix_from_text, BYTES, &out)                          \
     CALL(matrix_to_text, &a, t->text, TEXT, &t->count)           \
@@ -117,6 +122,8 @@ static nalgebra_sparse_factors f = NALGEBRA_SPARSE_NO_FACTORS, g = NALGEBRA_SPAR
     CALL(matrix_solve_upper, &a, true, 2, t->values, 6)          \
     CALL(matrix_factor, &a, &g)                                  \
     CALL(factors_solve, &f, 2, t->values, 6)                     \
+    CALL(factors_sizes, &f, &t->rows, &t->count)                 \
+    CALL(factors_read, &f, TO_FACTORS)                           \
     CALL(factors_clone, &f, &g)
 
 /* Reads what a call has put behind `out`, solves with what it has put behind `g`, and frees both. These requests are
@@ -169,7 +176,7 @@ int main(void) {
     for (size_t call = 0; call < COUNT; call++) {
         int32_t status = run(call, SIZE_MAX, &answer);
         size_t count = requests;
-        int asks = TABLE[call].run != matrix_sizes_call && TABLE[call].run != matrix_read_call;
+        int asks = TABLE[call].run != matrix_sizes_call && TABLE[call].run != matrix_read_call && TABLE[call].run != factors_sizes_call;
         if (status != 0 || (count != 0) != asks || memcmp(&answer, &blank, sizeof blank) == 0) {
             fprintf(stderr, "%s: status %d after %zu requests\n", TABLE[call].name, (int)status, count);
             return 1;

@@ -144,9 +144,30 @@ def check_systems():
                 x = solve(b, transposed=transposed)
                 assert x.shape == b.shape and np.array_equal(times(part.T if transposed else part, x), b)
         unit = np.tril(dense, -1) + np.eye(size, dtype=np.int64)
-        factors = Exact.from_scipy(sp.csr_array(times(unit, unit.T))).factor()
+        odd = np.array([a_value() | 1 for _ in range(size)], np.int64)
+        symmetric = times(times(unit, np.diag(odd)), unit.T)
+        factors = Exact.from_scipy(sp.csr_array(symmetric)).factor()
         assert factors.shape == (size, size)
-        assert np.array_equal(times(times(unit, unit.T), factors.solve(b)), b)
+        assert np.array_equal(times(symmetric, factors.solve(b)), b)
+        lower, diagonal = factors.L, factors.D
+        assert type(lower) is sp.csc_array and lower.has_sorted_indices and lower.indices.dtype == np.int32
+        assert np.array_equal(lower.toarray(), unit) and np.array_equal(diagonal, odd)
+
+
+def check_dense():
+    """Products with vectors and matrices of NumPy, on either side, stored by rows, by columns, or with gaps."""
+    for _ in range(200):
+        rows, inner, cols = (chance.randrange(5) for _ in range(3))
+        dense = np.array([[chance.choice([0, a_value()]) for _ in range(inner)] for _ in range(rows)], np.int64).reshape(rows, inner)
+        b = np.array([a_value() for _ in range(inner * cols)], np.int64).reshape(inner, cols)
+        matrix = Exact.from_scipy(sp.csr_array(dense))
+        for right in (b, np.asfortranarray(b), np.repeat(b, 2, axis=1)[:, ::2]):
+            found = matrix @ right
+            assert found.shape == (rows, cols) and np.array_equal(found, times(dense, b))
+            assert np.array_equal(right.T @ matrix.T, times(dense, b).T)
+        for vector in b.T:
+            assert np.array_equal(matrix @ vector, times(dense, vector))
+        refused(ns.Error, lambda: matrix @ np.zeros((inner + 1, cols), np.int64))
 
 
 def check_symmetry():
@@ -305,6 +326,7 @@ def check_threads():
 check_chains()
 check_solve()
 check_systems()
+check_dense()
 check_symmetry()
 check_scipy_operands()
 check_copies()

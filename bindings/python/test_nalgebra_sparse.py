@@ -107,17 +107,22 @@ def product(a, b):
         return a @ b
 
 
-def has_factors(symmetric, modulus=2**64):
-    """Says whether each pivot of the elimination has an inverse."""
+def stopped(symmetric, modulus=2**64):
+    """Returns the column of the first pivot of the elimination that has no inverse, or None."""
     s, n = [[int(x) for x in row] for row in symmetric], len(symmetric)
     for k in range(n):
         if math.gcd(s[k][k], modulus) != 1:
-            return False
+            return k
         inverse = pow(s[k][k], -1, modulus)
         for i in range(k + 1, n):
             for j in range(k + 1, n):
                 s[i][j] -= s[i][k] * inverse * s[k][j]
-    return True
+    return None
+
+
+def has_factors(symmetric, modulus=2**64):
+    """Says whether each pivot of the elimination has an inverse."""
+    return stopped(symmetric, modulus) is None
 
 
 def filled(base):
@@ -173,6 +178,7 @@ def check_solves():
             assert np.array_equal(product(plain, call(a, b, *flags)), b)
         except ns.Singular:
             assert not solvable
+    assert ns.singular_column(a, assume_symmetric=True) == stopped(symmetric)
     check_symmetry(a, b)
     check_symmetry(sp.csc_matrix(symmetric), b)
     places = np.zeros((n, n), bool)

@@ -46,6 +46,53 @@ def check_singular():
         assert message.startswith(said) and "modulus=" in message and "solve_rational" in message, message
 
 
+def check_lines():
+    """The error of a text that is refused names the line, whether the text is read as triplets or as an `Exact`."""
+    head, array = "%%MatrixMarket matrix coordinate integer ", "%%MatrixMarket matrix array integer "
+    for line, text in [
+        (1, ""),
+        (2, "\n\n"),
+        (1, "%%MatrixMarket matrix"),
+        (2, "\n%%MatrixMarket matrix coordinate pattern hermitian\n1 1 0\n"),
+        (3, head + "general\n% a comment\n\n"),
+        (2, head + "general\n1 1\n1 1 1\n"),
+        (4, head + "symmetric\n\n%\n2 3 0\n"),
+        (2, head + "general\n18446744073709551616 1 0\n"),
+        (3, head + "general\n%\n2 2 3\n1 1 1\n%\n2 2 2\n"),
+        (5, head + "general\n2 2 3\n1 1 1\n%\n2 2 x\n1 1 1\n"),
+        (5, head + "general\r\n2 2 3\r\n1 1 1\r\n\r\n0 2 1\r\n1 1 1\r\n"),
+        (4, head + "general\n2 2 2\n1 1 1\n1 1 9223372036854775808\n"),
+        (4, head + "general\n2 2 3\n1 1 1\n1 3 1\n5 5 5\n"),
+        (4, head + "symmetric\n2 2 2\n2 1 1\n1 2 1\n"),
+        (3, head + "skew-symmetric\n2 2 1\n1 1 1\n"),
+        (3, "%%MatrixMarket matrix coordinate real general\n2 2 1\n1 1 1.5\n"),
+        (4, array + "symmetric\n2 2\n1\nx\n1\n"),
+        (2, array + "general\n2 2\n1\n"),
+        (5, array + "general\n1 3\n1\n2\n9223372036854775808\n"),
+    ]:
+        for read in (ns.read, ns.Exact.from_text):
+            try:
+                read(text.encode())
+            except (ns.InvalidText, ns.IndexOutOfBounds) as error:
+                assert error.line == line and str(error).startswith(f"line {line}: "), (text, str(error))
+            else:
+                raise AssertionError(text)
+    long = [head + "general", "9999 9999 9999"] + [f"{k} {k} {k}" for k in range(1, 10000)]
+    for at in (2, 3, 5000, 10000):
+        broken = "\n".join([*long[:at], "1 1 one", *long[at + 1 :]])
+        try:
+            ns.read(broken.encode())
+        except ns.InvalidText as error:
+            assert error.line == at + 1
+        else:
+            raise AssertionError(at)
+    assert ns.Error().line is None
+    try:
+        ns.read(head.encode() + b"general\n1 1 1\n1 1 \xff\n")
+    except ns.InvalidText as error:
+        assert error.line == 3 and "UTF-8" in str(error)
+
+
 def check_index_types():
     """Indices have 64 bits where those of an operand have, or where sizes require it, and otherwise 32, as SciPy's
     graph functions require; and the arrays of a result have no room beside it."""
@@ -94,6 +141,7 @@ def check_files():
 
 
 check_singular()
+check_lines()
 check_index_types()
 check_files()
 print("python: each Singular names its ring, indices have the types of SciPy's, and files are those of SciPy")

@@ -41,7 +41,7 @@ from ._exact import Exact, Factorisation  # noqa: E402
 from ._matrices import add, add_scaled, assemble_csc, assemble_csr, divide, matmul, multiply_dense, subtract, transpose  # noqa: E402
 from ._operands import integer as _integer  # noqa: E402
 from ._rational import solve_rational  # noqa: E402
-from ._systems import factor_symmetric, fill, solve_lower, solve_symmetric  # noqa: E402
+from ._systems import factor_symmetric, fill, singular_column, solve_lower, solve_symmetric  # noqa: E402
 from ._texts import mmread, mmwrite, read, write  # noqa: E402
 
 __all__ = [
@@ -68,6 +68,7 @@ __all__ = [
     "multiply_dense",
     "read",
     "reuse_memory",
+    "singular_column",
     "solve_lower",
     "solve_rational",
     "solve_symmetric",

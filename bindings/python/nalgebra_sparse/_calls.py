@@ -134,6 +134,7 @@ _TABLE = {
     "solve_symmetric_mod": f"modulus size size {_LANES} values out_values",
     "factor_symmetric": f"size {_LANES} {_FACTORS}",
     "factor_symmetric_mod": f"modulus size {_LANES} {_FACTORS}",
+    "factor_symmetric_pivot": f"size {_LANES} out_size",
     "read_sizes": "text out_size out_size out_size",
     "read": "text out_indices out_indices out_values out_size",
     "write_length": f"size size {_TRIPLETS} out_size",
@@ -148,6 +149,7 @@ _TABLE = {
     "matrix_subtract": "handle handle handle",
     "matrix_add_scaled": "value handle value handle handle",
     "matrix_multiply": "handle handle handle",
+    "matrix_multiply_dense": "handle size values out_values",
     "matrix_clone": "handle handle",
     "matrix_from_text": "text handle",
     "matrix_to_text": "handle out_text out_size",
@@ -155,6 +157,8 @@ _TABLE = {
     "matrix_solve_upper": "handle flag size out_values",
     "matrix_factor": "handle factors",
     "factors_solve": "factors size out_values",
+    "factors_sizes": "factors out_size out_size",
+    "factors_read": f"factors {_FACTORS}",
     "factors_clone": "factors factors",
 }
 
@@ -170,8 +174,8 @@ _PARAMETERS = {name: [_KINDS[word] for word in words.split()] for name, words in
 _FUNCTIONS = {name: _declared(name, kinds) for name, kinds in _PARAMETERS.items()}
 
 
-def call(name: str, *arguments: Any) -> None:
-    """Calls a function of the library, and raises its error.
+def status_of(name: str, *arguments: Any) -> int:
+    """Calls a function of the library, and returns its status.
 
     If the number of arguments or the kind of one is not that of the table, it raises a `TypeError`, and calls nothing.
     """
@@ -179,7 +183,12 @@ def call(name: str, *arguments: Any) -> None:
     if len(arguments) != len(kinds):
         raise TypeError(f"{name} takes {len(kinds)} arguments, not {len(arguments)}")
     words = [word for kind, argument in zip(kinds, arguments) for word in kind.words(argument)]
-    status = _FUNCTIONS[name](*words)
+    return _FUNCTIONS[name](*words)
+
+
+def call(name: str, *arguments: Any) -> None:
+    """Calls a function of the library as `status_of` does, and raises its error."""
+    status = status_of(name, *arguments)
     if status:
         raise error_of(status, name, arguments[0] if name.endswith("_mod") else None)
 

@@ -5,7 +5,9 @@ from typing import Optional
 
 
 class Error(ValueError):
-    """A call was refused."""
+    """A call was refused. If the cause is a line of a text, `line` is its number, counted from 1."""
+
+    line: Optional[int] = None
 
 
 class InvalidStructure(Error):
@@ -38,6 +40,8 @@ class InvalidText(Error):
 
 
 UNKNOWN_MODULUS = 7
+WRONG_COUNT = 10
+NOT_UTF8 = 16
 
 _REFUSALS: dict[int, tuple[type[Exception], str]] = {
     1: (MemoryError, "an allocation failed"),
@@ -68,6 +72,8 @@ def _singular(name: str, modulus: Optional[int]) -> str:
         fault = f"the divisor has no inverse modulo {ring}"
     elif "factor" in name or "symmetric" in name:
         fault = f"the matrix has no factorisation L D L^T modulo {ring}: a pivot has no inverse"
+        if modulus is None:
+            fault += ", and singular_column tells which one"
     else:
         fault = f"an entry of the diagonal is not stored, or has no inverse modulo {ring}"
     if modulus is None:

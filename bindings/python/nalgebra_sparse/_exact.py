@@ -21,8 +21,7 @@ class Exact(Owned):
     Its arrays are checked once, when it is created from a SciPy matrix or from triplets. The operators `+`, `-`, `*` by
     an integer, `@` and `**`, and `T`, return new matrices and copy no operand. One operand of `+`, `-` and `@` may be a
     SciPy matrix by rows or by columns, whose arrays are checked and copied, and one of `@` a NumPy array, a vector or a
-    matrix: then the result is one too, and the arrays of this matrix are copied. `solve_lower`, `solve_upper` and
-    `factor` copy the matrix.
+    matrix, which is copied: then the result is one too. `solve_lower`, `solve_upper` and `factor` copy the matrix.
 
     `==` says whether two matrices have the same entries. The other operand may be a SciPy matrix on the right alone:
     with one on the left, SciPy answers, and says False.
@@ -71,7 +70,8 @@ class Exact(Owned):
         rows, inner = self._shape
         values, cols = dense_of("the operand of @", b, inner)
         product = empty(rows * cols)
-        call("multiply_dense", rows, inner, cols, *self._arrays(), values, product)
+        with self._own() as a:
+            call("matrix_multiply_dense", a, cols, values, product)
         return product.reshape((rows, *b.shape[1:]), order="F")
 
     def __add__(self, other: Any) -> Exact:

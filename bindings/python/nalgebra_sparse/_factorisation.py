@@ -2,14 +2,17 @@
 from __future__ import annotations
 
 import contextlib
+import ctypes
 import threading
 import weakref
 from typing import Any, Iterator
 
 import numpy as np
+import scipy.sparse as sp
 
 from ._calls import FactorHandle, call, free
 from ._operands import Integers, dense_of
+from ._results import empty, matrix_of
 
 
 @contextlib.contextmanager
@@ -52,6 +55,8 @@ class Factorisation:
     <Factorisation: 2 by 2>
     >>> factors.solve(np.array([[3, 2], [9, 7]])).tolist()
     [[1, 0], [1, 1]]
+    >>> (factors.L * factors.D @ factors.L.T).toarray().tolist()
+    [[1, 2], [2, 7]]
     """
 
     __slots__ = ("_handle", "_lock", "_size", "__weakref__")
@@ -89,6 +94,40 @@ class Factorisation:
     def shape(self) -> tuple[int, int]:
         """The number of rows and the number of columns of the matrix."""
         return self._size, self._size
+
+    def _parts(self) -> tuple[tuple[Integers, Integers, Integers], Integers]:
+        """Returns a copy of the values, the indices and the offsets of L by columns, and of the diagonal of D."""
+        size, places = ctypes.c_size_t(), ctypes.c_size_t()
+        with self._own() as factors:
+            call("factors_sizes", factors, size, places)
+            offsets, indices, values, diagonal = (empty(n) for n in (size.value + 1, places.value, places.value, size.value))
+            call("factors_read", factors, offsets, indices, values, diagonal, places)
+        return (values, indices, offsets), diagonal
+
+    @property
+    def L(self) -> sp.csc_array:  # noqa: N802
+        """A copy of the unit lower triangular factor L, as a SciPy array by columns.
+
+        It has the entries of `fill` with "upper", also where a value is 0. Sums and products of SciPy's arrays wrap, as
+        those modulo 2^64 do.
+
+        >>> import numpy as np, scipy.sparse as sp
+        >>> from nalgebra_sparse import Exact
+        >>> Exact.from_scipy(sp.csr_array(np.array([[1, 2], [2, 7]]))).factor().L.toarray().tolist()
+        [[1, 0], [2, 1]]
+        """
+        return matrix_of(sp.csc_array, self._parts()[0], self.shape)
+
+    @property
+    def D(self) -> Integers:  # noqa: N802
+        """A copy of the diagonal of the factor D, as a NumPy array. Each of its values is odd.
+
+        >>> import numpy as np, scipy.sparse as sp
+        >>> from nalgebra_sparse import Exact
+        >>> Exact.from_scipy(sp.csr_array(np.array([[1, 2], [2, 7]]))).factor().D.tolist()
+        [1, 3]
+        """
+        return self._parts()[1]
 
     def __repr__(self) -> str:
         return f"<Factorisation: {self._size} by {self._size}>"

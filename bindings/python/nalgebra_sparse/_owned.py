@@ -14,6 +14,7 @@ from ._errors import Error, InvalidStructure
 from ._factorisation import own
 from ._operands import Integers, Matrix, lanes_of, shape_of, sorted_arrays, triplets_of
 from ._results import empty, matrix_of
+from ._text_lines import read_text
 
 Self = TypeVar("Self", bound="Owned")
 
@@ -36,7 +37,7 @@ class Owned:
         """Returns the matrix that a call puts behind the handle which is its last argument."""
         self = object.__new__(cls)
         self._handle, self._lock = Handle(), threading.RLock()
-        call(name, *arguments, self._handle)
+        (read_text if name == "matrix_from_text" else call)(name, *arguments, self._handle)
         weakref.finalize(self, free, self._handle)
         rows, cols, places = ctypes.c_size_t(), ctypes.c_size_t(), ctypes.c_size_t()
         call("matrix_sizes", self._handle, rows, cols, places)

@@ -12,6 +12,7 @@ from ._calls import call
 from ._operands import shape_of, triplets_of
 from ._owned import Owned
 from ._results import empty, with_room
+from ._text_lines import read_text
 
 # A path, or a binary file that is open.
 File = Union[str, "os.PathLike[str]", BinaryIO]
@@ -20,7 +21,8 @@ File = Union[str, "os.PathLike[str]", BinaryIO]
 def read(text: bytes) -> sp.coo_matrix:
     """Returns the triplets of the bytes of a Matrix Market text with integers, as a matrix in COO format.
 
-    Repeated entries are kept, in the order of the text. A mirrored entry directly follows its entry.
+    Repeated entries are kept, in the order of the text. A mirrored entry directly follows its entry. The error of a text
+    that is refused names the line.
 
     >>> a = read(b"%%MatrixMarket matrix coordinate integer symmetric\\n2 2 2\\n1 1 4\\n2 1 -3\\n")
     >>> a.row.tolist(), a.col.tolist(), a.data.tolist()
@@ -29,7 +31,7 @@ def read(text: bytes) -> sp.coo_matrix:
     if not isinstance(text, bytes):
         raise TypeError(f"text must be bytes, not {type(text).__name__}")
     rows, cols, count = ctypes.c_size_t(), ctypes.c_size_t(), ctypes.c_size_t()
-    call("read_sizes", bytes(text), rows, cols, count)
+    read_text("read_sizes", bytes(text), rows, cols, count)
     shape = shape_of("the shape of the text", (rows.value, cols.value))
     i, j, values = empty(count.value), empty(count.value), empty(count.value)
     call("read", bytes(text), i, j, values, count)

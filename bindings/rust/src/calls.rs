@@ -303,6 +303,14 @@ extern "C" {
         out_places: *mut usize,
     ) -> i32;
 
+    pub fn nalgebra_sparse_factor_symmetric_pivot(
+        size: usize,
+        offsets: *const usize, offsets_len: usize,
+        indices: *const usize, indices_len: usize,
+        values: *const i64, values_len: usize,
+        out_column: *mut usize,
+    ) -> i32;
+
     pub fn nalgebra_sparse_read_sizes(
         text: *const u8, text_len: usize,
         out_rows: *mut usize, out_cols: *mut usize, out_triplets: *mut usize,
@@ -370,6 +378,12 @@ extern "C" {
 
     pub fn nalgebra_sparse_matrix_multiply(a: *mut Handle, b: *mut Handle, out: *mut Handle) -> i32;
 
+    pub fn nalgebra_sparse_matrix_multiply_dense(
+        a: *mut Handle, cols: usize,
+        b_values: *const i64, b_values_len: usize,
+        out_values: *mut i64, out_values_len: usize,
+    ) -> i32;
+
     pub fn nalgebra_sparse_matrix_clone(a: *mut Handle, out: *mut Handle) -> i32;
 
     pub fn nalgebra_sparse_matrix_free(a: *mut Handle);
@@ -395,6 +409,17 @@ extern "C" {
     pub fn nalgebra_sparse_matrix_factor(a: *mut Handle, out: *mut FactorHandle) -> i32;
 
     pub fn nalgebra_sparse_factors_solve(f: *mut FactorHandle, cols: usize, values: *mut i64, values_len: usize) -> i32;
+
+    pub fn nalgebra_sparse_factors_sizes(f: *mut FactorHandle, out_size: *mut usize, out_places: *mut usize) -> i32;
+
+    pub fn nalgebra_sparse_factors_read(
+        f: *mut FactorHandle,
+        out_offsets: *mut usize, out_offsets_len: usize,
+        out_indices: *mut usize, out_indices_len: usize,
+        out_values: *mut i64, out_values_len: usize,
+        out_diagonal: *mut i64, out_diagonal_len: usize,
+        out_places: *mut usize,
+    ) -> i32;
 
     pub fn nalgebra_sparse_factors_clone(f: *mut FactorHandle, out: *mut FactorHandle) -> i32;
 

@@ -4,8 +4,9 @@ use std::fmt;
 
 use crate::calls::FactorHandle;
 use crate::error::answer;
+use crate::room::{into_parts, zeros};
 use crate::shared::Shared;
-use crate::{calls, Error, Matrix, System};
+use crate::{calls, ColumnArrays, Error, Factors, Matrix, System};
 
 impl Matrix {
     /// Replaces B by the X for which `L X = B` or `L^T X = B`, where L is the lower triangle of the matrix, with the
@@ -109,6 +110,40 @@ impl Factorisation {
         answer(unsafe {
             calls::nalgebra_sparse_factors_solve(own.pointer(), cols, values.as_mut_ptr(), values.len())
         })
+    }
+
+    /// Returns a copy of the factors.
+    ///
+    /// # Errors
+    ///
+    /// [`Error::OutOfMemory`].
+    ///
+    /// # Examples
+    ///
+    /// ```
+    /// use nalgebra_sparse_exact::Matrix;
+    ///
+    /// let factors = Matrix::from_triplets((2, 2), &[0, 0, 1], &[0, 1, 1], &[1, 2, 7])?.factor()?.to_factors()?;
+    /// assert_eq!(factors.l.values, [1, 2, 1]);
+    /// assert_eq!(factors.d, [1, 3]);
+    /// # Ok::<(), nalgebra_sparse_exact::Error>(())
+    /// ```
+    pub fn to_factors(&self) -> Result<Factors, Error> {
+        let (mut size, mut places, mut own) = (0, 0, self.handle.second()?);
+        // SAFETY: the pointers are those of two numbers, and no other call uses the handle.
+        answer(unsafe { calls::nalgebra_sparse_factors_sizes(own.pointer(), &mut size, &mut places) })?;
+        let mut d = zeros(size)?;
+        let parts = into_parts(size, places, |o, x, v, count| {
+            // SAFETY: each pointer is that of a slice, with the slice's length after it, and no other call uses the
+            // handle.
+            unsafe {
+                calls::nalgebra_sparse_factors_read(
+                    own.pointer(), o.as_mut_ptr(), o.len(), x.as_mut_ptr(), x.len(), v.as_mut_ptr(), v.len(),
+                    d.as_mut_ptr(), d.len(), count,
+                )
+            }
+        })?;
+        Ok(Factors { l: ColumnArrays::new((size, size), parts), d })
     }
 
     /// Returns a second handle of the factors. No array is copied.

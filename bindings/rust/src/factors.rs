@@ -1,5 +1,6 @@
 //! The exact factorisation of a symmetric matrix.
 
+use crate::error::answer;
 use crate::room::{into_parts, zeros};
 use crate::systems::{check_square, fill_places};
 use crate::{calls, ColumnArrays, Columns, Error, Triangle};
@@ -61,6 +62,39 @@ pub fn factor_symmetric_mod(modulus: u64, a: Columns<'_>) -> Result<Factors, Err
             o.as_mut_ptr(), o.len(), x.as_mut_ptr(), x.len(), v.as_mut_ptr(), v.len(), d.as_mut_ptr(), d.len(), places,
         )
     })
+}
+
+/// Returns the column at which the factorisation of that symmetric matrix stops, or `None` if it has factors: the first
+/// rows and columns up to this one have factors, and together with it they have none, since its pivot has no inverse.
+///
+/// The column is found by bisection, with about log2(n) factorisations of n columns at most.
+///
+/// # Errors
+///
+/// Those of [`factor_symmetric`], but for [`Error::Singular`].
+///
+/// # Examples
+///
+/// ```
+/// use nalgebra_sparse_exact::{assemble_csc, singular_column};
+///
+/// // 1 1 / 1 3: the second pivot is 3 - 1, which is even.
+/// let a = assemble_csc(2, 2, &[0, 0, 1], &[0, 1, 1], &[1, 1, 3])?;
+/// assert_eq!(singular_column(a.as_columns())?, Some(1));
+/// # Ok::<(), nalgebra_sparse_exact::Error>(())
+/// ```
+pub fn singular_column(a: Columns<'_>) -> Result<Option<usize>, Error> {
+    check_square(a)?;
+    let mut column = 0;
+    // SAFETY: each pointer is that of a slice, with the slice's length after it, or of a number.
+    answer(unsafe {
+        calls::nalgebra_sparse_factor_symmetric_pivot(
+            a.rows,
+            a.offsets.as_ptr(), a.offsets.len(), a.indices.as_ptr(), a.indices.len(), a.values.as_ptr(), a.values.len(),
+            &mut column,
+        )
+    })?;
+    Ok((column < a.rows).then_some(column))
 }
 
 /// Makes a call with arrays for the factors of a square matrix by columns.

@@ -225,6 +225,33 @@ impl Matrix {
         self.combined(b, |a, b, out| unsafe { calls::nalgebra_sparse_matrix_multiply(a, b, out) })
     }
 
+    /// Returns the product of the matrix and a dense matrix with `cols` columns. The dense matrices are stored column by
+    /// column. The call copies `b`.
+    ///
+    /// # Errors
+    ///
+    /// [`Error::OutOfMemory`]; [`Error::InvalidStructure`] if `b` does not have `cols` values for each column of the
+    /// matrix.
+    ///
+    /// # Examples
+    ///
+    /// ```
+    /// use nalgebra_sparse_exact::Matrix;
+    ///
+    /// let a = Matrix::from_triplets((2, 2), &[0, 0, 1], &[0, 1, 1], &[1, 2, 3])?;
+    /// assert_eq!(a.multiply_dense(2, &[5, 7, 1, 0])?, [19, 21, 1, 0]);
+    /// # Ok::<(), nalgebra_sparse_exact::Error>(())
+    /// ```
+    pub fn multiply_dense(&self, cols: usize, b: &[i64]) -> Result<Vec<i64>, Error> {
+        let (rows, mut own) = (self.shape()?.0, self.handle.second()?);
+        // SAFETY: each pointer is that of a slice, with the slice's length after it, and no other call uses the handle.
+        crate::room::into_values(rows, cols, |values| unsafe {
+            calls::nalgebra_sparse_matrix_multiply_dense(
+                own.pointer(), cols, b.as_ptr(), b.len(), values.as_mut_ptr(), values.len(),
+            )
+        })
+    }
+
     /// Returns a second handle of the matrix. No array is copied.
     ///
     /// # Errors

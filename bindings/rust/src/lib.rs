@@ -17,7 +17,7 @@ mod texts;
 
 pub use error::Error;
 pub use factorisation::Factorisation;
-pub use factors::{factor_symmetric, factor_symmetric_mod, Factors};
+pub use factors::{factor_symmetric, factor_symmetric_mod, singular_column, Factors};
 pub use handles::Matrix;
 pub use matrices::{Arrays, ColumnArrays, Columns, Rows};
 pub use moduli::{

@@ -145,7 +145,9 @@ fn with_unit_diagonal(random: &mut Random, size: usize) -> (Matrix, Matrix) {
 }
 
 fn times(a: &Matrix, x: &[i64]) -> Vec<i64> {
-    multiply_dense(a.to_arrays().unwrap().as_rows(), 2, x).unwrap()
+    let product = a.multiply_dense(2, x).unwrap();
+    assert_eq!(product, multiply_dense(a.to_arrays().unwrap().as_rows(), 2, x).unwrap());
+    product
 }
 
 #[test]
@@ -170,6 +172,11 @@ fn solutions_solve() {
         // L Lᵀ is symmetric, and has the factors L and the identity.
         let symmetric = l.multiply(&turned).unwrap();
         let factors = symmetric.factor().unwrap();
+        let copied = factors.to_factors().unwrap();
+        // The columns of L are the rows of its transpose. Its entries are those of the fill, where values may be 0.
+        let rows = Matrix::from_rows(copied.l.as_columns().transposed()).unwrap();
+        assert!(rows.subtract(&turned).unwrap().to_arrays().unwrap().values.iter().all(|value| *value == 0));
+        assert_eq!((copied.l.shape(), copied.d), ((size, size), vec![1; size]));
         let (clone, mut x) = (factors.clone(), b.clone());
         drop(factors);
         let solving = thread::spawn(move || {

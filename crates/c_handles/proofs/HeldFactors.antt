@@ -2,7 +2,8 @@
 -- - `IsFactorisation-plain`: the factors that `Ldl::factor` finds for a CSC matrix are factors of its plain matrix
 -- - `OnOk-HoldsFactors`: a call that stores factors of the matrix of a handle meets the contract of `factor`
 -- - `SolvesInPlace-factors`: a dense solution written over its right-hand side meets the contract of `solve_factored`
-use Rattle.std.proofs.Common.{◌≡◌, ℕ, ℤ, ◌<◌, ◌*◌, List, length, sym, subst, ◌∙◌}
+-- - `l-held`, `d-held`: the factors that a handle holds are `l_held` and `d_held` of the handle
+use Rattle.std.proofs.Common.{◌≡◌, ℕ, ℤ, ◌<◌, ◌*◌, List, length, ap, sym, subst, ◌∙◌}
 use Rattle.std.specs.Prelude.{Option, Some, Ok, Err, OnOk}
 use Rattle.core.specs.declared.result.Result.{Result}
 use Rattle.sparse_algebra.specs.Plain.{Plain}
@@ -17,7 +18,7 @@ use Rattle.sparse_compressed.specs.PlainOfLanes.{plain_of_cols, plain_of_rows}
 use Rattle.c_handles.proofs.Done.{plain_of_rows-held, held}
 use Rattle.c_handles.proofs.Triangles.{SolvesInPlace-dense}
 use Rattle.c_handles.specs.Held.{plain_held}
-use Rattle.c_handles.specs.Factored.{product_held, zero64, HoldsFactors}
+use Rattle.c_handles.specs.Factored.{d_held, l_held, product_held, zero64, HoldsFactors}
 use Rattle.c_handles.specs.Solved.{SolvesInPlace}
 use Rattle.sparse_factor.specs.Factorisations.{plain_symmetric, IsFactorisation, IsUnitLower}
 use Rattle.sparse_factor.specs.Factors.{diagonal, plain_of_factors, symmetric_of}
@@ -74,3 +75,11 @@ SolvesInPlace-factors handle f s is same b x n cols old new size rows columns si
     size (SolvesInPlace-dense (plain_of_factors ring64 w64_value zero64 s)
     (plain_of_dense ring64 w64_value b) x n cols old new (xrows ∙ rows) (xcolumns ∙ columns) sized
     solved side written))
+
+pub l-held : (handle : Option (Factors W64)) (f s : Factors W64) → handle ≡ Some f → s ≡ f
+    → plain_of_cols ring64 w64_value s.l ≡ l_held handle
+l-held handle f s is same = ap l_held (held handle f s is same)
+
+pub d-held : (handle : Option (Factors W64)) (f s : Factors W64) → handle ≡ Some f → s ≡ f
+    → diagonal ring64 w64_value zero64 s.d ≡ d_held handle
+d-held handle f s is same = ap d_held (held handle f s is same)

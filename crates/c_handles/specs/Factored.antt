@@ -24,6 +24,16 @@ abbrev pub product_held : Option (Factors W64) → Plain ring64
 product_held None = plain_of_triplets ring64 w64_value 0 0 []
 product_held (Some s) = plain_of_factors ring64 w64_value zero64 s
 
+-- the factor L that a handle holds; of an empty handle, the matrix with no rows and no columns
+abbrev pub l_held : Option (Factors W64) → Plain ring64
+l_held None = plain_of_triplets ring64 w64_value 0 0 []
+l_held (Some s) = plain_of_cols ring64 w64_value s.l
+
+-- the diagonal of the factor D that a handle holds, followed by zeros
+abbrev pub d_held : Option (Factors W64) → ℕ → ring64.Carrier
+d_held None = λ _. ring64.zero
+d_held (Some s) = diagonal ring64 w64_value zero64 s.d
+
 -- the handle holds factors L and D of the symmetric matrix whose entries on and above the diagonal are those of a
 abbrev pub HoldsFactors : Option (Factors W64) → Plain ring64 → Type 0
 HoldsFactors handle a = (s : Factors W64) × (handle ≡ Some s)

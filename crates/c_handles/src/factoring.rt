@@ -113,8 +113,16 @@ fn factors_of(alloc: Global, a: &CsrMatrix<W64>) -> Result<Ldl<W64>, Refusal>
     Ok(factors)
 }
 
-// Returns the factors that a handle holds, with shared ownership: the handle holds them too.
-fn shared_factors(alloc: Global, handle: &mut FactorHandle) -> Result<Arc<Ldl<W64>>, Refusal>
+/// Returns the factors that a handle holds, with shared ownership: the handle holds them too.
+///
+/// # Errors
+///
+/// Returns `EmptyHandle` if the handle is empty. Otherwise fails only if the factors have too many owners
+/// (`OutOfMemory`).
+pub(crate) fn shared_factors(
+    alloc: Global,
+    handle: &mut FactorHandle,
+) -> Result<Arc<Ldl<W64>>, Refusal>
     ensures kept { handle.new.value ≡ handle.old.value }
     ensures missing { handle.old.value ≡ None → result ≡ Err EmptyHandle }
     ensures factors { IfOk result (λ f. handle.old.value ≡ Some (arc_value f)) }

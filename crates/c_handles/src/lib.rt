@@ -3,6 +3,7 @@
 //! A handle holds a matrix or factors, or is empty. Several handles may share what they hold.
 #![tactic(auto)]
 
+pub mod dense;
 pub mod factoring;
 pub mod from_arrays;
 pub mod handle;

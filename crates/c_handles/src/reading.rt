@@ -1,16 +1,24 @@
-//! The shape, the number of entries and the arrays of matrices held by handles.
+//! The sizes and the arrays of matrices and of factors held by handles.
 
-ghost use Rattle.std.specs.Prelude.{◌≡◌, Err, None, IfOk, IfErr, OnOk, OnErr};
-ghost use Rattle.c_arrays.specs.Arrays.{place_count, output_arrays, HoldsRows};
+ghost use Rattle.std.specs.Prelude.{◌≡◌, length, Err, None, IfOk, IfErr, OnOk, OnErr};
+ghost use Rattle.sparse_algebra.specs.Plain.{plain_transpose};
+ghost use Rattle.sparse_algebra.specs.WrappingValues.{w64_value};
+ghost use Rattle.c_arrays.specs.Arrays.{place_count, ring64, output_arrays, HoldsRows};
 ghost use Rattle.c_arrays.specs.Refused.{IsOutOfMemoryOr};
 ghost use Rattle.c_arrays.specs.Rests.{KeepsRest};
 ghost use Rattle.c_arrays.specs.declared.refusal.Refusal.TheVariants.{EmptyHandle};
+ghost use Rattle.sparse_compressed.specs.PlainOfLanes.{plain_of_cols};
+ghost use Rattle.sparse_factor.specs.Factors.{diagonal};
+ghost use Rattle.c_handles.specs.Factored.{d_held, l_held, zero64, HasNoFactors};
 ghost use Rattle.c_handles.specs.Held.{plain_held, IsEmpty, IsUnwritten};
 
-use crate::handle::MatrixHandle;
+use crate::factoring::shared_factors;
+use crate::handle::{FactorHandle, MatrixHandle};
 use crate::held_matrix::shared;
 use c_arrays::refusal::Refusal;
 use c_arrays::writing::write_rows;
+use sparse_algebra::scalar::W64;
+use sparse_csr_csc::csr::CsrMatrix;
 use std::alloc::Global;
 
 /// Returns the numbers of rows, columns and entries of the matrix that `a` holds.
@@ -63,4 +71,49 @@ pub fn read(
     } else {
         Err(Refusal::TooSmall)
     }
+}
+
+/// Returns the number of rows of the factor L that a handle holds, which is its number of columns, and its number of
+/// entries.
+///
+/// # Errors
+///
+/// Returns `EmptyHandle` if the handle is empty. Otherwise fails only if the factors have too many owners
+/// (`OutOfMemory`).
+pub fn factor_sizes(alloc: Global, handle: &mut FactorHandle) -> Result<(usize, usize), Refusal>
+    ensures kept { handle.new.value ≡ handle.old.value }
+    ensures missing { handle.old.value ≡ None → result ≡ Err EmptyHandle }
+    ensures rows { IfOk result (λ sizes. sizes.0 ≡ (l_held handle.old.value).rows) }
+    ensures cols { IfOk result (λ sizes. sizes.0 ≡ (l_held handle.old.value).cols) }
+    ensures places { IfOk result (λ sizes.
+        sizes.1 ≡ place_count (plain_transpose ring64 (l_held handle.old.value))) }
+    ensures fault { IfErr result (IsOutOfMemoryOr (HasNoFactors handle.old.value)) }
+{
+    let factors = shared_factors(alloc, handle)?;
+    Ok((factors.l().nrows(), factors.l().nnz()))
+}
+
+/// Returns a copy of the factors that a handle holds: the CSR matrix whose rows are the columns of L, and the diagonal
+/// of D.
+///
+/// # Errors
+///
+/// Returns `EmptyHandle` if the handle is empty. Otherwise fails only if an allocation fails.
+pub fn copied_factors(
+    alloc: Global,
+    handle: &mut FactorHandle,
+) -> Result<(CsrMatrix<W64>, Vec<W64>), Refusal>
+    ensures kept { handle.new.value ≡ handle.old.value }
+    ensures missing { handle.old.value ≡ None → result ≡ Err EmptyHandle }
+    ensures columns { IfOk result (λ s.
+        plain_of_cols ring64 w64_value s.0 ≡ l_held handle.old.value) }
+    ensures diagonal { IfOk result (λ s.
+        diagonal ring64 w64_value zero64 s.1.items ≡ d_held handle.old.value) }
+    ensures count { IfOk result (λ s. length s.1.items ≡ (l_held handle.old.value).rows) }
+    ensures fault { IfErr result (IsOutOfMemoryOr (HasNoFactors handle.old.value)) }
+{
+    let factors = shared_factors(alloc, handle)?;
+    let l = factors.l().clone(alloc)?;
+    let d = Vec::from_slice(alloc, factors.d())?;
+    Ok((l.transpose_as_csr(), d))
 }

@@ -63,7 +63,7 @@ module _ (R : CommRing) {T : Type 0} (f : T → R.Carrier) (z : T) (a : Compress
 
 module _ (R : CommRing) {T : Type 0} (f : T → R.Carrier) (z : T) (zero_is : f z ≡ R.zero) where
   -- lists that represent the same ring elements represent equal elements at each index
-  same_elements : (xs : List ℤ) (ys : List T) → map (element_of R) xs ≡ map f ys → (j : ℕ)
+  pub same_elements : (xs : List ℤ) (ys : List T) → map (element_of R) xs ≡ map f ys → (j : ℕ)
       → element_of R (slice_index_or xs j (pos 0)) ≡ f (slice_index_or ys j z)
   unfolding element_of times_one
   same_elements xs ys same j = sym (get_or-map (element_of R) xs j (pos 0))

@@ -1,19 +1,22 @@
 -- Calls that factor a symmetric matrix A exactly as L D Lᵀ, and write L by columns and the diagonal of D to arrays. The
--- entries of A on and above the diagonal are those of a CSC matrix a.
+-- entries of A on and above the diagonal are those of a CSC matrix a. Calls that write the factors that a handle holds.
 use Rattle.std.specs.Prelude.{◌≡◌, ◌≢◌, ◌≤◌, ◌<◌, ◌↔◌, ◌⊎◌, ℕ, ℤ, pos, true, List, length, map}
-use Rattle.std.specs.Prelude.{slice_index_or, take}
+use Rattle.std.specs.Prelude.{slice_index_or, take, Option}
 use Rattle.sparse_algebra.specs.Algebra.{CommRing}
 use Rattle.sparse_algebra.specs.Plain.{Plain, plain_transpose}
+use Rattle.sparse_algebra.specs.declared.scalar.wrapping.W64.{W64}
 use Rattle.sparse_compressed.specs.Compressed.{Compressed, IsSound}
 use Rattle.sparse_compressed.specs.PlainOfLanes.{plain_of_rows}
 use Rattle.sparse_factor.specs.Fill.{InFill, UpperBase}
 use Rattle.sparse_factor.specs.Factorisations.{IsFactorisation}
+use Rattle.sparse_factor.specs.Factors.{Factors}
+use Rattle.c_handles.specs.Factored.{d_held, l_held, HasNoFactors as IsEmptyHandle}
 use Rattle.sparse_c.specs.Rooms.{Shows}
 use Rattle.sparse_c.specs.Scalars.{Scalars}
 use Rattle.sparse_c.specs.Symmetric.{symmetric_by_cols, HasNoFactors}
 use Rattle.sparse_c.specs.declared.arguments.FactorOutputArrays.{FactorOutputArrays}
 use Rattle.sparse_c.specs.declared.arguments.Factored.{Factored}
-use Rattle.c_arrays.specs.Arrays.{place_count, output_arrays, OutputArrays, HoldsCols, HoldsRows}
+use Rattle.c_arrays.specs.Arrays.{place_count, ring64, output_arrays, OutputArrays, HoldsCols, HoldsRows}
 use Rattle.sparse_algebra.specs.Integers.{element_of}
 use Rattle.c_arrays.specs.Refused.{IsFaultOf, IsRefusedFor, IsTooSmall}
 use Rattle.c_arrays.specs.Rests.{KeepsBehind, KeepsRest}
@@ -86,3 +89,26 @@ pub record FactorisesIn (S : Scalars) (s : Factored) (before after : FactorOutpu
   pub values : after.values.ghost_name ≡ before.values.ghost_name
   pub diagonal : after.diagonal.ghost_name ≡ before.diagonal.ghost_name
   pub places : after.places.ghost_name ≡ before.places.ghost_name
+
+-- an array is too short for the factors that the handle holds
+abbrev pub AreHeldFactorsTooLong : Option (Factors W64) → OutputArrays → List ℤ → Type 0
+AreHeldFactorsTooLong handle room diagonal = let l = l_held handle in
+    IsTooSmall (plain_transpose ring64 l) room ⊎ (length diagonal < l.rows)
+
+-- the contract of a call that writes the factors that the handle holds, with the arrays for L and the array for the
+-- diagonal before and after the call, and its status
+pub record WritesHeldFactors (handle : Option (Factors W64)) (before after : OutputArrays)
+    (old new : List ℤ) (status : ℤ) : Type 0 where
+  -- at status 0 the arrays start with the columns of L, and the array for the diagonal with that of D
+  pub columns : status ≡ pos 0 → HoldsCols (l_held handle) after
+  pub room : status ≡ pos 0 → (l_held handle).rows ≤ length new
+  pub diagonal : status ≡ pos 0
+      → first_elements ring64 (l_held handle).rows new ≡ d_held handle
+  pub rest : status ≡ pos 0 → KeepsRest (l_held handle).cols before after
+  pub rest_diagonal : status ≡ pos 0 → KeepsBehind (l_held handle).rows old new
+  pub untouched : status ≢ pos 0 → IsUntouched status before after
+  pub untouched_diagonal : status ≢ pos 0 → new ≡ old
+  pub needed : status ≡ number_of TooSmall
+      → after.places ≡ place_count (plain_transpose ring64 (l_held handle))
+  pub refused : status ≢ pos 0
+      → IsRefusedFor (IsEmptyHandle handle) (AreHeldFactorsTooLong handle before old) status

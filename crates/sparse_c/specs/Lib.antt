@@ -5,6 +5,7 @@ pub mod Fills
 pub mod InnerModulusLaws
 pub mod Moduli
 pub mod Orders
+pub mod Pivots
 pub mod Patterns
 pub mod Rooms
 pub mod Scalars

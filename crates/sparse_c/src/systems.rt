@@ -14,6 +14,7 @@ ghost use Rattle.c_arrays.specs.Refused.{IsOutOfMemoryOr, IsSystemSound};
 
 pub(crate) mod factors;
 pub(crate) mod fill;
+pub(crate) mod pivot;
 pub(crate) mod solve;
 pub(crate) mod symmetric;
 

@@ -1,18 +1,21 @@
 //! Transposes, sums and products of matrices that handles hold.
 
-ghost use Rattle.std.specs.Prelude.{◌≡◌, ◌⊎◌, None};
+ghost use Rattle.std.specs.Prelude.{◌≡◌, ◌⊎◌, ◌*◌, length, pos, None};
 ghost use Rattle.sparse_algebra.specs.Integers.{element_of};
 ghost use Rattle.sparse_algebra.specs.Plain.{plain_difference, plain_product};
 ghost use Rattle.sparse_algebra.specs.Plain.{plain_scaled, plain_sum};
 ghost use Rattle.sparse_algebra.specs.Plain.{plain_transpose};
-ghost use Rattle.c_arrays.specs.Arrays.{ring64};
+ghost use Rattle.c_arrays.specs.Arrays.{ring64, HoldsDense};
+ghost use Rattle.c_arrays.specs.Rests.{KeepsBehind};
 ghost use Rattle.c_arrays.specs.Statuses.{number_of};
 ghost use Rattle.c_arrays.specs.declared.refusal.Refusal.TheVariants.{EmptyHandle, OutOfMemory};
 ghost use Rattle.c_handles.specs.Held.{plain_held, Answers, IsEmpty};
 ghost use Rattle.c_handles.specs.Held.{IsSumError, IsProductError};
 ghost use Rattle.c_handles.specs.Held.{Holds};
+ghost use Rattle.c_handles.specs.Dense.{dense_product, IsDenseProductError};
 
 use crate::status::status;
+use c_handles::dense::multiply_dense;
 use c_handles::handle::MatrixHandle;
 use c_handles::operations;
 use std::alloc::Global;
@@ -126,4 +129,27 @@ pub extern "C" fn nalgebra_sparse_matrix_multiply(
         (plain_product ring64 (plain_held a.old.value) (plain_held b.old.value))) }
 {
     status!(operations::multiply(alloc, a, b, out))
+}
+
+/// Writes the product of the matrix that `a` holds and a dense matrix with `cols` columns. The dense matrices are stored
+/// column by column.
+#[unsafe(no_mangle)]
+pub extern "C" fn nalgebra_sparse_matrix_multiply_dense(
+    alloc: Global,
+    a: &mut MatrixHandle,
+    cols: usize,
+    b_values: &[i64],
+    out_values: &mut [i64],
+) -> i32
+    ensures kept { a.new.value ≡ a.old.value }
+    ensures missing { a.old.value ≡ None → result ≡ number_of EmptyHandle }
+    ensures sized { result ≡ pos 0
+        → length b_values.now ≡ (plain_held a.old.value).cols * cols }
+    ensures answer { let m = plain_held a.old.value in
+        Answers result (IsDenseProductError a.old.value cols b_values.now out_values.old)
+        (out_values.new ≡ out_values.old)
+        (HoldsDense (dense_product m cols b_values.now) out_values.new
+        × KeepsBehind (m.rows * cols) out_values.old out_values.new) }
+{
+    status!(multiply_dense(alloc, a, cols, b_values, out_values))
 }

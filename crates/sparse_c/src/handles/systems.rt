@@ -1,17 +1,22 @@
 //! Systems of equations with matrices and with factors that handles hold.
 
 ghost use Rattle.std.specs.Prelude.{◌≡◌, None};
+ghost use Rattle.sparse_algebra.specs.Plain.{plain_transpose};
+ghost use Rattle.c_arrays.specs.Arrays.{place_count, ring64, output_arrays};
 ghost use Rattle.c_arrays.specs.Statuses.{number_of};
 ghost use Rattle.c_arrays.specs.declared.refusal.Refusal.TheVariants.{EmptyHandle};
 ghost use Rattle.c_handles.specs.Held.{plain_held, Answers};
-ghost use Rattle.c_handles.specs.Factored.{product_held, HasNoFactors, HasNoSystem};
+ghost use Rattle.c_handles.specs.Factored.{l_held, product_held, HasNoFactors, HasNoSystem};
 ghost use Rattle.c_handles.specs.Factored.{HoldsFactors, IsUnfactored};
 ghost use Rattle.c_handles.specs.Solved.{triangle_of, IsUnsolved, SolvesInPlace};
 ghost use Rattle.c_handles.specs.declared.solving.Triangle.TheVariants.{Lower, Upper};
+ghost use Rattle.sparse_c.specs.Factors.{WritesHeldFactors};
 
 use crate::status::status;
+use crate::systems::factors::finish_factors;
 use c_handles::factoring::{clear_factors, factor, share_factors, solve_factored};
 use c_handles::handle::{FactorHandle, MatrixHandle};
+use c_handles::reading::{copied_factors, factor_sizes};
 use c_handles::solving::{Triangle, solve_triangle};
 use std::alloc::Global;
 
@@ -90,6 +95,63 @@ pub extern "C" fn nalgebra_sparse_factors_solve(
         (SolvesInPlace m m.rows cols values.old values.new) }
 {
     status!(solve_factored(alloc, factors, cols, values))
+}
+
+/// Writes the number of rows of the factor L that a handle holds, which is its number of columns, and its number of
+/// entries.
+#[unsafe(no_mangle)]
+pub extern "C" fn nalgebra_sparse_factors_sizes(
+    alloc: Global,
+    factors: &mut FactorHandle,
+    out_size: &mut usize,
+    out_places: &mut usize,
+) -> i32
+    ensures kept { factors.new.value ≡ factors.old.value }
+    ensures missing { factors.old.value ≡ None → result ≡ number_of EmptyHandle }
+    ensures answer { let l = l_held factors.old.value in
+        Answers result (HasNoFactors factors.old.value)
+        ((out_size.new ≡ out_size.old) × (out_places.new ≡ out_places.old))
+        ((out_size.new ≡ l.rows) × (out_size.new ≡ l.cols)
+        × (out_places.new ≡ place_count (plain_transpose ring64 l))) }
+{
+    match factor_sizes(alloc, factors) {
+        Ok((size, places)) => {
+            *out_size = size;
+            *out_places = places;
+            0
+        }
+        Err(refusal) => refusal.status(),
+    }
+}
+
+/// Writes the columns of the factor L and the diagonal of the factor D that a handle holds, and the number of entries of
+/// L.
+#[unsafe(no_mangle)]
+pub extern "C" fn nalgebra_sparse_factors_read(
+    alloc: Global,
+    factors: &mut FactorHandle,
+    out_offsets: &mut [usize],
+    out_indices: &mut [usize],
+    out_values: &mut [i64],
+    out_diagonal: &mut [i64],
+    out_places: &mut usize,
+) -> i32
+    ensures kept { factors.new.value ≡ factors.old.value }
+    ensures missing { factors.old.value ≡ None → result ≡ number_of EmptyHandle }
+    ensures answered { WritesHeldFactors factors.old.value
+        (output_arrays out_offsets.old out_indices.old out_values.old out_places.old)
+        (output_arrays out_offsets.new out_indices.new out_values.new out_places.new)
+        out_diagonal.old out_diagonal.new result }
+{
+    let answer = copied_factors(alloc, factors);
+    finish_factors(
+        answer,
+        out_offsets,
+        out_indices,
+        out_values,
+        out_diagonal,
+        out_places,
+    )
 }
 
 /// Stores in `out` the factors that `factors` holds: both handles share them.

@@ -152,10 +152,10 @@ fn factors_of<T: Number>(alloc: Global, a: Lanes<'_>) -> Result<(CsrMatrix<T>, V
     Ok((l.transpose_as_csr(), d))
 }
 
-// Writes the columns of L, which are the rows of a CSR matrix, and the diagonal of D. Returns the status of the call.
-// On an error the arrays are unchanged; if an array is too small, the number of entries of L is written, and nothing
-// else.
-fn finish_factors<T: Number>(
+/// Writes the columns of L, which are the rows of a CSR matrix, and the diagonal of D. Returns the status of the call.
+/// On an error the arrays are unchanged; if an array is too small, the number of entries of L is written, and nothing
+/// else.
+pub(crate) fn finish_factors<T: Number>(
     answer: Result<(CsrMatrix<T>, Vec<T>), Refusal>,
     offsets: &mut [usize],
     indices: &mut [usize],

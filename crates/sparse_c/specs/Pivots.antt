@@ -1,0 +1,47 @@
+-- The column at which the factorisation of a symmetric matrix stops.
+use Rattle.std.specs.Prelude.{◌≡◌, ◌≤◌, ◌<◌, ◌&&◌, ℕ, Bool, nat_lt, if◌then◌else◌, List, [], ◌∷◌}
+use Rattle.std.specs.Prelude.{◌++◌}
+use Rattle.std.specs.List.{flat_map}
+use Rattle.sparse_algebra.specs.Algebra.{CommRing}
+use Rattle.sparse_algebra.specs.Plain.{Plain}
+use Rattle.sparse_coo_dense.specs.Coo.{Coo}
+use Rattle.sparse_factor.specs.Factorisations.{IsFactorisation}
+
+module _ (R : CommRing) where
+  -- the first n rows and columns of a, of which nothing but the values in these rows and columns has an effect on a
+  -- factorisation
+  abbrev pub leading : ℕ → Plain R → Plain R
+  leading n a = record { rows = n; cols = n; has = a.has; value = a.value }
+
+  module _ {T : Type 0} (f : T → R.Carrier) where
+    -- a is L D Lᵀ, where L is unit lower triangular and each entry of the diagonal D has an inverse
+    abbrev pub HasFactorisation : Plain R → Type 0
+    HasFactorisation a = (l : Plain R) × (d : ℕ → R.Carrier) × IsFactorisation R f a l d
+
+    -- the first n rows and columns of a have a factorisation, and so have fewer of them; more have none
+    pub record StopsAt (a : Plain R) (n : ℕ) : Type 0 where
+      pub within : n ≤ a.rows
+      pub before : (k : ℕ) → k ≤ n → HasFactorisation (leading k a)
+      pub after : (k : ℕ) → n < k → k ≤ a.rows → HasFactorisation (leading k a) → ⊥
+
+    -- the first `low` rows and columns of a have a factorisation, and the first `high` have none
+    pub record IsBetween (a : Plain R) (low high : ℕ) : Type 0 where
+      pub order : low ≤ high
+      pub within : high ≤ a.rows
+      pub factors : HasFactorisation (leading low a)
+      pub none : HasFactorisation (leading high a) → ⊥
+
+module _ {T : Type 0} (n : ℕ) where
+  -- whether a triplet lies in the first n rows and columns
+  abbrev pub is_leading : ℕ × ℕ × T → Bool
+  is_leading t = nat_lt t.0 n && nat_lt t.1 n
+
+  -- the triplet, if it lies there
+  abbrev pub one_leading : ℕ × ℕ × T → List (ℕ × ℕ × T)
+  one_leading t = if is_leading t then t ∷ [] else []
+
+  -- a list of n rows and columns, to which the leading triplets of `rest` are still to be appended
+  pub record IsLeadingWithout (all rest : List (ℕ × ℕ × T)) (list : Coo T) : Type 0 where
+    pub rows : list.nrows ≡ n
+    pub cols : list.ncols ≡ n
+    pub triplets : list.triplets ++ flat_map one_leading rest ≡ flat_map one_leading all
