@@ -7,5 +7,5 @@ mod shape;
 
 pub use info::{Info, info_of};
 pub use lanes::{Histogram, count_lanes, counted_lanes, longest_lane};
-pub use lines::{push_count, push_facts, push_line};
+pub use lines::{answer, push_count, push_facts, push_histogram, push_line};
 pub use shape::{bandwidth, is_symmetric};

@@ -13,8 +13,8 @@ mod values;
 
 pub use decimals::{ScaleError, scaled_text};
 pub use facts::{
-    Histogram, Info, bandwidth, count_lanes, counted_lanes, info_of, is_symmetric, longest_lane,
-    push_count, push_facts, push_line,
+    Histogram, Info, answer, bandwidth, count_lanes, counted_lanes, info_of, is_symmetric,
+    longest_lane, push_count, push_facts, push_histogram, push_line,
 };
 pub use line_faults::LineFault;
 pub use lines::{after_end, is_comment};

@@ -53,8 +53,10 @@ fn push_symmetries(lines: &mut String, facts: &Info) -> Result<(), AllocError>
     push_line(lines, "symmetric values", values)
 }
 
-// Appends the histogram of the rows by their numbers of entries.
-fn push_histogram(
+/// Appends the histogram of the rows by their numbers of entries.
+///
+/// Fails only if an allocation fails.
+pub fn push_histogram(
     alloc: Global,
     lines: &mut String,
     rows: &Histogram,
@@ -173,8 +175,8 @@ pub fn push_line(lines: &mut String, name: &str, value: &str) -> Result<(), Allo
     lines.push_str("\n")
 }
 
-// Returns "yes" or "no".
-fn answer(yes: bool) -> &'static str
+/// Returns "yes" or "no".
+pub fn answer(yes: bool) -> &'static str
     ensures { result.now ≡ answer yes }
 {
     if yes { "yes" } else { "no" }
