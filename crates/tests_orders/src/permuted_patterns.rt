@@ -78,7 +78,7 @@ struct Sweep {
 }
 
 fn all_agree(alloc: Global, order: &Permutation, sweep: Sweep) -> Result<bool, Fail> {
-    for bits in (sweep.first..sweep.count).step_by(sweep.stride) {
+    for bits in (sweep.first..sweep.count).step_by(sweep.stride.max(1)) {
         if !agrees(alloc, bits, order)? {
             return Ok(false);
         }
