@@ -108,8 +108,8 @@ fn agreeing_orders(
     Ok(Some(orders))
 }
 
-// Sizes, the number of lists of so many indices, the patterns, and the number of orders. Every pattern of four rows is
-// tried in one order at least, and every order with one pattern in 23.
+// The size, the number of lists of that length, the stride, the number of patterns, and the number of orders. Every
+// pattern of four rows is tried in one order at least, and every order with one pattern in 23.
 const SIZES: &[(usize, usize, usize, u32, u32)] = &[
     (0, 1, 1, 1, 1),
     (1, 1, 1, 2, 1),

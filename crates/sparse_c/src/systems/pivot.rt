@@ -78,7 +78,7 @@ fn factored_size<T: Units>(alloc: Global, a: &CooMatrix<T>) -> Result<usize, All
     if all {
         return Ok(size);
     }
-    // So many of the first rows and columns have factors, and so many have none.
+    // The first `range.0` rows and columns have factors, and the first `range.1` have none.
     let mut range = (0, size);
     while range.1 - range.0 > 1 {
         range = halved(alloc, a, range)?;

@@ -10,7 +10,7 @@ ghost use Rattle.sparse_pattern.specs.Raw.{lane_of};
 use sparse_algebra::recall;
 use sparse_pattern::pattern::SparsityPattern;
 
-// The processor by itself reads ahead the lanes that a lane of at most so many indices lists.
+// The greatest length of a lane for which the processor by itself reads ahead the lanes that it lists.
 const SHORT_LANE: usize = 6;
 
 // Whether `lane` is long and each lane of `b` that it lists is empty.
