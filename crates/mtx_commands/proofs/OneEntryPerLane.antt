@@ -55,7 +55,7 @@ module _ {T : Type 0} (m : Coo T) where
   triplets_placed p columns transposed rows of_columns of_rows is_transposed product i j = (
     λ place.
         let (k, left, right) = (product j i).0 place in
-        let column = (of_columns k j).0 ((is_transposed.places k j).0 left) in
+        let column = (of_columns k j).0 ((is_transposed.entries k j).0 left) in
         let row = (of_rows k i).0 right in
         record {
           at = k;
@@ -68,5 +68,5 @@ module _ {T : Type 0} (m : Coo T) where
         (omega (arith, h.within, length-map m.triplets (λ t. t.1)), h.column) in
         let right = (of_rows h.at i).1
         (omega (arith, h.within, length-map m.triplets (λ t. t.0)), h.row) in
-        (product j i).1 (h.at, (is_transposed.places h.at j).1 left, right),
+        (product j i).1 (h.at, (is_transposed.entries h.at j).1 left, right),
   )

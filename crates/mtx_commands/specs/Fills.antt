@@ -20,7 +20,7 @@ pub record IsRead (pattern : Raw) : Type 0 where
   pub meant : Means pattern_scalar text (Ok list)
   pub rows : pattern.minor_dim ≡ list.nrows
   pub columns : pattern.major_dim ≡ list.ncols
-  pub places : (i j : ℕ) → IsEntry pattern j i ↔ HasTriplet list i j
+  pub entries : (i j : ℕ) → IsEntry pattern j i ↔ HasTriplet list i j
 
 -- some text means a list of triplets of a matrix that is not square
 pub record HasOblong : Type 0 where

@@ -30,7 +30,7 @@ pub fn integers_of<T: Residues>(
 ) -> Result<CooMatrix<i128>, AllocError>
     ensures plain { IfOk result (λ m. plain_of_integers T.ring m
         ≡ plain_of_coo T.ring T.value list.now) }
-    ensures places { IfOk result
+    ensures coordinates { IfOk result
         (λ m. coordinates_of m.triplets ≡ coordinates_of list.now.triplets) }
     ensures nonzero { IfOk result
         (λ m. All (λ t. T.value t.2 ≡ T.ring.zero → ⊥) list.now.triplets

@@ -13,27 +13,27 @@ Contains-head x xs = (zero, omega arith, refl)
 
 -- the rest are entries of the pattern, and `Done` holds of every other entry
 pub record IsPartlyVisited (p : Raw) (rest : List (ℕ × ℕ)) (Done : ℕ → ℕ → Type 0) : Type 0 where
-  pub places : (i j : ℕ) → Contains rest (i, j) → IsEntry p i j
+  pub entries : (i j : ℕ) → Contains rest (i, j) → IsEntry p i j
   pub done : (i j : ℕ) → IsEntry p i j → Contains rest (i, j) ⊎ Done i j
 
 module _ (p : Raw) where
   pub none_done : (entries : List (ℕ × ℕ)) (Done : ℕ → ℕ → Type 0)
       → ((i j : ℕ) → Contains entries (i, j) ↔ IsEntry p i j) → IsPartlyVisited p entries Done
   none_done entries Done are = record {
-    places = λ i j h. (are i j).0 h;
+    entries = λ i j h. (are i j).0 h;
     done = λ i j h. inl ((are i j).1 h);
   }
 
   pub next_place : {rest tail : List (ℕ × ℕ)} {Done : ℕ → ℕ → Type 0} (i j : ℕ)
       → rest ≡ (i, j) ∷ tail → IsPartlyVisited p rest Done → IsEntry p i j
   next_place {rest} {tail} i j is h =
-      h.places i j (subst (λ l. Contains l (i, j)) (sym is) (Contains-head (i, j) tail))
+      h.entries i j (subst (λ l. Contains l (i, j)) (sym is) (Contains-head (i, j) tail))
 
   pub next_done : {rest tail : List (ℕ × ℕ)} {Done Now : ℕ → ℕ → Type 0} (i j : ℕ)
       → rest ≡ (i, j) ∷ tail → ((a b : ℕ) → Done a b → Now a b) → Now i j
       → IsPartlyVisited p rest Done → IsPartlyVisited p tail Now
   next_done {rest} {tail} {Done} {Now} i j is keeps now h = record {
-    places = λ a b c. h.places a b
+    entries = λ a b c. h.entries a b
         (subst (λ l. Contains l (a, b)) (sym is) (Contains-tail (i, j) tail (a, b) c));
     done = λ a b place. elim (h.done a b place) [
       | inl c ↦ elim (contains_cases (i, j) (a, b) tail (subst (λ l. Contains l (a, b)) is c)) [

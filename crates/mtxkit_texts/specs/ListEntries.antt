@@ -9,4 +9,4 @@ use Rattle.sparse_pattern.specs.Raw.{Raw, IsEntry}
 pub record HasEntriesOf {T : Type 0} (list : Coo T) (p : Raw) : Type 0 where
   pub rows : p.major_dim ≡ list.nrows
   pub cols : p.minor_dim ≡ list.ncols
-  pub places : (i j : ℕ) → IsEntry p i j ↔ IsTrue (list_any (is_at i j) list.triplets)
+  pub entries : (i j : ℕ) → IsEntry p i j ↔ IsTrue (list_any (is_at i j) list.triplets)

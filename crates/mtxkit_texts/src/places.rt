@@ -20,7 +20,7 @@ use std::alloc::{AllocError, Global};
 ///
 /// Fails only if an allocation fails.
 pub fn ones_of<T: Ring>(alloc: Global, places: &CooMatrix<()>) -> Result<CsrMatrix<T>, AllocError>
-    ensures places { IfOk result (λ m. HasEntriesOf places.now m.pattern) }
+    ensures entries { IfOk result (λ m. HasEntriesOf places.now m.pattern) }
     ensures ones { IfOk result (λ m. All (λ v. T.value v ≡ T.ring.one) m.values) }
     ensures sound { IfOk result IsSound }
 {
@@ -56,7 +56,7 @@ pub(crate) fn joined<T: Copy>(pattern: SparsityPattern, values: Vec<T>) -> CsrMa
 fn listed_ones(alloc: Global, places: &CooMatrix<()>) -> Result<CooMatrix<W64>, AllocError>
     ensures rows { IfOk result (λ m. m.nrows ≡ places.now.nrows) }
     ensures cols { IfOk result (λ m. m.ncols ≡ places.now.ncols) }
-    ensures places { IfOk result (λ m. (i j : ℕ) → list_any (is_at i j) m.triplets
+    ensures entries { IfOk result (λ m. (i j : ℕ) → list_any (is_at i j) m.triplets
         ≡ list_any (is_at i j) places.now.triplets) }
 {
     let ones = copies_of(alloc, W64::new(1), places.nnz())?;

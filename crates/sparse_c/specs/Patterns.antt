@@ -12,7 +12,7 @@ pub record CountsProduct (a b : Raw) (n : ℕ) : Type 0 where
   pub valid : IsValid product
   pub rows : product.major_dim ≡ a.major_dim
   pub cols : product.minor_dim ≡ b.minor_dim
-  pub places : IsProductOf product a b
+  pub entries : IsProductOf product a b
   pub count : n ≡ nnz_of product
 
 -- the status of a call that reads two patterns and fails: that of OutOfMemory, or of the first fault of a, or of the

@@ -106,7 +106,7 @@ module _ (R : CommRing) {T : Type 0} (f : T → R.Carrier) (E : T → T → Bool
       let same : HasSameEntries m.pattern n.pattern = record {
         major_dim = ap (λ a. a.rows) e;
         minor_dim = ap (λ a. a.cols) e;
-        places = λ i j.
+        entries = λ i j.
             let hm = has_is_place R f m.pattern sm.valid m.values sm.count i j in
             let hn = has_is_place R f n.pattern sn.valid n.values sn.count i j in
             let h = ap (λ a. a.has i j) e in
@@ -139,7 +139,7 @@ module _ (R : CommRing) {T : Type 0} (f : T → R.Carrier) (E : T → T → Bool
       same in
       plain_of_rows-from_places R f z m (plain_of_rows R f n) sm (proper_rows R f n) same.major_dim same.minor_dim
       (λ i j. let hn = has_is_place R f n.pattern sn.valid n.values sn.count i
-      j in (λ x. hn.1 ((same.places i j).0 x), λ x. (same.places i j).1 (hn.0 x)))
+      j in (λ x. hn.1 ((same.entries i j).0 x), λ x. (same.entries i j).1 (hn.0 x)))
       (λ i j p at.
       let at' : IsOffset n.pattern i j p = subst (λ d. IsOffset d i j p) patterns at in
       let lt : p < length m.values = omega (

@@ -78,7 +78,7 @@ module _ (R : CommRing) {T : Type 0} (f : T → R.Carrier) where
     pub matrix_lane_built : ((j : ℕ) → lane_value R f lane lane_values j ≡ V n j)
         → IsBuiltMatrix m P V (n + 1) longer (indices ++ lane) (values ++ lane_values)
     matrix_lane_built is = record {
-      built = lane_built m P n offsets indices lane was.built.valid was.built.places rising bounded
+      built = lane_built m P n offsets indices lane was.built.valid was.built.entries rising bounded
           holds;
       count = omega (
         arith,

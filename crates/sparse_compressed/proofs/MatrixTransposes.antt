@@ -36,7 +36,7 @@ module _ {T : Type 0} where
     pattern = record {
       major_dim = sym h.pattern.minor_dim;
       minor_dim = sym h.pattern.major_dim;
-      places = λ i j. let same = h.pattern.places j i in (same.1, same.0);
+      entries = λ i j. let same = h.pattern.entries j i in (same.1, same.0);
     };
     values = λ i j p q here there. sym (h.values j i q p there here);
   }
@@ -51,9 +51,9 @@ module _ {T : Type 0} where
       patterns = equal_from_entries k.pattern m.pattern sk.valid sm.valid record {
         major_dim = again.pattern.major_dim ∙ once.pattern.minor_dim;
         minor_dim = again.pattern.minor_dim ∙ once.pattern.major_dim;
-        places = λ i j. (
-          λ h. (once.pattern.places i j).0 ((again.pattern.places j i).0 h),
-          λ h. (again.pattern.places j i).1 ((once.pattern.places i j).1 h),
+        entries = λ i j. (
+          λ h. (once.pattern.entries i j).0 ((again.pattern.entries j i).0 h),
+          λ h. (again.pattern.entries j i).1 ((once.pattern.entries i j).1 h),
         );
       }
 
@@ -65,7 +65,7 @@ module _ {T : Type 0} where
           let lane = lane_of_offset m.pattern sm.valid p lt in
           let j = slice_index m.pattern.indices p in
           let here : IsOffset m.pattern lane.0 j p = (lane.1, refl) in
-          let place = (once.pattern.places lane.0 j).1 record
+          let place = (once.pattern.entries lane.0 j).1 record
           { at = p; in_lane = lane.1; index = refl } in
           let there : IsOffset n.pattern j lane.0 place.at = (place.in_lane, place.index) in
           let home : IsOffset k.pattern lane.0 j p = subst (λ d. IsOffset d lane.0 j p)
@@ -85,10 +85,10 @@ module _ {T : Type 0} where
       h.pattern.major_dim h.pattern.minor_dim
       (λ i j.
       let has = has_is_place R f m.pattern sm.valid m.values sm.count j i in
-      let same = h.pattern.places j i in
+      let same = h.pattern.entries j i in
       (λ x. has.1 (same.0 x), λ x. same.1 (has.0 x)))
       (λ i j q at.
-      let place = (h.pattern.places j i).0 record { at = q; in_lane = at.0; index = at.1 } in
+      let place = (h.pattern.entries j i).0 record { at = q; in_lane = at.0; index = at.1 } in
       let here : IsOffset m.pattern j i place.at = (place.in_lane, place.index) in
       ap f (same_read n.values m.values q place.at z (h.values j i place.at q here at))
       ∙ sym (value_at_offset R f m.pattern sm.valid m.values sm.count z j i place.at here))

@@ -101,7 +101,7 @@ module _ {R : CommRing} {T : Type 0} {f : T → R.Carrier} {z : T} {lower l : Co
       let same : (i : ℕ) → i < j → f (get_or added i z) ≡ f (get_or column i z) =
       λ i less. is i (omega (arith, less, lt))
       ∙ add_off R _ (a i) (no_entry_zero R f lower sound i j (λ place.
-      let low = done.filled.lower j i (done.included.places i j place) in
+      let low = done.filled.lower j i (done.included.entries i j place) in
       omega (arith, low, less))) in
       record {
         done = done;

@@ -47,14 +47,14 @@ triangle_low Both p i j (inr b) = b.1
 
 pub upper_is : {p t : Raw} → IsTransposedPattern p t → (i j : ℕ)
     → LowerBase t i j ↔ TriangleBase Upper p i j
-upper_is is i j = let same = is.places i j in search rules
+upper_is is i j = let same = is.entries i j in search rules
 
 pub lower_is : (p : Raw) (i j : ℕ) → LowerBase p i j ↔ TriangleBase Lower p i j
 lower_is p i j = (λ b. b, λ b. b)
 
 pub both_is : {p t : Raw} (u : Raw) → IsTransposedPattern p t → IsUnionOf u p t → (i j : ℕ)
     → LowerBase u i j ↔ TriangleBase Both p i j
-both_is u is union i j = let same = is.places i j in let has = union j i in search rules
+both_is u is union i j = let same = is.entries i j in let has = union j i in search rules
 
 -- bases with the same pairs have the same fill
 module _ {a b : ℕ → ℕ → Type 0} (same : (i j : ℕ) → a i j ↔ b i j) where
@@ -88,7 +88,7 @@ module _ (triangle : Triangle) (s t : Symbolic) (input : s.input ≡ t.input)
       record {
         major_dim = a.columns ∙ ap (λ d. d.major_dim) input ∙ sym b.columns;
         minor_dim = a.rows ∙ ap (λ d. d.minor_dim) input ∙ sym b.rows;
-        places = λ j i. both_ways (fill i j) (other_way (b.fill i j));
+        entries = λ j i. both_ways (fill i j) (other_way (b.fill i j));
       }
 
   pub factors_equal : IsTrue (symbolic_eq s t)

@@ -46,7 +46,7 @@ module _ (R : CommRing) {T : Type 0} (f : T → R.Carrier) (a u : Compressed T) 
   lower_entries t transposed i j place =
       let kept : ((plain_of_cols R f a).has j i && nat_le j i) ≡ true =
       sym (ap (λ (m : Plain R). m.has j i) upper)
-      ∙ entry_has R f u su j i ((transposed.places i j).0 place) in
+      ∙ entry_has R f u su j i ((transposed.entries i j).0 place) in
       let parts = and_parts ((plain_of_cols R f a).has j i) (nat_le j i) kept in
       (has_entry R f a sa j i parts.0, is_le j i parts.1)
 
@@ -57,5 +57,5 @@ pub lower_included : (a p t : Raw) → StoresByColumns (InFill (UpperBase a)) p
 lower_included a p t stores rows columns places = record {
   rows = rows;
   columns = columns;
-  places = λ i j place. base_stored a p stores i j (places i j place);
+  entries = λ i j place. base_stored a p stores i j (places i j place);
 }

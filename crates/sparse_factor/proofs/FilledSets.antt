@@ -37,7 +37,7 @@ module _ (R : CommRing) {T : Type 0} (f : T → R.Carrier) (l : Compressed T) (s
         → IsZeroOutside R n (plain_of_cols R f a).value (plain_of_cols R f l).has
     zero_outside a a_sound included n i j le within out = proper_rows R f a j i
         (elim (true_or_false ((plain_of_cols R f a).has i j)) [
-          | inl hit ↦ absurd (clash _ (entry_has i j (included.places i j
+          | inl hit ↦ absurd (clash _ (entry_has i j (included.entries i j
               ((has_is_place R f a.pattern a_sound.valid a.values a_sound.count j i).0 hit))) out)
           | inr miss ↦ miss
         ])

@@ -50,7 +50,7 @@ none_merged {n = n} low within f l =
           last = refl;
           lanes = λ i lt. absurd (omega arith);
         };
-        places = λ i j lt. absurd (omega arith);
+        entries = λ i j lt. absurd (omega arith);
       };
       first_count = ap length f ∙ length-replicate {A = ℕ} n 0;
       next_count = ap length l ∙ length-replicate {A = ℕ} n 0;
@@ -70,7 +70,7 @@ module _ {base : ℕ → ℕ → Type 0} {n : ℕ} {offsets rows firsts nexts : 
 
   pub column_has : (k i : ℕ) → k < j → IsInColumn offsets rows k i ↔ Filled base i k
   column_has k i lt =
-      both_ways (lane_entry (raw_of j n offsets rows) k i lt) (are.built.places k i lt)
+      both_ways (lane_entry (raw_of j n offsets rows) k i lt) (are.built.entries k i lt)
 
   pub are_columns : AreColumns offsets rows
   are_columns =

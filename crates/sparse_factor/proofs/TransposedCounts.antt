@@ -35,6 +35,6 @@ no_more_entries {d} {t} valid-d valid-t into =
 pub transposed_count : {d t : Raw} → IsValid d → IsValid t → IsTransposedPattern d t
     → nnz_of t ≡ nnz_of d
 transposed_count valid-d valid-t transposed =
-    let up = no_more_entries valid-d valid-t (λ i j h. (transposed.places i j).1 h) in
-    let down = no_more_entries valid-t valid-d (λ j i h. (transposed.places i j).0 h) in
+    let up = no_more_entries valid-d valid-t (λ i j h. (transposed.entries i j).1 h) in
+    let down = no_more_entries valid-t valid-d (λ j i h. (transposed.entries i j).0 h) in
     omega arith

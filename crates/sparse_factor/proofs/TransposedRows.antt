@@ -14,11 +14,11 @@ lane_is_row p t transposed valid j lt =
     let lane = valid.lanes j lt in
     record {
       rising = λ q r less within. lane_rises t j lane q r less within;
-      stored = λ q within. (transposed.places (slice_index (lane_of t j) q) j).0
+      stored = λ q within. (transposed.entries (slice_index (lane_of t j) q) j).0
           ((lane_has t valid j (slice_index (lane_of t j) q) lt).0
           (Contains-get_or (lane_of t j) q 0 within));
       all = λ k place.
-          let there : IsEntry t j k = (transposed.places k j).1 place in
+          let there : IsEntry t j k = (transposed.entries k j).1 place in
           let q = there.at - start_of t j in
           let back : start_of t j + q ≡ there.at = omega (arith, there.in_lane.from) in
           let within : q < length (lane_of t j) =

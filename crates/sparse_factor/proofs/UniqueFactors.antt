@@ -32,7 +32,7 @@ module _ (R : CommRing) {T : Type 0} (f : T → R.Carrier) (z : T) (a l : Compre
         → StoresByColumns (InFill (UpperBase a.pattern)) l.pattern
         → AreFactorsOf R f z b (factors_of l d)
     factors_same b sa sb same stores = record {
-      places = same_fill R f a b sa sb same l.pattern stores;
+      entries = same_fill R f a b sa sb same l.pattern stores;
       factors = factorisation_same R f (symmetric_of R f a) (symmetric_of R f b)
           (plain_of_cols R f l) (elements R f z d) (same_rows R f a b sa sb same)
           (same_symmetric R f a b sa sb same) factors;

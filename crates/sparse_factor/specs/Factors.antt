@@ -58,7 +58,7 @@ module _ (R : CommRing) {T : Type 0} (f : T → R.Carrier) (z : T) where
 
   -- the factors of the symmetric matrix of a, where the pattern of L is exactly the fill
   pub record AreFactorsOf (a : Compressed T) (s : Factors T) : Type 0 where
-    pub places : StoresByColumns (InFill (UpperBase a.pattern)) s.l.pattern
+    pub entries : StoresByColumns (InFill (UpperBase a.pattern)) s.l.pattern
     pub factors : IsFactorisation R f (symmetric_of R f a) (plain_of_cols R f s.l) (diagonal s.d)
 
   -- every factorisation has the values of these factors

@@ -77,7 +77,7 @@ pub record IsFilledPattern (p : Raw) : Type 0 where
 pub record IsIncluded (q p : Raw) : Type 0 where
   pub rows : q.minor_dim ≡ p.minor_dim
   pub columns : q.major_dim ≡ p.major_dim
-  pub places : (i j : ℕ) → IsEntry q j i → IsEntry p j i
+  pub entries : (i j : ℕ) → IsEntry q j i → IsEntry p j i
 
 module _ (R : CommRing) {T : Type 0} (f : T → R.Carrier) (z : T) where
   -- entry i of y is that of x times that of `factors`

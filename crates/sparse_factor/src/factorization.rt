@@ -201,7 +201,7 @@ fn fill_of(
     requires square { pattern.now.major_dim ≡ pattern.now.minor_dim }
     ensures rows { IfOk result (λ l. l.minor_dim ≡ pattern.now.minor_dim) }
     ensures columns { IfOk result (λ l. l.major_dim ≡ pattern.now.major_dim) }
-    ensures places { IfOk result (λ l. (i j : ℕ)
+    ensures entries { IfOk result (λ l. (i j : ℕ)
         → IsEntry l j i ↔ Filled (TriangleBase triangle pattern.now) i j) }
     ensures valid { IfOk result IsValid }
 {
@@ -225,7 +225,7 @@ fn fill_of_upper(
     requires square { pattern.now.major_dim ≡ pattern.now.minor_dim }
     ensures rows { IfOk result (λ l. l.minor_dim ≡ pattern.now.minor_dim) }
     ensures columns { IfOk result (λ l. l.major_dim ≡ pattern.now.major_dim) }
-    ensures places { IfOk result (λ l. (i j : ℕ)
+    ensures entries { IfOk result (λ l. (i j : ℕ)
         → IsEntry l j i ↔ Filled (UpperBase pattern.now) i j) }
     ensures valid { IfOk result IsValid }
     ensures all_read { OnOk result (steps.old + nnz_of pattern.now ≤ steps.new) }
@@ -248,7 +248,7 @@ fn fill_below(
     requires square { base.now.major_dim ≡ base.now.minor_dim }
     ensures rows { IfOk result (λ l. l.minor_dim ≡ base.now.minor_dim) }
     ensures columns { IfOk result (λ l. l.major_dim ≡ base.now.major_dim) }
-    ensures places { IfOk result (λ l. (i j : ℕ)
+    ensures entries { IfOk result (λ l. (i j : ℕ)
         → IsEntry l j i ↔ Filled (LowerBase base.now) i j) }
     ensures valid { IfOk result IsValid }
     ensures all_read { OnOk result (steps.old + nnz_of base.now ≤ steps.new) }
@@ -281,7 +281,7 @@ impl PartialEq for CscSymbolicCholesky {
 
     fn eq(&self, other: &Self) -> bool
         ensures value { result ≡ symbolic_eq self.now other.now }
-        ensures places { IsTrue result ↔ (HasSameEntries self.now.input other.now.input
+        ensures entries { IsTrue result ↔ (HasSameEntries self.now.input other.now.input
             × HasSameEntries self.now.factor other.now.factor) }
     {
         self.pattern == other.pattern && self.l_pattern == other.l_pattern

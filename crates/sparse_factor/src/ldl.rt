@@ -87,7 +87,7 @@ impl<T: Units> Ldl<T> {
         requires square { a.now.pattern.minor_dim ≡ a.now.pattern.major_dim }
         ensures rows { IfOk result (λ s. s.l.pattern.minor_dim ≡ a.now.pattern.minor_dim) }
         ensures count { IfOk result (λ s. length s.d ≡ a.now.pattern.minor_dim) }
-        ensures places { IfOk result (λ s.
+        ensures entries { IfOk result (λ s.
             StoresByColumns (InFill (UpperBase a.now.pattern)) s.l.pattern) }
         ensures unit_diagonal { IfOk result (λ s.
             IsUnitLower T.ring (plain_of_cols T.ring T.value s.l)) }

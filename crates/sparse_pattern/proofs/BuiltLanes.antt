@@ -18,7 +18,7 @@ minor_index_below d valid i j place =
 pub record IsBuilt (minor_dim : ℕ) (P : ℕ → ℕ → Type 0) (n : ℕ) (offsets indices : List ℕ) : Type
     0 where
   pub valid : IsValid (raw_of n minor_dim offsets indices)
-  pub places : (i j : ℕ) → i < n → IsEntry (raw_of n minor_dim offsets indices) i j ↔ P i j
+  pub entries : (i j : ℕ) → i < n → IsEntry (raw_of n minor_dim offsets indices) i j ↔ P i j
 
 module _ (m : ℕ) (P : ℕ → ℕ → Type 0) (n : ℕ) where
   -- appending the lane n builds n + 1 lanes
@@ -29,7 +29,7 @@ module _ (m : ℕ) (P : ℕ → ℕ → Type 0) (n : ℕ) where
       → IsBuilt m P (n + 1) (offsets ++ length (indices ++ lane) ∷ []) (indices ++ lane)
   lane_built offsets indices lane valid places rising bounded holds = record {
     valid = valid_pushed m n offsets indices lane valid rising bounded;
-    places = λ i j i_lt. elim (lt_add_one_cases i n i_lt) [
+    entries = λ i j i_lt. elim (lt_add_one_cases i n i_lt) [
       | inl old ↦
           let kept = entries_kept m n offsets indices lane valid rising bounded i j old in
           let was = places i j old in
@@ -47,7 +47,7 @@ module _ (m : ℕ) (P : ℕ → ℕ → Type 0) (n : ℕ) where
       → ((j : ℕ) → P n j → j < m) → GainsLane indices indices' (P n)
       → offsets' ≡ offsets ++ length indices' ∷ [] → IsBuilt m P (n + 1) offsets' indices'
   lane_gained offsets offsets' indices indices' built below gains is =
-      rw (is, gains.pushed) (lane_built offsets indices gains.lane built.valid built.places
+      rw (is, gains.pushed) (lane_built offsets indices gains.lane built.valid built.entries
       gains.rising (λ j h. below j ((gains.holds j).0 h)) gains.holds)
 
 -- once all lanes are built, the entries are the pairs for which P holds
@@ -57,8 +57,8 @@ pub all_built : (m : ℕ) (P : ℕ → ℕ → Type 0) (n rows : ℕ) (d : Raw) 
 all_built m P n rows d offsets indices whole is within built i j =
     let so_far : Raw = raw_of n m offsets indices in
     let same : d ≡ so_far = is ∙ ap (λ k. raw_of k m offsets indices) (sym whole) in (
-      λ h. let here = subst (λ d. IsEntry d i j) same h in (built.places i j here.in_lane.lane).0
+      λ h. let here = subst (λ d. IsEntry d i j) same h in (built.entries i j here.in_lane.lane).0
           here,
       λ h. subst (λ d. IsEntry d i j) (sym same)
-          ((built.places i j (omega (arith, within i j h))).1 h),
+          ((built.entries i j (omega (arith, within i j h))).1 h),
     )

@@ -82,7 +82,7 @@ module _ (d : Raw) (valid : IsValid d) where
       own_transpose square = record {
         major_dim = sym square;
         minor_dim = square;
-        places = λ i j. (swapped j i, swapped i j);
+        entries = λ i j. (swapped j i, swapped i j);
       }
 
       pub moved_values : AreTransposedValues d d vs ws

@@ -108,8 +108,8 @@ module _ (a b : Raw) (va : IsValid a) (vb : IsValid b) (same : HasSameEntries a 
       let wa = va.lanes i lane in
       let wb = vb.lanes i lane' in
       rising_same _ _ (lane_rises a i wa) (lane_rises b i wb)
-      (λ x h. has_from_entry b i x wb ((same.places i x).0 (entry_from_has a i x lane wa h)))
-      (λ x h. has_from_entry a i x wa ((same.places i x).1 (entry_from_has b i x lane' wb h)))
+      (λ x h. has_from_entry b i x wb ((same.entries i x).0 (entry_from_has a i x lane wa h)))
+      (λ x h. has_from_entry a i x wa ((same.entries i x).1 (entry_from_has b i x lane' wb h)))
 
   starts_same : (i : ℕ) → i ≤ a.major_dim → start_of a i ≡ start_of b i
   starts_same zero le = va.first ∙ sym vb.first
@@ -184,7 +184,7 @@ raw_eq-HasSameEntries a b va vb r is = (
   λ yes. subst (HasSameEntries a) (same_from_raw_eq a b va vb (sym is ∙ yes)) record {
     major_dim = refl;
     minor_dim = refl;
-    places = λ i j. (λ h. h, λ h. h);
+    entries = λ i j. (λ h. h, λ h. h);
   },
   λ same. is ∙ raw_eq-from_same a b (equal_from_entries a b va vb same),
 )

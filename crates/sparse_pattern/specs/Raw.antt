@@ -88,4 +88,4 @@ raw_eq = eq_of_both (eq_of_both (on (λ d. d.minor_dim) ◌==◌) (on (λ d. d.o
 pub record HasSameEntries (a b : Raw) : Type 0 where
   pub major_dim : a.major_dim ≡ b.major_dim
   pub minor_dim : a.minor_dim ≡ b.minor_dim
-  pub places : (i j : ℕ) → IsEntry a i j ↔ IsEntry b i j
+  pub entries : (i j : ℕ) → IsEntry a i j ↔ IsEntry b i j

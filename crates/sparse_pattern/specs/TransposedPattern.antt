@@ -6,7 +6,7 @@ use Rattle.sparse_pattern.specs.Raw.{Raw, IsInLane, IsEntry}
 pub record IsTransposedPattern (d t : Raw) : Type 0 where
   pub major_dim : t.major_dim ≡ d.minor_dim
   pub minor_dim : t.minor_dim ≡ d.major_dim
-  pub places : (i j : ℕ) → IsEntry t j i ↔ IsEntry d i j
+  pub entries : (i j : ℕ) → IsEntry t j i ↔ IsEntry d i j
 
 -- ws has at the entry (j, i) of t the value that vs has at the entry (i, j) of d
 abbrev pub AreTransposedValues : {T : Type 0} → Raw → Raw → List T → List T → Type 0

@@ -9,7 +9,7 @@ pub record IsPermutedPattern (p : List ℕ) (a d : Raw) : Type 0 where
   pub valid : IsValid d
   pub major_dim : d.major_dim ≡ a.major_dim
   pub minor_dim : d.minor_dim ≡ a.minor_dim
-  pub places : (i j : ℕ) → IsEntry d i j
+  pub entries : (i j : ℕ) → IsEntry d i j
       ↔ ((i < a.major_dim) × (j < a.minor_dim) × IsEntry a (slice_index p i) (slice_index p j))
 
 -- d is the dense matrix P a: of the same shape, and its row i is the row p i of a

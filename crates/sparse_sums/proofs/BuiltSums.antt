@@ -17,7 +17,7 @@ module _ {R : CommRing} {T : Type 0} {f : T → R.Carrier} where
           last = refl;
           lanes = λ i lt. absurd (omega arith);
         };
-        places = λ i j lt. absurd (omega arith);
+        entries = λ i j lt. absurd (omega arith);
       };
       count = refl;
       values_are = λ i j lt. absurd (omega arith);

@@ -37,24 +37,24 @@ module _ (d : Raw) (valid : IsValid d) where
 
 -- the operand has an entry at each (i, j) of `rest`, and for each other entry of it the target has one at (j, i)
 pub record AreCovered (d a : Raw) (rest : List (ℕ × ℕ)) : Type 0 where
-  pub places : (i j : ℕ) → Contains rest (i, j) → IsEntry a i j
+  pub entries : (i j : ℕ) → Contains rest (i, j) → IsEntry a i j
   pub covered : (i j : ℕ) → IsEntry a i j → Contains rest (i, j) ⊎ IsEntry d j i
 
 pub none_covered : (d a : Raw) → IsValid a → AreCovered d a (entries_of a)
 none_covered d a valid = record {
-  places = λ i j h. (Contains-entries_of a valid i j).0 h;
+  entries = λ i j h. (Contains-entries_of a valid i j).0 h;
   covered = λ i j place. inl ((Contains-entries_of a valid i j).1 place);
 }
 
 module _ {d a : Raw} {rest more : List (ℕ × ℕ)} {i j : ℕ} (next : rest ≡ (i, j) ∷ more)
     (so_far : AreCovered d a rest) where
   pub next_is_entry : IsEntry a i j
-  next_is_entry = so_far.places i j
+  next_is_entry = so_far.entries i j
       (subst (λ xs. Contains xs (i, j)) (sym next) (0, omega arith, refl))
 
   pub covered_more : IsEntry d j i → AreCovered d a more
   covered_more place = record {
-    places = λ k l h. so_far.places k l
+    entries = λ k l h. so_far.entries k l
         (subst (λ xs. Contains xs (k, l)) (sym next) (suc h.0, omega (arith, h.1), h.2));
     covered = λ k l here. elim (so_far.covered k l here) [
       | inl left ↦
@@ -79,7 +79,7 @@ all_covered end so_far i j place = elim (so_far.covered i j place) [
 pub record AreAdding (R : CommRing) {T : Type 0} (f : T → R.Carrier) (z : T) (d : Raw)
     (alpha : R.Carrier) (all rest : List (ℕ × ℕ × T)) (start now : List T) : Type 0 where
   pub count : length now ≡ length start
-  pub places : All (λ t. IsEntry d t.1 t.0) rest
+  pub entries : All (λ t. IsEntry d t.1 t.0) rest
   pub sums : (i j p : ℕ) → IsOffset d i j p
       → R.add (f (get_or now p z)) (R.mul alpha (value_at R f rest j i)) ≡ R.add
       (f (get_or start p z)) (R.mul alpha (value_at R f all j i))
@@ -89,7 +89,7 @@ module _ {R : CommRing} {T : Type 0} {f : T → R.Carrier} {z : T} {d : Raw} {al
     (so_far : AreAdding R f z d alpha all rest start now) where
   module _ {more : List (ℕ × ℕ × T)} {t : ℕ × ℕ × T} (next : rest ≡ t ∷ more) where
     pub next_entry : IsEntry d t.1 t.0
-    next_entry = subst (All (λ t. IsEntry d t.1 t.0)) next so_far.places 0 t (omega arith)
+    next_entry = subst (All (λ t. IsEntry d t.1 t.0)) next so_far.entries 0 t (omega arith)
 
     module _ (long : length start ≡ length d.indices) (q : ℕ)
         (found : find_offset d t.1 t.0 ≡ Some q) (w : T)
@@ -118,8 +118,8 @@ module _ {R : CommRing} {T : Type 0} {f : T → R.Carrier} {z : T} {d : Raw} {al
       pub adding_more : AreAdding R f z d alpha all more start (set now q w)
       adding_more = record {
         count = length-set now q w ∙ so_far.count;
-        places = All-tail (λ t. IsEntry d t.1 t.0) t more
-            (subst (All (λ t. IsEntry d t.1 t.0)) next so_far.places);
+        entries = All-tail (λ t. IsEntry d t.1 t.0) t more
+            (subst (All (λ t. IsEntry d t.1 t.0)) next so_far.entries);
         sums = λ i j p here.
             let v = f t.2 in
             let m = value_at R f more j i in

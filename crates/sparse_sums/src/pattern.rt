@@ -25,7 +25,7 @@ pub fn spadd_pattern(
     requires width { a.now.minor_dim ≡ b.now.minor_dim }
     ensures major { IfOk result (λ p. p.major_dim ≡ a.now.major_dim) }
     ensures minor { IfOk result (λ p. p.minor_dim ≡ a.now.minor_dim) }
-    ensures places { IfOk result (λ p. IsUnionOf p a.now b.now) }
+    ensures entries { IfOk result (λ p. IsUnionOf p a.now b.now) }
     ensures valid { IfOk result IsValid }
 {
     let room = a.minor_indices().len() + b.minor_indices().len();

@@ -56,7 +56,7 @@ fn lower_triangle<T: Ring>(alloc: Global, a: &CscMatrix<T>) -> Result<CscMatrix<
     ensures columns { IfOk result (λ m. m.pattern.major_dim ≡ a.now.pattern.minor_dim) }
     ensures plain { IfOk result (λ m. plain_of_cols T.ring T.value m ≡ plain_transpose T.ring
         (plain_upper T.ring (plain_of_cols T.ring T.value a.now))) }
-    ensures places { IfOk result (λ m. (i j : ℕ) → IsEntry m.pattern j i
+    ensures entries { IfOk result (λ m. (i j : ℕ) → IsEntry m.pattern j i
         → UpperBase a.now.pattern i j) }
 {
     recall(a.values());

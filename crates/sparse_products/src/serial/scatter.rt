@@ -33,7 +33,7 @@ pub(super) fn scatter_rows<T: Ring>(
 ) -> Result<(), AllocError>
     requires sizes { CanUpdate update.matrices pattern.now values.old }
     requires width { update.matrices.b.now.pattern.minor_dim ≡ pattern.now.minor_dim }
-    requires places { ContainsProduct pattern.now update.matrices.a.now.pattern
+    requires contained { ContainsProduct pattern.now update.matrices.a.now.pattern
         update.matrices.b.now.pattern }
     ensures unchanged { OnErr result (values.new ≡ values.old) }
     ensures updated { OnOk result
@@ -75,7 +75,7 @@ fn scatter_row<T: Ring>(
     requires sizes { CanUpdate update.now.matrices pattern.now values.old }
     requires lane { i < pattern.now.major_dim }
     requires cols { update.now.matrices.b.now.pattern.minor_dim ≡ pattern.now.minor_dim }
-    requires places { (j : ℕ) → IsInRow update.now.matrices i j → IsEntry pattern.now i j }
+    requires contained { (j : ℕ) → IsInRow update.now.matrices i j → IsEntry pattern.now i j }
     requires width { length row.old ≡ pattern.now.minor_dim }
     requires zero { IsZeroRow T.ring T.value T.zero_value row.old }
     ensures zero { IsZeroRow T.ring T.value T.zero_value row.new }

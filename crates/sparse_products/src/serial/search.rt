@@ -114,7 +114,7 @@ pub(super) fn search_rows<T: Ring>(
     steps: &mut Steps,
 )
     requires sizes { CanUpdate update.matrices pattern.now values.old }
-    requires places { ContainsProduct pattern.now update.matrices.a.now.pattern
+    requires contained { ContainsProduct pattern.now update.matrices.a.now.pattern
         update.matrices.b.now.pattern }
     ensures updated { IsUpdated T.ring T.value update.entry pattern.now values.old values.new }
     ensures counted { steps.new ≡ steps.old + steps_of update.entry.matrices pattern.now }

@@ -75,7 +75,7 @@ fn merge_into<T: Ring, A: Operand<T>, B: Operand<T>>(
 //
 // Fails only if an allocation fails.
 #[tactic(auto, using(sparse_algebra::proofs::EarlyReturns::early_return))]
-#[inline(always)]
+#[inline(never)]
 pub(crate) fn append_sum<T: Ring, const NEGATE: bool>(
     a: &[usize],
     a_values: &[T],

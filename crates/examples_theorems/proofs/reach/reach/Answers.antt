@@ -9,4 +9,4 @@ returns-clause-walks c =
     let d = c.in_ok-start.start in
     let P : ℕ → Type 0 = λ n. IsDiagonal d n in
     let is : IsDiagonal d p.major_dim = subst P c.major_dim.ensures c.in_ok-start.ensures.diagonal in
-    c.in_ok-reached.ensures.steps p d is c.in_ok-step.ensures.places (diagonal-walks p d is)
+    c.in_ok-reached.ensures.steps p d is c.in_ok-step.ensures.entries (diagonal-walks p d is)

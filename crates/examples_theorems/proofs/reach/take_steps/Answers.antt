@@ -16,7 +16,7 @@ loop-length-preserved c =
       major = omega (arith, found.major, c.requires.lanes);
       minor = found.minor ∙ old.minor;
       steps = subst P one_more
-          (more-steps b c.args.start c.loop-length.reached next k old.steps found.places);
+          (more-steps b c.args.start c.loop-length.reached next k old.steps found.entries);
     }
 
 pub returns-clause-steps : goal.returns-clause-steps

@@ -21,4 +21,4 @@ returns-clause-entries c =
     c.in_ok-rows.ensures.entries in
     triplets_placed c.args.triplets.now c.in_ok-pattern.pattern c.in_ok-columns.columns
     c.in_ok-transposed.transposed c.in_ok-rows.rows of_columns of_rows
-    c.in_ok-transposed.ensures.transposed c.in_ok-pattern.ensures.places
+    c.in_ok-transposed.ensures.transposed c.in_ok-pattern.ensures.entries

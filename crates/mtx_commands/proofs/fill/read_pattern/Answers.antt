@@ -14,14 +14,14 @@ IsRead-from_list : {E : Type 0} (m : Coo (Unit {0})) (text : List ℕ)
     → Means pattern_scalar text (Ok (values_of (λ x. x) m)) → (r : Result Raw E)
     → IfOk r (λ p. p.major_dim ≡ m.ncols) → IfOk r (λ p. p.minor_dim ≡ m.nrows)
     → IfOk r (λ p. (i j : ℕ) → IsEntry p j i ↔ HasTriplet m i j) → IfOk r IsRead
-IsRead-from_list m text meant (Ok p) columns rows places = record {
+IsRead-from_list m text meant (Ok p) columns rows entries = record {
   text = text;
   list = m;
   meant = subst (λ (l : Coo (Unit {0})). Means pattern_scalar text (Ok l))
       (ap (coo_of m.nrows m.ncols) (map-id m.triplets)) meant;
   rows = rows;
   columns = columns;
-  places = places;
+  entries = entries;
 }
 IsRead-from_list m text meant (Err e) columns rows places = tt
 

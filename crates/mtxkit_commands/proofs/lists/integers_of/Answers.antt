@@ -31,8 +31,8 @@ returns-clause-reduced g c =
     (λ m is. subst (All (λ z. reduced z ≡ z)) (sym is) c.in_ok-integers.ensures.reduced)
     c.with_values.ensures.values
 
-pub returns-clause-places : goal.returns-clause-places
-returns-clause-places g c =
+pub returns-clause-coordinates : goal.returns-clause-coordinates
+returns-clause-coordinates g c =
     let R = g.T.Ring.ring in
     let value = g.T.Ring.value in
     let long = length-revalued c.args.list.now c.in_ok-integers.integers.items R (element_of R) value

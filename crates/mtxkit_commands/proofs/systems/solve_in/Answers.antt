@@ -23,7 +23,7 @@ returns-in-Ok g c =
           (plain_of_integers R c.in_ok-integers_of-in-Ok.field-0)
           (plain_of_coo R value c.in_ok-b.b) (plain_of_integers R c.args.b.now) a (sym x) b
           c.in-Ok.ensures.solved;
-      order = subst IsByColumns (sym c.in_ok-integers_of-in-Ok.ensures.places)
+      order = subst IsByColumns (sym c.in_ok-integers_of-in-Ok.ensures.coordinates)
           c.in-Ok.ensures.order;
       nonzero = c.in_ok-integers_of-in-Ok.ensures.nonzero c.in-Ok.ensures.nonzero;
       values = c.in_ok-integers_of-in-Ok.ensures.reduced;

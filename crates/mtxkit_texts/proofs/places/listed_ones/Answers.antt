@@ -12,8 +12,8 @@ pub with_values-requires : goal.with_values-requires
 with_values-requires c =
     ap length c.in_ok-ones.ensures ∙ length-replicate c.nnz.result c.new.result ∙ c.nnz.ensures
 
-pub returns-clause-places : goal.returns-clause-places
-returns-clause-places c =
+pub returns-clause-entries : goal.returns-clause-entries
+returns-clause-entries c =
     let ts = c.args.places.now.triplets in
     let vs = c.in_ok-ones.ones.items in
     let same = ap length c.in_ok-ones.ensures ∙ length-replicate c.nnz.result c.new.result

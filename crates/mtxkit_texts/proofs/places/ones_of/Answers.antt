@@ -8,5 +8,5 @@ returns-clause-ones g c =
     (sym (c.joined.ensures.values ∙ c.in_ok-ones.ensures))
     (All-replicate (λ v. g.T.Ring.value v ≡ g.T.Ring.ring.one) _ _ c.one.ensures)
 
-pub returns-clause-places : goal.returns-clause-places
-returns-clause-places g c = rw c.joined.ensures.pattern c.in_ok-pattern.ensures
+pub returns-clause-entries : goal.returns-clause-entries
+returns-clause-entries g c = rw c.joined.ensures.pattern c.in_ok-pattern.ensures

@@ -11,8 +11,8 @@ returns c =
     rw c.into_pattern_and_values-pattern.ensures.pattern (record {
       rows = ap (λ (p : Plain ring64). p.rows) plain ∙ c.in_ok-listed.ensures.rows;
       cols = ap (λ (p : Plain ring64). p.cols) plain ∙ c.in_ok-listed.ensures.cols;
-      places = λ i j.
+      entries = λ i j.
           let place = have.places i j in
-          let has = ap (λ (p : Plain ring64). p.has i j) plain ∙ c.in_ok-listed.ensures.places i j in
+          let has = ap (λ (p : Plain ring64). p.has i j) plain ∙ c.in_ok-listed.ensures.entries i j in
           (λ p. sym has ∙ place.0 p, λ e. place.1 (has ∙ e));
     })

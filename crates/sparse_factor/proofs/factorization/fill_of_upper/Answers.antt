@@ -3,10 +3,10 @@ use Rattle.sparse_factor.proofs.FactorLaws.{upper_is, entries_at_ok, lists_same}
 use Rattle.sparse_factor.proofs.TransposedCounts.{transposed_count}
 use Rattle.sparse_factor.proofs.factorization.fill_of_upper.Goals as goal
 
-pub returns-clause-places : goal.returns-clause-places
-returns-clause-places c =
+pub returns-clause-entries : goal.returns-clause-entries
+returns-clause-entries c =
     entries_at_ok (upper_is c.in_ok-mirrored.ensures.transposed) c.fill_below.result
-    c.fill_below.ensures.places
+    c.fill_below.ensures.entries
 
 pub returns-clause-all_read : goal.returns-clause-all_read
 returns-clause-all_read c =

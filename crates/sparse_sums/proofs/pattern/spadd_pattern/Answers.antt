@@ -30,8 +30,8 @@ loop-i-preserved c =
           (c.len.ensures ∙ now.indices.ok.0));
     }
 
-pub returns-clause-places : goal.returns-clause-places
-returns-clause-places c =
+pub returns-clause-entries : goal.returns-clause-entries
+returns-clause-entries c =
     let whole : c.loop-i.i ≡ c.args.a.now.major_dim = omega arith in
     rw (c.from_offset_and_indices_unchecked.ensures, c.major_dim.ensures, c.minor_dim.ensures)
     (union_all c.args.a.now c.args.b.now c.minor_indices.ensures.valid

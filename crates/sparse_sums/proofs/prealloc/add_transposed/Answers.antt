@@ -13,7 +13,7 @@ loop-i-init g c =
     let all : c.into_iter-i-iterator.result ≡ lane_triplets a = search rules in
     rw all (record {
       count = refl;
-      places = λ k t lt. c.requires.covered (get_or (lane_triplets a) k t).0
+      entries = λ k t lt. c.requires.covered (get_or (lane_triplets a) k t).0
           (get_or (lane_triplets a) k t).1 (lane_triplets-places a
           c.triplet_iter-i-items.ensures.sound k t lt);
       sums = λ i j p at. refl;

@@ -9,14 +9,14 @@ returns c =
           let s = same.0 is in
           record {
             square = s.major_dim ∙ t.major_dim;
-            places = λ i j place. (t.places j i).0 ((s.places i j).0 place);
+            entries = λ i j place. (t.entries j i).0 ((s.entries i j).0 place);
           },
       λ s. same.1 (record {
         major_dim = s.square ∙ sym t.major_dim;
         minor_dim = sym s.square ∙ sym t.minor_dim;
-        places = λ i j. (
-          λ place. (t.places j i).1 (s.places i j place),
-          λ place. s.places j i ((t.places j i).0 place),
+        entries = λ i j. (
+          λ place. (t.entries j i).1 (s.entries i j place),
+          λ place. s.entries j i ((t.entries j i).0 place),
         );
       }),
     )

@@ -15,9 +15,9 @@ returns-in-Ok-spmm_csr_pattern-clause-counted c = λ _.
       rows = c.in-Ok-spmm_csr_pattern.ensures.major ∙ ap (λ d. d.major_dim) c.in-Ok.ensures.is;
       cols = c.in-Ok-spmm_csr_pattern.ensures.minor
           ∙ ap (λ d. d.minor_dim) c.in-Ok-pattern_of.ensures.is;
-      places = subst (λ d. IsProductOf p d b) c.in-Ok.ensures.is
+      entries = subst (λ d. IsProductOf p d b) c.in-Ok.ensures.is
           (subst (IsProductOf p c.in-Ok.a) c.in-Ok-pattern_of.ensures.is
-          c.in-Ok-spmm_csr_pattern.ensures.places);
+          c.in-Ok-spmm_csr_pattern.ensures.entries);
       count = c.nnz.ensures;
     }
 

@@ -24,7 +24,7 @@ returns-clause-factors g c =
     (plain_of_cols R f p.0) (diagonal R f z p.1)) (λ k. (sym columns k, sym pivots k))
     (AreFactors-arrays R f z c.args.a c.in_ok-a.a s c.in_ok-a.ensures.pattern
     c.in_ok-a.ensures.plain
-    facts.rows facts.count (subst IsSound copied c.values.ensures.sound) facts.places
+    facts.rows facts.count (subst IsSound copied c.values.ensures.sound) facts.entries
     facts.unit_diagonal facts.pivots facts.equation)
 
 pub returns-in_err-factors-clause-fault : goal.returns-in_err-factors-clause-fault

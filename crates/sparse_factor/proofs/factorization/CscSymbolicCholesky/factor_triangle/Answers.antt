@@ -6,15 +6,15 @@ use Rattle.sparse_factor.proofs.factorization.CscSymbolicCholesky.factor_triangl
 pub returns-clause-fill : goal.returns-clause-fill
 returns-clause-fill c =
     let l = c.in_ok-l_pattern.ensures in
-    stores_fill l.places l.valid
+    stores_fill l.entries l.valid
 
 pub returns-clause-fill_paths : goal.returns-clause-fill_paths
 returns-clause-fill_paths c =
-    stores_fill_paths (triangle_low c.args.triangle c.args.pattern) c.in_ok-l_pattern.ensures.places
+    stores_fill_paths (triangle_low c.args.triangle c.args.pattern) c.in_ok-l_pattern.ensures.entries
 
 pub returns-clause-diagonal : goal.returns-clause-diagonal
 returns-clause-diagonal c =
-    stores_diagonal (triangle_low c.args.triangle c.args.pattern) c.in_ok-l_pattern.ensures.places
+    stores_diagonal (triangle_low c.args.triangle c.args.pattern) c.in_ok-l_pattern.ensures.entries
 
 -- ---- written by tools/answer-goals
 

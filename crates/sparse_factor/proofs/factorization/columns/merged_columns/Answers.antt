@@ -122,8 +122,8 @@ pub returns-in_err-push-clause-no_more : goal.returns-in_err-push-clause-no_more
 returns-in_err-push-clause-no_more g c =
     steps_within g (goal.at.returns-in_err-push-clause-no_more g c).After-append_column
 
-pub returns-clause-places : goal.returns-clause-places
-returns-clause-places g c = λ i j.
+pub returns-clause-entries : goal.returns-clause-entries
+returns-clause-entries g c = λ i j.
     let l = c.loop-column in
     let n = c.major_dim-size.result in
     let are = l.invariant.merged in

@@ -13,8 +13,8 @@ returns-clause-count g c = c.in_ok-l.ensures.count
     ∙ ap (λ p. p.minor_dim) c.into_l_pattern.ensures ∙ c.in_ok-symbolic.ensures.rows
     ∙ ap (λ p. p.minor_dim) (c.in_ok-clone.ensures ∙ c.pattern.ensures.pattern)
 
-pub returns-clause-places : goal.returns-clause-places
-returns-clause-places g c = rw (
+pub returns-clause-entries : goal.returns-clause-entries
+returns-clause-entries g c = rw (
   c.in_ok-l.ensures.pattern,
   c.into_l_pattern.ensures,
   ← c.pattern.ensures.pattern,
@@ -39,7 +39,7 @@ pub returns-clause-upper_only : goal.returns-clause-upper_only
 returns-clause-upper_only g c = λ b sound same. (
   factors_same g.T.Ring.ring g.T.Ring.value g.T.Zero.zero_value c.args.a.now c.in_ok-l.l
       c.in_ok-l.d.items c.in_ok-l.ensures.factors b c.pattern.ensures.sound sound same
-      (returns-clause-places g c),
+      (returns-clause-entries g c),
   tt,
 )
 

@@ -19,7 +19,7 @@ factor_lower-requires-clause-included g c =
     let lower = c.in_ok-lower.ensures in
     rw c.in_ok-l.ensures.pattern (lower_included c.args.a.now.pattern c.args.pattern
     c.in_ok-lower.lower.pattern need.fill (lower.rows ∙ sym need.square ∙ sym need.rows)
-    (lower.columns ∙ need.square ∙ sym need.columns) lower.places)
+    (lower.columns ∙ need.square ∙ sym need.columns) lower.entries)
 
 pub returns-clause-factors : goal.returns-clause-factors
 returns-clause-factors g c =

@@ -15,8 +15,8 @@ returns-clause-plain g c =
     (λ t transposed sound. c.transpose_law.ensures.cols u t upper.sound sound transposed
     ∙ ap (plain_transpose R) kept) c.transpose-2.ensures.transposed c.transpose-2.ensures.sound
 
-pub returns-clause-places : goal.returns-clause-places
-returns-clause-places g c =
+pub returns-clause-entries : goal.returns-clause-entries
+returns-clause-entries g c =
     let a = c.args.a.now in
     let u = c.in_ok-upper_triangle.field-0 in
     let upper = c.in_ok-upper_triangle.ensures in

@@ -16,7 +16,7 @@ update_covered-requires g c =
     let d = c.in_ok-pattern.pattern in
     let places : IsProductOf d x.a.now.pattern x.b.now.pattern =
     rw (c.pattern.ensures.pattern, c.pattern-2.ensures.pattern) at
-    c.in_ok-pattern.ensures.places in
+    c.in_ok-pattern.ensures.entries in
     let sizes : CanUpdate x d c.deref_mut.result.now = record {
       inner = c.requires;
       lanes = sym (c.in_ok-pattern.ensures.major
@@ -40,7 +40,7 @@ returns g c =
     let d = c.in_ok-pattern.pattern in
     let places : IsProductOf d x.a.now.pattern x.b.now.pattern =
     rw (c.pattern.ensures.pattern, c.pattern-2.ensures.pattern) at
-    c.in_ok-pattern.ensures.places in
+    c.in_ok-pattern.ensures.entries in
     let sound : IsSound (compressed_of d c.deref_mut.result.now) = record {
       valid = c.in_ok-pattern.ensures.valid;
       count = omega (arith, c.deref_mut.ensures.len, c.in_ok-resize.ensures.len, c.nnz.ensures);

@@ -91,7 +91,7 @@ returns g c =
     rw offsets_are record {
       zero = left_zero R f (λ j. R.mul alpha (x i j)) g.met.T.Ring.zero_law
           (λ j none. ap (R.mul alpha) (zero_off R f sa sb c.requires.sizes.inner i a_lane
-          (lane_of d i) (λ j h. (lane_has d valid i j c.requires.lane).1 (c.requires.places j h))
+          (lane_of d i) (λ j h. (lane_has d valid i j c.requires.lane).1 (c.requires.contained j h))
           j none)
           ∙ mul_zero R alpha) is_row extracted;
       updated = λ j p at.

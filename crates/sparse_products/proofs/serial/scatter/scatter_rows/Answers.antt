@@ -7,10 +7,10 @@ use Rattle.sparse_sums.proofs.UpdatedLanes.{lanes_more, lanes_none}
 use Rattle.sparse_products.proofs.Updating.{updated_is}
 use Rattle.sparse_products.proofs.serial.scatter.scatter_rows.Goals as goal
 
-pub scatter_row-requires-clause-places : goal.scatter_row-requires-clause-places
-scatter_row-requires-clause-places g c = λ j h.
+pub scatter_row-requires-clause-contained : goal.scatter_row-requires-clause-contained
+scatter_row-requires-clause-contained g c = λ j h.
     let i = c.loop-i.i in
-    c.requires.places i j h.0 ((lane_has c.args.update.matrices.a.now.pattern
+    c.requires.contained i j h.0 ((lane_has c.args.update.matrices.a.now.pattern
     c.values.ensures.sound.valid i h.0 (omega (arith, c.requires.sizes.lanes))).0 h.1) h.2
 
 pub loop-i-init : goal.loop-i-init
@@ -51,7 +51,7 @@ returns-clause-updated g c =
     updated_is R f c.requires.sizes c.values.ensures.sound c.values-2.ensures.sound
     c.major_offsets.ensures.valid g.T.Zero.zero_value (f u.beta) (f u.alpha) c.loop-i.values
     c.loop-i.auto.values
-    c.requires.places (λ i j p at.
+    c.requires.contained (λ i j p at.
     c.loop-i.invariant.rows.updated i j p (omega (arith, at.0.lane)) at)
 
 pub returns-clause-counted : goal.returns-clause-counted

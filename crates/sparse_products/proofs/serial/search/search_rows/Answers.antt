@@ -15,7 +15,7 @@ add_product_row-requires-clause-row_sums g c = λ j h.
     let valid = c.major_offsets.ensures.valid in
     let lane : i < x.a.now.pattern.major_dim = omega (arith, c.requires.sizes.lanes) in
     let place = lanes_of_product d x.a.now.pattern x.b.now.pattern
-    c.values.ensures.sound.valid c.requires.places i lane j h in (
+    c.values.ensures.sound.valid c.requires.contained i lane j h in (
       place.at,
       (valid, (place.in_lane, place.index)),
       omega (
@@ -65,7 +65,7 @@ returns-clause-updated g c =
     let valid = c.major_offsets.ensures.valid in
     updated_is R f c.requires.sizes c.values.ensures.sound c.values-2.ensures.sound valid
     g.T.Zero.zero_value (f u.beta) (f u.alpha) c.loop-i.values
-    (c.loop-i.auto.values ∙ c.scale_values.auto.values) c.requires.places (λ i j p at.
+    (c.loop-i.auto.values ∙ c.scale_values.auto.values) c.requires.contained (λ i j p at.
     let within : p < length c.args.values.now =
     omega (arith, offset_within d valid i j p at, c.requires.sizes.count) in
     c.loop-i.invariant.rows.updated i j p (omega (arith, at.0.lane)) at

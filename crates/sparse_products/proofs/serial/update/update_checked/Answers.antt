@@ -12,8 +12,8 @@ returns-then-not-covers_product-clause-covered g c =
     c.pattern-2.ensures.sound c.major_offsets.ensures.valid in
     (λ covered. cc, λ all. let yes = places (same.1 all) in cc)
 
-pub search_rows-requires-clause-places : goal.search_rows-requires-clause-places
-search_rows-requires-clause-places g c =
+pub search_rows-requires-clause-contained : goal.search_rows-requires-clause-contained
+search_rows-requires-clause-contained g c =
     let places = rw (c.pattern.ensures.pattern, c.pattern-2.ensures.pattern)
     at c.covers_product.ensures.0 in
     places c.if-not-covers_product.false

@@ -1,12 +1,12 @@
 use Rattle.sparse_products.proofs.Updating.{covered_is}
 use Rattle.sparse_products.proofs.serial.update.update_covered.Goals as goal
 
-pub search_rows-requires-clause-places : goal.search_rows-requires-clause-places
-search_rows-requires-clause-places g c =
+pub search_rows-requires-clause-contained : goal.search_rows-requires-clause-contained
+search_rows-requires-clause-contained g c =
     (covered_is g.T.Ring.ring g.T.Ring.value c.requires.sizes c.values.ensures.sound
     c.pattern.ensures.sound c.major_offsets.ensures.valid).1 c.requires.covered
 
-pub scatter_rows-requires-clause-places : goal.scatter_rows-requires-clause-places
-scatter_rows-requires-clause-places g c =
+pub scatter_rows-requires-clause-contained : goal.scatter_rows-requires-clause-contained
+scatter_rows-requires-clause-contained g c =
     (covered_is g.T.Ring.ring g.T.Ring.value c.requires.sizes c.values.ensures.sound
     c.pattern.ensures.sound c.major_offsets.ensures.valid).1 c.requires.covered
