@@ -111,13 +111,6 @@ def function_at(crate, path, lines, start, names):
     return fits[0][1] if is_one else None
 
 
-def is_of_tests(folder):
-    """Returns whether all modules of a crate are compiled with its tests alone."""
-    root = f"{folder}/src/lib.rt"
-    mods = re.findall(r"^(.*)\n(?:pub )?mod \w+;", read(root), re.M) if os.path.isfile(root) else []
-    return bool(mods) and all(it == "#[cfg(test)]" for it in mods)
-
-
 def lines_of_crates():
     """Returns the lines of crates.txt by the names of their crates, the lowest first."""
     lines = (line.split("#")[0].strip() for line in read("crates.txt").splitlines())
@@ -209,7 +202,8 @@ class Workshop:
     def check(self, name, folder, functions, *flags):
         """Checks these functions of a copy of a crate and those that they call, or all of it where none is given.
         Returns the status, what was said and the seconds of processor time."""
-        own = self.crates[name].words(["--jobs", "1"], tests=is_of_tests(folder), keeps=False)
+        crate = self.crates[name]
+        own = crate.words(["--jobs", "1"], tests=crate.has_tests(), keeps=False)
         words = [*rt.rtlib.guarded(), rt.rtlib.RATTLE, "check", *own]
         words += [word for it in functions for word in ("--only", it)]
         with tempfile.TemporaryFile("w+", errors="replace") as said:

@@ -6,6 +6,7 @@ ghost use Rattle.nalgebra_sparse.specs.PlainOfLanes.{plain_of_rows};
 ghost use Rattle.examples_theorems.specs.Assembly.{LiesWithin, assembled};
 
 use crate::example::holds;
+use crate::parts::Block;
 use nalgebra_sparse::CooMatrix;
 use nalgebra_sparse::convert::serial::convert_coo_csr;
 use nalgebra_sparse::csr::CsrMatrix;
@@ -13,14 +14,6 @@ use nalgebra_sparse::dense::DMatrix;
 use nalgebra_sparse::scalar::{Ring, W64};
 use std::alloc::{AllocError, Global};
 use std::test::Fail;
-
-// A dense block, whose first value is at this row and column of a larger matrix.
-#[derive(Drop)]
-struct Block<T> {
-    row: usize,
-    col: usize,
-    matrix: DMatrix<T>,
-}
 
 // Whether the block lies within a matrix of this shape.
 fn lies_within<T>(nrows: usize, ncols: usize, block: &Block<T>) -> bool

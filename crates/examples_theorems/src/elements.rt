@@ -8,6 +8,7 @@ ghost use Rattle.examples_theorems.specs.Elements.{IsNumbered, elements_sum};
 ghost use Rattle.examples_theorems.specs.InnerElements.{element_triplets, row_triplets};
 
 use crate::example::holds;
+use crate::parts::Element;
 use nalgebra_sparse::CooMatrix;
 use nalgebra_sparse::convert::serial::convert_coo_csr;
 use nalgebra_sparse::csr::CsrMatrix;
@@ -15,14 +16,6 @@ use nalgebra_sparse::dense::DMatrix;
 use nalgebra_sparse::scalar::{Ring, W64};
 use std::alloc::{AllocError, Global};
 use std::test::Fail;
-
-// The matrix of an element: row k belongs to row `rows[k]` of the larger matrix, and column l to column `cols[l]`.
-#[derive(Drop)]
-struct Element<T> {
-    rows: Vec<usize>,
-    cols: Vec<usize>,
-    matrix: DMatrix<T>,
-}
 
 // Whether each row and column of the element has a number, and the numbers lie within this shape.
 fn is_numbered<T>(nrows: usize, ncols: usize, element: &Element<T>) -> bool

@@ -16,6 +16,7 @@ mod dual;
 mod elements;
 #[cfg(test)]
 mod example;
+mod parts;
 #[cfg(test)]
 mod programs;
 #[cfg(test)]
