@@ -275,6 +275,8 @@ const CASES: &[Case] = &[
         Some(WriteZero),
     ),
     (7, 77, (Some(WouldBlock), None), 77, Some(WouldBlock)),
+    // Fewer bytes than a call would take.
+    (100, 3, (Some(BrokenPipe), None), 3, Some(BrokenPipe)),
 ];
 
 #[test]
