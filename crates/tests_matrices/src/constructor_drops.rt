@@ -59,13 +59,18 @@ fn refused_arrays_drop_their_values(rt: HostRuntime) {
     }
 }
 
-// Whether a pattern without entries refuses these values, by rows or by columns.
+// Whether a pattern refuses these values, by rows or by columns.
+fn refuses_values(pattern: SparsityPattern, by_rows: bool, values: Vec<Rc<i32>>) -> bool {
+    if by_rows {
+        return CsrMatrix::try_from_pattern_and_values(pattern, values).is_err();
+    }
+    CscMatrix::try_from_pattern_and_values(pattern, values).is_err()
+}
+
+// Whether a pattern without entries refuses these values.
 fn pattern_refuses(alloc: Global, by_rows: bool, values: Vec<Rc<i32>>) -> bool {
     match SparsityPattern::zeros(alloc, 1, 1) {
-        Ok(pattern) if by_rows => {
-            CsrMatrix::try_from_pattern_and_values(pattern, values).is_err()
-        }
-        Ok(pattern) => CscMatrix::try_from_pattern_and_values(pattern, values).is_err(),
+        Ok(pattern) => refuses_values(pattern, by_rows, values),
         Err(_error) => false,
     }
 }

@@ -172,7 +172,7 @@ fn list(alloc: Global) -> Result<CooMatrix<i32>, AllocError> {
     Ok(list)
 }
 
-fn iterators_of_a_list_end(mut list: CooMatrix<i32>) -> bool {
+fn iterators_of_a_list_end(list: &mut CooMatrix<i32>) -> bool {
     goes_on(list.triplet_iter(), TRIPLETS_OF_LIST) && has(list.triplet_iter_mut(), TRIPLETS_OF_LIST)
 }
 
@@ -180,27 +180,37 @@ fn iterators_of_a_list_end(mut list: CooMatrix<i32>) -> bool {
 fn entries_and_triplets_of_lists(rt: HostRuntime) {
     let matrix = csr(rt.alloc(), BY_ROWS);
     assert!(rt; matrix.is_ok_and(|matrix| goes_on(matrix.pattern().entries(), ENTRIES)));
-    assert!(rt; list(rt.alloc()).is_ok_and(iterators_of_a_list_end));
+    assert!(rt; list(rt.alloc()).is_ok_and(|mut list| iterators_of_a_list_end(&mut list)));
 }
 
-fn iterators_by_rows_end(mut matrix: CsrMatrix<i32>) -> bool {
+fn iterators_by_rows_go_on(matrix: &CsrMatrix<i32>) -> bool {
     goes_on(matrix.row_iter(), ROWS)
         && goes_on(matrix.triplet_iter(), TRIPLETS_BY_ROWS)
         && goes_on(matrix.triplet_iter().cloned_values(), TRIPLETS_BY_ROWS)
+}
+
+fn iterators_by_rows_end(matrix: &mut CsrMatrix<i32>) -> bool {
+    iterators_by_rows_go_on(matrix)
         && has(matrix.row_iter_mut(), ROWS)
         && has(matrix.triplet_iter_mut(), TRIPLETS_BY_ROWS)
 }
 
-fn iterators_by_columns_end(mut matrix: CscMatrix<i32>) -> bool {
+fn iterators_by_columns_go_on(matrix: &CscMatrix<i32>) -> bool {
     goes_on(matrix.col_iter(), COLUMNS)
         && goes_on(matrix.triplet_iter(), TRIPLETS_BY_COLUMNS)
         && goes_on(matrix.triplet_iter().cloned_values(), TRIPLETS_BY_COLUMNS)
+}
+
+fn iterators_by_columns_end(matrix: &mut CscMatrix<i32>) -> bool {
+    iterators_by_columns_go_on(matrix)
         && has(matrix.col_iter_mut(), COLUMNS)
         && has(matrix.triplet_iter_mut(), TRIPLETS_BY_COLUMNS)
 }
 
 #[test]
 fn lanes_and_triplets_of_matrices(rt: HostRuntime) {
-    assert!(rt; csr(rt.alloc(), BY_ROWS).is_ok_and(iterators_by_rows_end));
-    assert!(rt; csc(rt.alloc(), BY_COLUMNS).is_ok_and(iterators_by_columns_end));
+    let rows = csr(rt.alloc(), BY_ROWS);
+    assert!(rt; rows.is_ok_and(|mut matrix| iterators_by_rows_end(&mut matrix)));
+    let columns = csc(rt.alloc(), BY_COLUMNS);
+    assert!(rt; columns.is_ok_and(|mut matrix| iterators_by_columns_end(&mut matrix)));
 }
