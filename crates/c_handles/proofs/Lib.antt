@@ -3,5 +3,6 @@ mod HandleSteps
 mod HeapBox
 mod HeldPointers
 mod HeldFactors
+mod HeldOrders
 mod PlainTexts
 mod Triangles

@@ -12,6 +12,7 @@ ghost use Rattle.c_arrays.specs.declared.refusal.Refusal.TheVariants.{EmptyHandl
 ghost use Rattle.c_handles.specs.Held.{plain_held, Answers, Holds, IsEmpty, IsUnwritten};
 
 pub(crate) mod operations;
+pub(crate) mod orders;
 pub(crate) mod systems;
 pub(crate) mod texts;
 
