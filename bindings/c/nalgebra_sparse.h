@@ -629,9 +629,9 @@ int32_t nalgebra_sparse_write(
  * A handle has a matrix that the library owns, over the integers modulo 2^64, or none: then it is {NULL}, like
  * NALGEBRA_SPARSE_NO_MATRIX. The calls below take handles instead of arrays, so a chain of them checks each array once.
  * Transposes, multiples, sums and products copy no operand; a solve with a triangle and a factorisation copy the
- * matrix, each solve copies its right-hand side, and a product with a dense matrix copies the dense matrix. Their contracts are equations between the plain matrices behind
- * handles (crates/sparse_c/src/handles.rt, handle_operations.rt, handle_systems.rt and handle_texts.rt). No call over
- * handles computes modulo another number.
+ * matrix, each solve copies its right-hand side, and a product with a dense matrix copies the dense matrix. Their
+ * contracts are equations between the plain matrices behind handles (crates/sparse_c/src/handles.rt and the files in
+ * crates/sparse_c/src/handles). No call over handles computes modulo another number.
  *
  *     nalgebra_sparse_matrix a = NALGEBRA_SPARSE_NO_MATRIX, copy = NALGEBRA_SPARSE_NO_MATRIX;
  *     nalgebra_sparse_matrix square = NALGEBRA_SPARSE_NO_MATRIX;
@@ -769,11 +769,13 @@ int32_t nalgebra_sparse_matrix_solve_upper(
 
 /* Handles of factors.
  *
- * Such a handle has the exact factors L D L^T of a symmetric matrix, as nalgebra_sparse_factor_symmetric writes them,
- * or none. What is said above about handles of matrices is true of these.
+ * Such a handle has the exact factors L D L^T of a symmetric matrix A, as nalgebra_sparse_factor_symmetric writes them;
+ * or those of P A P^T, with the permutation P, which takes the rows and columns of A in another order; or none. What is
+ * said above about handles of matrices is true of these.
  *
  *     nalgebra_sparse_factors f = NALGEBRA_SPARSE_NO_FACTORS;
- *     status = nalgebra_sparse_matrix_factor(&a, &f);
+ *     status = nalgebra_sparse_matrix_minimum_degree(&a, order, 2);
+ *     status = nalgebra_sparse_matrix_factor_in_order(&a, order, 2, &f);
  *     status = nalgebra_sparse_factors_solve(&f, 1, values, 2);
  *     nalgebra_sparse_factors_free(&f);
  */
@@ -792,8 +794,38 @@ typedef struct {
  */
 int32_t nalgebra_sparse_matrix_factor(nalgebra_sparse_matrix *a, nalgebra_sparse_factors *out);
 
-/* Solves L D L^T X = B with the factors behind `f`. `values` has B, column by column, and then X: values_len is the
- * number of rows of L times `cols`. In addition the call allocates a copy of B. Statuses: INVALID_STRUCTURE if B has
+/* Writes an order of the rows and columns of the square matrix behind `a` in which its factors have little fill: the
+ * approximate minimum degree order (Amestoy, Davis and Duff 1996). out_order[k] is the index, from 0, of the row and
+ * column that comes at k, so out_order needs a number for each row. The pattern is read as the union of itself and its
+ * transpose: an entry below the diagonal counts, too. Proved is that the order is a permutation; how little fill it
+ * leaves is tested. Statuses: SHAPE_MISMATCH if the matrix is not square; TOO_SMALL.
+ */
+int32_t nalgebra_sparse_matrix_minimum_degree(nalgebra_sparse_matrix *a, size_t *out_order, size_t out_order_len);
+
+/* Writes an order in which the entries are close to the diagonal: the reverse Cuthill-McKee order (Cuthill and McKee
+ * 1969, George 1971). Otherwise like nalgebra_sparse_matrix_minimum_degree.
+ */
+int32_t nalgebra_sparse_matrix_reverse_cuthill_mckee(nalgebra_sparse_matrix *a, size_t *out_order, size_t out_order_len);
+
+/* Puts the factors of P A P^T behind `out`, with P: A is the symmetric matrix of nalgebra_sparse_matrix_factor, and P
+ * takes its rows and columns in the given order, so that the entry (i, j) of P A P^T is that of A at (order[i],
+ * order[j]). Any permutation may be given. In addition the call allocates some copies of the matrix.
+ *
+ * Statuses: SHAPE_MISMATCH if the matrix is not square; INVALID_STRUCTURE if order_len is not the number of its rows;
+ * INDEX_OUT_OF_BOUNDS or DUPLICATE_ENTRY for the first number of the order that is too large, or that occurs before it;
+ * SINGULAR if P A P^T has no factorisation. In another order there may be one.
+ */
+int32_t nalgebra_sparse_matrix_factor_in_order(
+    nalgebra_sparse_matrix *a, const size_t *order, size_t order_len, nalgebra_sparse_factors *out);
+
+/* Writes the order of the factors behind `f`: 0, 1, 2 and so on for those of nalgebra_sparse_matrix_factor. out_order
+ * needs a number for each row of L. Statuses: TOO_SMALL.
+ */
+int32_t nalgebra_sparse_factors_order(nalgebra_sparse_factors *f, size_t *out_order, size_t out_order_len);
+
+/* Solves A X = B with the factors behind `f`, where A is the symmetric matrix itself, in whichever order it was
+ * factored. `values` has B, column by column, and then X: values_len is the number of rows of A times `cols`. In
+ * addition the call allocates a copy of B, and two for factors with an order. Statuses: INVALID_STRUCTURE if B has
  * another number of values; `values` is then unchanged.
  */
 int32_t nalgebra_sparse_factors_solve(nalgebra_sparse_factors *f, size_t cols, int64_t *values, size_t values_len);
@@ -804,7 +836,7 @@ int32_t nalgebra_sparse_factors_solve(nalgebra_sparse_factors *f, size_t cols, i
 int32_t nalgebra_sparse_factors_sizes(nalgebra_sparse_factors *f, size_t *out_size, size_t *out_places);
 
 /* Writes the factors behind `f` as nalgebra_sparse_factor_symmetric does: L by columns, and the diagonal of D to
- * out_diagonal. out_offsets needs one number more than L has columns, out_indices and out_values one for each entry of
+ * out_diagonal. Factors with an order are those of P A P^T. out_offsets needs one number more than L has columns, out_indices and out_values one for each entry of
  * L, and out_diagonal one for each row of L. *out_places becomes the number of entries of L. In addition the call
  * allocates a copy of the factors. Statuses: TOO_SMALL.
  */

@@ -50,6 +50,8 @@ static const size_t OFFSETS[] = {0, 2, 3, 5}, INDICES[] = {0, 2, 1, 0, 2}, ROWS[
 static const int64_t VALUES[] = {1, 2, 3, 4, 5}, SIDES[] = {1, -2, 3, 4, 5, 6};
 /* The values of a matrix whose second pivot has no inverse. */
 static const int64_t EVEN_VALUES[] = {1, 2, 6, 4, 5};
+/* An order of the rows and columns. */
+static const size_t ORDER[] = {2, 0, 1};
 static const char LINES[] = "%%MatrixMarket matrix coordinate integer symmetric\n3 3 2\n1 1 5\n3 1 -7\n";
 
 #define PATTERN OFFSETS, 4, INDICES, 5
@@ -121,6 +123,10 @@ static nalgebra_sparse_factors f = NALGEBRA_SPARSE_NO_FACTORS, g = NALGEBRA_SPAR
     CALL(matrix_solve_lower, &a, false, 2, t->values, 6)         \
     CALL(matrix_solve_upper, &a, true, 2, t->values, 6)          \
     CALL(matrix_factor, &a, &g)                                  \
+    CALL(matrix_minimum_degree, &a, t->offsets, ROOM)            \
+    CALL(matrix_reverse_cuthill_mckee, &a, t->offsets, ROOM)     \
+    CALL(matrix_factor_in_order, &a, ORDER, 3, &g)               \
+    CALL(factors_order, &f, t->offsets, ROOM)                    \
     CALL(factors_solve, &f, 2, t->values, 6)                     \
     CALL(factors_sizes, &f, &t->rows, &t->count)                 \
     CALL(factors_read, &f, TO_FACTORS)                           \
@@ -171,7 +177,7 @@ int main(void) {
     target blank, answer, t;
     refused = SIZE_MAX;
     if (nalgebra_sparse_matrix_from_rows(3, 3, MATRIX, &a) != 0 || nalgebra_sparse_matrix_transpose(&a, &b) != 0) return 1;
-    if (nalgebra_sparse_matrix_factor(&a, &f) != 0) return 1;
+    if (nalgebra_sparse_matrix_factor_in_order(&a, ORDER, 3, &f) != 0) return 1;
     memset(&blank, 77, sizeof blank);
     for (size_t call = 0; call < COUNT; call++) {
         int32_t status = run(call, SIZE_MAX, &answer);

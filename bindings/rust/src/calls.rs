@@ -408,6 +408,16 @@ extern "C" {
 
     pub fn nalgebra_sparse_matrix_factor(a: *mut Handle, out: *mut FactorHandle) -> i32;
 
+    pub fn nalgebra_sparse_matrix_minimum_degree(a: *mut Handle, out_order: *mut usize, out_order_len: usize) -> i32;
+
+    pub fn nalgebra_sparse_matrix_reverse_cuthill_mckee(a: *mut Handle, out_order: *mut usize, out_order_len: usize) -> i32;
+
+    pub fn nalgebra_sparse_matrix_factor_in_order(
+        a: *mut Handle, order: *const usize, order_len: usize, out: *mut FactorHandle,
+    ) -> i32;
+
+    pub fn nalgebra_sparse_factors_order(f: *mut FactorHandle, out_order: *mut usize, out_order_len: usize) -> i32;
+
     pub fn nalgebra_sparse_factors_solve(f: *mut FactorHandle, cols: usize, values: *mut i64, values_len: usize) -> i32;
 
     pub fn nalgebra_sparse_factors_sizes(f: *mut FactorHandle, out_size: *mut usize, out_places: *mut usize) -> i32;
