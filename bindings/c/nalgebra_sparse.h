@@ -571,6 +571,18 @@ int32_t nalgebra_sparse_factor_symmetric_pivot(
     const int64_t *values, size_t values_len,
     size_t *out_column);
 
+/* Writes that column for the factorisation modulo `modulus`.
+ *
+ * Statuses: UNKNOWN_CHOICE if the modulus is not listed; otherwise as for nalgebra_sparse_factor_symmetric_pivot.
+ */
+int32_t nalgebra_sparse_factor_symmetric_pivot_mod(
+    uint64_t modulus,
+    size_t size,
+    const size_t *offsets, size_t offsets_len,
+    const size_t *indices, size_t indices_len,
+    const int64_t *values, size_t values_len,
+    size_t *out_column);
+
 /* Reads the bytes of a text in Matrix Market format, with integers or as an array of integers, and writes the shape of
  * its matrix and the number of its triplets: the size for nalgebra_sparse_read.
  *

@@ -393,6 +393,12 @@ static inline int32_t nalgebra_sparse_factor_symmetric_pivot_cols(nalgebra_spars
     return nalgebra_sparse_factor_symmetric_pivot(a.cols, NALGEBRA_SPARSE_LANES(a, a.cols), out_column);
 }
 
+static inline int32_t nalgebra_sparse_factor_symmetric_pivot_mod_cols(
+    uint64_t modulus, nalgebra_sparse_cols a, size_t *out_column) {
+    if (a.rows != a.cols) return NALGEBRA_SPARSE_SHAPE_MISMATCH;
+    return nalgebra_sparse_factor_symmetric_pivot_mod(modulus, a.cols, NALGEBRA_SPARSE_LANES(a, a.cols), out_column);
+}
+
 /* ---- handles */
 
 static inline int32_t nalgebra_sparse_matrix_from_text_bytes(const uint8_t *text, size_t text_len, nalgebra_sparse_matrix *out) {

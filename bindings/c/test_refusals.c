@@ -95,6 +95,7 @@ static const char LINES[] = "%%MatrixMarket matrix coordinate integer symmetric\
     CALL(factor_symmetric, 3, MATRIX, TO_FACTORS)                       \
     CALL(factor_symmetric_mod, 7, 3, MATRIX, TO_FACTORS)                \
     CALL(factor_symmetric_pivot, 3, EVEN, &t->count)                    \
+    CALL(factor_symmetric_pivot_mod, 3, 3, EVEN, &t->count)             \
     CALL(read_sizes, BYTES, &t->rows, &t->cols, &t->count)              \
     CALL(read, BYTES, TO_PATTERN, TO_VALUES, &t->count)                 \
     CALL(write_length, 3, 3, LISTS, &t->count)                          \

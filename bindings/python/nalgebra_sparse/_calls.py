@@ -135,6 +135,7 @@ _TABLE = {
     "factor_symmetric": f"size {_LANES} {_FACTORS}",
     "factor_symmetric_mod": f"modulus size {_LANES} {_FACTORS}",
     "factor_symmetric_pivot": f"size {_LANES} out_size",
+    "factor_symmetric_pivot_mod": f"modulus size {_LANES} out_size",
     "read_sizes": "text out_size out_size out_size",
     "read": "text out_indices out_indices out_values out_size",
     "write_length": f"size size {_TRIPLETS} out_size",

@@ -80,9 +80,7 @@ def _singular(name: str, modulus: Optional[int]) -> str:
     elif name == "matrix_factor_in_order":
         fault = f"the matrix has no factorisation L D L^T modulo {ring} in this order: a pivot has no inverse"
     elif "factor" in name or "symmetric" in name:
-        fault = f"the matrix has no factorisation L D L^T modulo {ring}: a pivot has no inverse"
-        if modulus is None:
-            fault += ", and singular_column tells which one"
+        fault = f"the matrix has no factorisation L D L^T modulo {ring}: a pivot has no inverse, and singular_column tells which one"
     else:
         fault = f"an entry of the diagonal is not stored, or has no inverse modulo {ring}"
     if modulus is None:

@@ -303,6 +303,14 @@ extern "C" {
         out_places: *mut usize,
     ) -> i32;
 
+    pub fn nalgebra_sparse_factor_symmetric_pivot_mod(
+        modulus: u64, size: usize,
+        offsets: *const usize, offsets_len: usize,
+        indices: *const usize, indices_len: usize,
+        values: *const i64, values_len: usize,
+        out_column: *mut usize,
+    ) -> i32;
+
     pub fn nalgebra_sparse_factor_symmetric_pivot(
         size: usize,
         offsets: *const usize, offsets_len: usize,

@@ -18,7 +18,7 @@ mod texts;
 
 pub use error::Error;
 pub use factorisation::Factorisation;
-pub use factors::{factor_symmetric, factor_symmetric_mod, singular_column, Factors};
+pub use factors::{factor_symmetric, factor_symmetric_mod, singular_column, singular_column_mod, Factors};
 pub use handles::Matrix;
 pub use matrices::{Arrays, ColumnArrays, Columns, Rows};
 pub use moduli::{
