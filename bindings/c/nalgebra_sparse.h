@@ -27,8 +27,8 @@
  * At TOO_SMALL the call tells the size that is needed: the last argument, out_places, out_triplets or out_length,
  * becomes the number that it would have at status 0. So after a call with short arrays, or with none, you can call
  * again with arrays of that size. The other sizes follow from the shape. At any status but 0 and TOO_SMALL that number
- * is unchanged. The calls that write a dense matrix have no such argument, and nalgebra_sparse_matrix_read leaves it
- * unchanged.
+ * is unchanged. The calls that write a dense matrix have no such argument, and nalgebra_sparse_matrix_read and
+ * nalgebra_sparse_matrix_read_32 leave it unchanged.
  *
  * The statuses of each call are listed in the order in which it tests for their causes, and it returns the first that
  * applies: first a number that chooses among cases, then the faults of the operands in their order, then SINGULAR, and
@@ -705,6 +705,17 @@ int32_t nalgebra_sparse_matrix_read(
     nalgebra_sparse_matrix *a,
     size_t *out_offsets, size_t out_offsets_len,
     size_t *out_indices, size_t out_indices_len,
+    int64_t *out_values, size_t out_values_len,
+    size_t *out_places);
+
+/* Writes the matrix behind `a` by rows as nalgebra_sparse_matrix_read does, with offsets and indices of 32 bits. They
+ * are below 2^31, so that they may be read as int32_t, too. Statuses: INDEX_OUT_OF_BOUNDS if an offset or an index is
+ * not below 2^31; TOO_SMALL.
+ */
+int32_t nalgebra_sparse_matrix_read_32(
+    nalgebra_sparse_matrix *a,
+    uint32_t *out_offsets, size_t out_offsets_len,
+    uint32_t *out_indices, size_t out_indices_len,
     int64_t *out_values, size_t out_values_len,
     size_t *out_places);
 

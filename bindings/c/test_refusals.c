@@ -13,6 +13,7 @@ enum { ROOM = 32, TEXT = 256 };
 /* All that a call may write to. */
 typedef struct {
     size_t offsets[ROOM], indices[ROOM], rows, cols, count;
+    uint32_t narrow[2][ROOM];
     int64_t values[ROOM], diagonal[ROOM];
     uint8_t text[TEXT];
 } target;
@@ -62,6 +63,7 @@ static const char LINES[] = "%%MatrixMarket matrix coordinate integer symmetric\
 #define TO_PATTERN t->offsets, ROOM, t->indices, ROOM
 #define TO_VALUES t->values, ROOM
 #define TO_MATRIX TO_PATTERN, TO_VALUES, &t->count
+#define TO_NARROW t->narrow[0], ROOM, t->narrow[1], ROOM, t->values, ROOM, &t->count
 /* Room for the sum of MATRIX and itself, but not for the entries of both: then the sum is computed in memory first. */
 #define TO_SUM t->offsets, ROOM, t->indices, 5, t->values, 5, &t->count
 #define TO_FACTORS TO_PATTERN, TO_VALUES, t->diagonal, ROOM, &t->count
@@ -111,6 +113,7 @@ static nalgebra_sparse_factors f = NALGEBRA_SPARSE_NO_FACTORS, g = NALGEBRA_SPAR
     CALL(matrix_from_triplets, 3, 3, LISTS, &out)                \
     CALL(matrix_sizes, &a, &t->rows, &t->cols, &t->count)        \
     CALL(matrix_read, &a, TO_MATRIX)                             \
+    CALL(matrix_read_32, &a, TO_NARROW)                          \
     CALL(matrix_transpose, &a, &out)                             \
     CALL(matrix_scale, 5, &a, &out)                              \
     CALL(matrix_add, &a, &b, &out)                               \
@@ -183,7 +186,8 @@ int main(void) {
     for (size_t call = 0; call < COUNT; call++) {
         int32_t status = run(call, SIZE_MAX, &answer);
         size_t count = requests;
-        int asks = TABLE[call].run != matrix_sizes_call && TABLE[call].run != matrix_read_call && TABLE[call].run != factors_sizes_call;
+        int asks = TABLE[call].run != matrix_sizes_call && TABLE[call].run != matrix_read_call &&
+                   TABLE[call].run != matrix_read_32_call && TABLE[call].run != factors_sizes_call;
         if (status != 0 || (count != 0) != asks || memcmp(&answer, &blank, sizeof blank) == 0) {
             fprintf(stderr, "%s: status %d after %zu requests\n", TABLE[call].name, (int)status, count);
             return 1;

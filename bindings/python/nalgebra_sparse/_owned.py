@@ -13,7 +13,7 @@ from ._calls import Handle, call, free
 from ._errors import Error, InvalidStructure
 from ._factorisation import own
 from ._operands import Integers, Matrix, lanes_of, shape_of, sorted_arrays, triplets_of
-from ._results import empty, matrix_of
+from ._results import empty, is_narrow, matrix_of
 from ._text_lines import read_text
 
 Self = TypeVar("Self", bound="Owned")
@@ -56,10 +56,13 @@ class Owned:
             return type(self)._made(name, *factors[:1], a, *factors[1:], b)
 
     def _arrays(self) -> tuple[Integers, Integers, Integers]:
-        """Returns a copy of the offsets, the indices and the values of the matrix by rows."""
-        offsets, indices, values = empty(self._shape[0] + 1), empty(self._nnz), empty(self._nnz)
+        """Returns a copy of the offsets, the indices and the values of the matrix by rows, with 32 bits for each index
+        and offset where the sizes fit, and 64 otherwise."""
+        narrow = is_narrow(self._shape, self._nnz)
+        name, dtype = ("matrix_read_32", np.int32) if narrow else ("matrix_read", np.int64)
+        offsets, indices, values = empty(self._shape[0] + 1, dtype), empty(self._nnz, dtype), empty(self._nnz)
         with self._own() as a:
-            call("matrix_read", a, offsets, indices, values, ctypes.c_size_t())
+            call(name, a, offsets, indices, values, ctypes.c_size_t())
         return offsets, indices, values
 
     @classmethod

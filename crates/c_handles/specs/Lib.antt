@@ -1,4 +1,5 @@
 pub mod Held
+pub mod Narrow
 pub mod Dense
 pub mod Factored
 pub mod Ordered

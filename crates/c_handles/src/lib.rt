@@ -9,6 +9,7 @@ pub mod from_arrays;
 pub mod handle;
 pub mod held_factors;
 pub mod held_matrix;
+pub mod narrow;
 pub mod operations;
 pub mod ordering;
 pub mod reading;
