@@ -91,7 +91,7 @@ enum {
     NALGEBRA_SPARSE_INVALID_STRUCTURE = 2,
     /* A row or a column index is out of bounds. */
     NALGEBRA_SPARSE_INDEX_OUT_OF_BOUNDS = 3,
-    /* Two entries have the same row and column. */
+    /* Two entries have the same row and column, or a number occurs twice in an order. */
     NALGEBRA_SPARSE_DUPLICATE_ENTRY = 4,
     /* An array for the result is too small. The call writes the size that is needed: see above. */
     NALGEBRA_SPARSE_TOO_SMALL = 5,
@@ -820,8 +820,8 @@ int32_t nalgebra_sparse_matrix_factor(nalgebra_sparse_matrix *a, nalgebra_sparse
 /* Writes an order of the rows and columns of the square matrix behind `a` in which its factors have little fill: the
  * approximate minimum degree order (Amestoy, Davis and Duff 1996). out_order[k] is the index, from 0, of the row and
  * column that comes at k, so out_order needs a number for each row. The pattern is read as the union of itself and its
- * transpose: an entry below the diagonal counts, too. Proved is that the order is a permutation; how little fill it
- * leaves is tested. Statuses: SHAPE_MISMATCH if the matrix is not square; TOO_SMALL.
+ * transpose: an entry below the diagonal counts, too. It is proved that the order is a permutation, and tested how
+ * little fill it leaves. Statuses: SHAPE_MISMATCH if the matrix is not square; TOO_SMALL.
  */
 int32_t nalgebra_sparse_matrix_minimum_degree(nalgebra_sparse_matrix *a, size_t *out_order, size_t out_order_len);
 

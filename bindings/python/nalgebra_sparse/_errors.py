@@ -19,7 +19,7 @@ class IndexOutOfBounds(Error):
 
 
 class DuplicateEntry(Error):
-    """Two entries have the same row and column."""
+    """Two entries have the same row and column, or a number occurs twice in an order."""
 
 
 class Singular(Error):
