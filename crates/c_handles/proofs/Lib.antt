@@ -4,5 +4,6 @@ mod HeapBox
 mod HeldPointers
 mod HeldFactors
 mod HeldOrders
+mod NarrowRows
 mod PlainTexts
 mod Triangles
