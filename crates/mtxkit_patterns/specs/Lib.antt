@@ -1,0 +1,6 @@
+pub mod Columns
+pub mod Fills
+pub mod FillTexts
+pub mod Orders
+pub mod OrderTexts
+pub mod Permuted

@@ -1,0 +1,23 @@
+//! What the program `mtxkit` does with patterns: it orders the rows and columns of a square matrix, permutes a matrix
+//! by an order, and counts the fill of its factor.
+#![tactic(auto)]
+
+mod columns;
+mod counts;
+mod fill;
+mod fill_lines;
+mod order_error;
+mod order_texts;
+mod orders;
+mod permuted;
+mod read_order;
+#[cfg(test)]
+mod tried;
+
+pub use counts::{FillCounts, fill_counts};
+pub use fill::{fill_text, fill_text_in_order};
+pub use order_error::OrderError;
+pub use order_texts::write_order;
+pub use orders::{Method, order_text};
+pub use permuted::permute_text;
+pub use read_order::read_order;
