@@ -1,6 +1,7 @@
 pub mod Columns
 pub mod Fills
 pub mod FillTexts
+pub mod InnerDepths
 pub mod Orders
 pub mod OrderTexts
 pub mod Permuted
