@@ -3,5 +3,6 @@ pub mod Fills
 pub mod FillTexts
 pub mod InnerDepths
 pub mod Orders
+pub mod OrderLists
 pub mod OrderTexts
 pub mod Permuted

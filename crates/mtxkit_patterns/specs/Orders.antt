@@ -1,6 +1,5 @@
 -- Orders that texts mean, and orders of patterns.
-use Rattle.std.specs.Prelude.{◌≡◌, ◌≢◌, ◌⊎◌, ℕ, ℤ, pos, negsuc, ◌+◌, ◌-◌, ◌^◌, ◌&&◌, nat_lt}
-use Rattle.std.specs.Prelude.{if◌then◌else◌, List, map, length, slice_index, EachIndex}
+use Rattle.std.specs.Prelude.{◌≡◌, ◌≢◌, ◌⊎◌, ℕ, ℤ, pos, ◌+◌, List, map, length}
 use Rattle.std.specs.Int.{w128}
 use Rattle.sparse_coo_dense.specs.Coo.{Coo}
 use Rattle.sparse_compressed.specs.Compressed.{Compressed}
@@ -16,6 +15,7 @@ use Rattle.sparse_permutation.specs.declared.error.PermutationError.TheVariants 
 use Rattle.mtxkit_texts.specs.Loaded.{MeansIntegers, MeansMatrix, IsRefused, IsLoadFailure}
 use Rattle.mtxkit_texts.specs.declared.failure.Failure.{Failure}
 use Rattle.mtxkit_texts.specs.declared.failure.Failure.TheVariants.{OutOfMemory}
+use Rattle.mtxkit_patterns.specs.OrderLists.{IsColumn, numbers_of, index_of}
 use Rattle.mtxkit_patterns.specs.OrderTexts.{order_text}
 use Rattle.mtxkit_patterns.specs.declared.order_error.OrderError.{OrderError}
 use Rattle.mtxkit_patterns.specs.declared.order_error.OrderError.TheVariants.{Failed, NotSquare}
@@ -24,17 +24,6 @@ use Rattle.mtxkit_patterns.specs.declared.order_error.OrderError.TheVariants.{Re
 
 -- ---- orders that texts mean
 
--- the triplets are those of a column from the top, one in each row
-pub record IsColumn (list : Coo ℤ) : Type 0 where
-  pub cols : list.ncols ≡ 1
-  pub rows : length list.triplets ≡ list.nrows
-  pub order : EachIndex (map (λ t. t.0) list.triplets)
-      (λ k. slice_index (map (λ t. t.0) list.triplets) k ≡ k)
-
--- the values of the triplets, in order
-abbrev pub numbers_of : Coo ℤ → List ℤ
-numbers_of list = map (λ t. t.2) list.triplets
-
 -- the text means a column of numbers, which are the indices of the permutation counted from 1
 pub record MeansOrder (text order : List ℕ) : Type 0 where
   pub list : Coo ℤ
@@ -42,11 +31,6 @@ pub record MeansOrder (text order : List ℕ) : Type 0 where
   pub column : IsColumn list
   pub numbers : numbers_of list ≡ map (λ i. pos (i + 1)) order
   pub valid : IsOrder order
-
--- the index that a number counts from 1, or 2 ^ 64 - 1 if it counts none below
-abbrev pub index_of : ℤ → ℕ
-index_of (pos n) = if nat_lt 0 n && nat_lt n (2 ^ 64) then n - 1 else 2 ^ 64 - 1
-index_of (negsuc n) = 2 ^ 64 - 1
 
 -- the error for a list that is not a permutation, which is that of the text with this number
 abbrev pub order_error : ℕ → PermutationError → OrderError

@@ -7,12 +7,11 @@ mod counts;
 mod fill;
 mod fill_lines;
 mod order_error;
+mod order_lists;
 mod order_texts;
 mod orders;
 mod permuted;
 mod read_order;
-#[cfg(test)]
-mod tried;
 
 pub use counts::{FillCounts, fill_counts};
 pub use fill::{fill_text, fill_text_in_order};
