@@ -3,9 +3,9 @@ use Rattle.std.specs.Prelude.{◌≡◌, ℕ, List, codes, Option, Some, None, n
 use Rattle.clap.specs.Matches.{first_value, one_text}
 use Rattle.clap.specs.declared.parser.matches.Found.{Found}
 use Rattle.mtxkit_commands.specs.Names.{target_file}
-use Rattle.mtxkit_patterns.specs.declared.orders.Method.{Method}
-use Rattle.mtxkit_patterns.specs.declared.orders.Method.TheVariants.{MinimumDegree}
-use Rattle.mtxkit_patterns.specs.declared.orders.Method.TheVariants.{ReverseCuthillMckee}
+use Rattle.mtxkit_patterns.specs.declared.square.Method.{Method}
+use Rattle.mtxkit_patterns.specs.declared.square.Method.TheVariants.{MinimumDegree}
+use Rattle.mtxkit_patterns.specs.declared.square.Method.TheVariants.{ReverseCuthillMckee}
 use Rattle.mtxkit_commands.specs.declared.commands.Command.{Command}
 use Rattle.mtxkit_commands.specs.declared.commands.Command.TheVariants.{Info, Spy, Copy, Field}
 use Rattle.mtxkit_commands.specs.declared.commands.Command.TheVariants.{Integer}

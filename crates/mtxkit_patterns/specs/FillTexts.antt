@@ -8,7 +8,7 @@ use Rattle.mtxkit_patterns.specs.Orders.{MeansOrder, MeansPattern, IsMisordered,
 use Rattle.mtxkit_patterns.specs.Permuted.{IsMisfit}
 use Rattle.mtxkit_patterns.specs.declared.counts.FillCounts.{FillCounts}
 use Rattle.mtxkit_patterns.specs.declared.order_error.OrderError.{OrderError}
-use Rattle.mtxkit_patterns.specs.declared.orders.Method.{Method}
+use Rattle.mtxkit_patterns.specs.declared.square.Method.{Method}
 
 -- the lines about the fill of a square pattern
 pub record SaysFill (pattern : Raw) (written : List ℕ) : Type 0 where

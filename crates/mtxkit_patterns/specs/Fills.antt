@@ -1,28 +1,13 @@
 -- The fill of the factor of a square pattern.
-use Rattle.std.specs.Prelude.{◌≡◌, ◌⊎◌, ◌↔◌, ℕ, ◌-◌, ◌*◌, ◌/◌, ◌%◌, ◌==◌, if◌then◌else◌, List, ◌++◌, codes}
+use Rattle.std.specs.Prelude.{◌≡◌, ℕ, ◌-◌, ◌*◌, ◌/◌, ◌%◌, ◌==◌, if◌then◌else◌, List, ◌++◌, codes}
 use Rattle.std.specs.Prelude.{length}
 use Rattle.std.specs.Fmt.{decimal}
-use Rattle.sparse_pattern.specs.Raw.{Raw, IsEntry, IsValid, entries_of}
-use Rattle.sparse_factor.specs.Fill.{InFill, StoresByColumns, TriangleBase}
-use Rattle.sparse_factor.specs.declared.factorization.Triangle.TheVariants.{Both}
+use Rattle.sparse_pattern.specs.Raw.{Raw, entries_of}
 use Rattle.mtxkit_matrices.specs.FactLines.{line, count_line}
 use Rattle.mtxkit_matrices.specs.Lanes.{longest_below}
 use Rattle.mtxkit_patterns.specs.Columns.{IsHeight, count_lower, products_below}
+use Rattle.mtxkit_patterns.specs.Factors.{IsFactor, IsSymmetrised}
 use Rattle.mtxkit_patterns.specs.declared.counts.FillCounts.{FillCounts}
-
--- u is the union of a square pattern and its transpose
-pub record IsSymmetrised (a u : Raw) : Type 0 where
-  pub valid : IsValid u
-  pub major_dim : u.major_dim ≡ a.major_dim
-  pub minor_dim : u.minor_dim ≡ a.minor_dim
-  pub entries : (i j : ℕ) → IsEntry u i j ↔ (IsEntry a i j ⊎ IsEntry a j i)
-
--- l has the shape of the square pattern and, by columns, the fill of both its triangles
-pub record IsFactor (a l : Raw) : Type 0 where
-  pub valid : IsValid l
-  pub columns : l.major_dim ≡ a.major_dim
-  pub rows : l.minor_dim ≡ a.minor_dim
-  pub fill : StoresByColumns (InFill (TriangleBase Both a)) l
 
 -- the counts are those of the pattern and of its factor
 pub record AreFillCounts (a : Raw) (s : FillCounts) : Type 0 where

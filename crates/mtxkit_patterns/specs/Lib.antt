@@ -1,4 +1,5 @@
 pub mod Columns
+pub mod Factors
 pub mod Fills
 pub mod FillTexts
 pub mod InnerDepths

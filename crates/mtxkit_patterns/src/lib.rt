@@ -12,11 +12,13 @@ mod order_texts;
 mod orders;
 mod permuted;
 mod read_order;
+mod square;
 
 pub use counts::{FillCounts, fill_counts};
 pub use fill::{fill_text, fill_text_in_order};
 pub use order_error::OrderError;
 pub use order_texts::write_order;
-pub use orders::{Method, order_text};
+pub use orders::order_text;
 pub use permuted::permute_text;
 pub use read_order::read_order;
+pub use square::Method;

@@ -1,26 +1,14 @@
 //! Orders the rows and columns of square patterns.
 
-ghost use Rattle.std.specs.Prelude.{◌≡◌, IfOk, IfErr, length, string_bytes};
-ghost use Rattle.sparse_pattern.specs.Raw.{IsValid};
+ghost use Rattle.std.specs.Prelude.{◌≡◌, IfOk, IfErr, string_bytes};
 ghost use Rattle.mtxkit_patterns.specs.Orders.{IsNoSquare, MeansPattern, WritesOrder};
 
 use crate::order_error::OrderError;
 use crate::order_texts::write_order;
+use crate::square::{Method, order_of};
 use mtxkit_texts::load;
-use sparse_ordering::minimum_degree::minimum_degree;
-use sparse_ordering::reverse_cuthill_mckee::reverse_cuthill_mckee;
 use sparse_pattern::pattern::SparsityPattern;
-use sparse_permutation::permutation::Permutation;
-use std::alloc::{AllocError, Global};
-
-/// How an order is computed.
-#[derive(Clone, Copy, Debug)]
-pub enum Method {
-    /// Approximate minimum degree, which reduces the fill.
-    MinimumDegree,
-    /// Reverse Cuthill-McKee, which reduces the bandwidth.
-    ReverseCuthillMckee,
-}
+use std::alloc::Global;
 
 /// Returns the text of an order of the rows and columns of the square matrix of a text: an array of one column, in which
 /// each number from 1 to the number of rows occurs once.
@@ -53,21 +41,4 @@ pub(crate) fn square_pattern(
         return Err(OrderError::NotSquare(number));
     }
     Ok(pattern)
-}
-
-/// Returns an order of the rows and columns of a square pattern.
-///
-/// Fails only if an allocation fails.
-pub(crate) fn order_of(
-    alloc: Global,
-    method: Method,
-    pattern: &SparsityPattern,
-) -> Result<Permutation, AllocError>
-    requires { pattern.now.major_dim ≡ pattern.now.minor_dim }
-    ensures { IfOk result (λ p. length p ≡ pattern.now.major_dim) }
-{
-    match method {
-        Method::MinimumDegree => minimum_degree(alloc, pattern),
-        Method::ReverseCuthillMckee => reverse_cuthill_mckee(alloc, pattern),
-    }
 }

@@ -1,7 +1,6 @@
 //! Writes matrices whose rows and columns are permuted alike.
 
 ghost use Rattle.std.specs.Prelude.{◌≡◌, IfOk, IfErr, OnOk, length, string_bytes, true, false};
-ghost use Rattle.sparse_permutation.specs.PermutedPatterns.{IsPermutedPattern};
 ghost use Rattle.mtxkit_texts.specs.Headers.{header_in, is_pattern, is_pattern_field};
 ghost use Rattle.mtxkit_patterns.specs.Orders.{MeansOrder};
 ghost use Rattle.mtxkit_patterns.specs.Permuted.{IsMisfit, IsMisfitPattern, IsMisfitMatrix};
@@ -10,14 +9,13 @@ ghost use Rattle.mtxkit_patterns.specs.Permuted.{WritesPermutedPattern, WritesPe
 
 use crate::order_error::OrderError;
 use crate::read_order::read_order;
+use crate::square::permuted_pattern;
 use mtxkit_texts::{Failure, header_of, load, load_values, write_pattern};
 use sparse_io::{Banner, save_to_matrix_market_str_with};
 use sparse_parser::header::Field;
-use sparse_pattern::pattern::SparsityPattern;
-use sparse_permutation::error::PermuteError;
 use sparse_permutation::permutation::Permutation;
-use sparse_permutation::symmetric::{permute_symmetric_csr, permute_symmetric_pattern};
-use std::alloc::{AllocError, Global};
+use sparse_permutation::symmetric::permute_symmetric_csr;
+use std::alloc::Global;
 
 /// Returns the text of P A P^T, where A is the matrix of a text and P the permutation of another one: the entry at
 /// (i, j) is that of A at the rows and columns that the order has at i and j. A pattern is written as a pattern, and
@@ -111,22 +109,4 @@ pub(crate) fn fit(nrows: usize, ncols: usize, order: &Permutation) -> Result<(),
         return Err(OrderError::OtherLength(1));
     }
     Ok(())
-}
-
-/// Returns the pattern P A P^T of a square pattern with as many rows as the permutation is long.
-///
-/// Fails only if an allocation fails.
-pub(crate) fn permuted_pattern(
-    alloc: Global,
-    pattern: &SparsityPattern,
-    order: &Permutation,
-) -> Result<SparsityPattern, AllocError>
-    requires square { pattern.now.major_dim ≡ pattern.now.minor_dim }
-    requires rows { pattern.now.major_dim ≡ length order.now }
-    ensures { IfOk result (IsPermutedPattern order.now pattern.now) }
-{
-    match permute_symmetric_pattern(alloc, pattern, order) {
-        Ok(permuted) => Ok(permuted),
-        Err(_) => Err(AllocError),
-    }
 }
