@@ -30,13 +30,20 @@ unfoldable pub ratio : ℕ → ℕ → List ℕ
 ratio a b = decimal (hundredths a b / 100) ++ (codes "."
     ++ (decimal (hundredths a b / 10 % 10) ++ decimal (hundredths a b % 10)))
 
--- the lines of `mtxkit fill`
-abbrev pub fill_lines : FillCounts → List ℕ
-fill_lines s = count_line (codes "places") s.places
+-- ---- the lines of `mtxkit fill`
+
+-- the places of the pattern, of its lower triangle and of its factor, and how many of these are fill
+abbrev pub place_lines : FillCounts → List ℕ
+place_lines s = count_line (codes "places") s.places
     ++ (count_line (codes "places of the lower triangle") s.lower
     ++ (count_line (codes "places of the factor") s.factor
-    ++ (count_line (codes "fill") (s.factor - s.lower)
-    ++ (line (codes "factor to lower triangle") (ratio s.factor s.lower)
-    ++ (count_line (codes "multiplications") s.products
+    ++ count_line (codes "fill") (s.factor - s.lower)))
+
+abbrev pub cost_lines : FillCounts → List ℕ
+cost_lines s = count_line (codes "multiplications") s.products
     ++ (count_line (codes "longest column") s.longest
-    ++ count_line (codes "height of the elimination tree") s.height))))))
+    ++ count_line (codes "height of the elimination tree") s.height)
+
+abbrev pub fill_lines : FillCounts → List ℕ
+fill_lines s = place_lines s
+    ++ (line (codes "factor to lower triangle") (ratio s.factor s.lower) ++ cost_lines s)

@@ -2,7 +2,7 @@
 
 ghost use Rattle.std.specs.Prelude.{◌≡◌, ◌++◌, IfOk, OnOk, codes, string_bytes};
 ghost use Rattle.mtxkit_matrices.specs.FactLines.{count_line};
-ghost use Rattle.mtxkit_patterns.specs.Fills.{fill_lines, hundredths, ratio};
+ghost use Rattle.mtxkit_patterns.specs.Fills.{cost_lines, fill_lines, hundredths, place_lines, ratio};
 
 use crate::counts::FillCounts;
 use mtxkit_matrices::{push_count, push_line};
@@ -15,16 +15,33 @@ pub(crate) fn lines_of(alloc: Global, counts: FillCounts) -> Result<String, Allo
     ensures { IfOk result (λ lines. string_bytes lines ≡ fill_lines counts) }
 {
     let mut lines = String::new(alloc);
-    push_count(alloc, &mut lines, "places", counts.places)?;
-    push_count(alloc, &mut lines, "places of the lower triangle", counts.lower)?;
-    push_count(alloc, &mut lines, "places of the factor", counts.factor)?;
-    push_count(alloc, &mut lines, "fill", counts.factor.saturating_sub(counts.lower))?;
+    push_places(alloc, &mut lines, counts)?;
     let ratio = ratio_text(alloc, counts.factor, counts.lower)?;
     push_line(&mut lines, "factor to lower triangle", ratio.as_str())?;
-    push_products(alloc, &mut lines, counts.products)?;
-    push_count(alloc, &mut lines, "longest column", counts.longest)?;
-    push_count(alloc, &mut lines, "height of the elimination tree", counts.height)?;
+    push_costs(alloc, &mut lines, counts)?;
     Ok(lines)
+}
+
+// Appends the lines of the places and of the fill.
+fn push_places(alloc: Global, lines: &mut String, counts: FillCounts) -> Result<(), AllocError>
+    ensures { OnOk result
+        (string_bytes lines.new ≡ string_bytes lines.old ++ place_lines counts) }
+{
+    let fill = counts.factor.saturating_sub(counts.lower);
+    push_count(alloc, lines, "places", counts.places)?;
+    push_count(alloc, lines, "places of the lower triangle", counts.lower)?;
+    push_count(alloc, lines, "places of the factor", counts.factor)?;
+    push_count(alloc, lines, "fill", fill)
+}
+
+// Appends the lines of the multiplications, the longest column and the elimination tree.
+fn push_costs(alloc: Global, lines: &mut String, counts: FillCounts) -> Result<(), AllocError>
+    ensures { OnOk result
+        (string_bytes lines.new ≡ string_bytes lines.old ++ cost_lines counts) }
+{
+    push_products(alloc, lines, counts.products)?;
+    push_count(alloc, lines, "longest column", counts.longest)?;
+    push_count(alloc, lines, "height of the elimination tree", counts.height)
 }
 
 // Returns the quotient of two numbers with two decimals, rounded down, or 1.00 if the divisor is 0.

@@ -66,7 +66,8 @@ pub(crate) fn symmetrised(alloc: Global, pattern: &SparsityPattern) -> Result<Sp
     ensures { IfOk result (IsSymmetrised pattern.now) }
 {
     let transposed = pattern.transpose(alloc)?;
-    spadd_pattern(alloc, pattern, &transposed)
+    let union = spadd_pattern(alloc, pattern, &transposed)?;
+    Ok(union)
 }
 
 /// Returns the pattern of the factor of a square pattern, by columns.
