@@ -11,7 +11,7 @@ use crate::fill_lines::lines_of;
 use crate::order_error::OrderError;
 use crate::orders::square_pattern;
 use crate::permuted::fit;
-use crate::read_order::read_order;
+use crate::order_reading::read_order;
 use crate::square::{Method, order_of, permuted_pattern};
 use sparse_algebra::recall;
 use sparse_pattern::pattern::SparsityPattern;

@@ -8,10 +8,11 @@ mod fill;
 mod fill_lines;
 mod order_error;
 mod order_lists;
+mod order_reading;
 mod order_texts;
 mod orders;
 mod permuted;
-mod read_order;
+
 mod square;
 
 pub use counts::{FillCounts, fill_counts};
@@ -20,5 +21,5 @@ pub use order_error::OrderError;
 pub use order_texts::write_order;
 pub use orders::order_text;
 pub use permuted::permute_text;
-pub use read_order::read_order;
+pub use order_reading::read_order;
 pub use square::Method;

@@ -8,7 +8,7 @@ ghost use Rattle.mtxkit_patterns.specs.Permuted.{IsUnpermuted, WritesPermuted};
 ghost use Rattle.mtxkit_patterns.specs.Permuted.{WritesPermutedPattern, WritesPermutedMatrix};
 
 use crate::order_error::OrderError;
-use crate::read_order::read_order;
+use crate::order_reading::read_order;
 use crate::square::permuted_pattern;
 use mtxkit_texts::{Failure, header_of, load, load_values, write_pattern};
 use sparse_io::{Banner, save_to_matrix_market_str_with};
