@@ -16,15 +16,23 @@ use Rattle.mtxkit_texts.specs.Statuses.{status_of}
 use Rattle.mtxkit_matrices.specs.ScaleFailures.{IsScaleFailure}
 use Rattle.mtxkit_matrices.specs.ScaledTexts.{IsScaledText}
 use Rattle.mtxkit_matrices.specs.declared.decimals.error.ScaleError.{ScaleError}
+use Rattle.mtxkit_patterns.specs.declared.order_error.OrderError.{OrderError}
 use Rattle.mtxkit_commands.specs.Inputs.{Reading, IsUnread}
+use Rattle.mtxkit_commands.specs.Reads.{ReadsOne, ReadsTwo, ReadsThree, FailsOne}
+use Rattle.mtxkit_commands.specs.Reads.{IsSecondUnread, IsThirdUnread}
+use Rattle.mtxkit_commands.specs.OrderCommands.{IsOrderAnswer, IsPermuteAnswer, IsFillAnswer}
+use Rattle.mtxkit_commands.specs.OrderCommands.{IsOrderFailure, IsPermuteFailure, IsFillFailure}
+use Rattle.mtxkit_commands.specs.OrderCommands.{IsOrderFault, IsPermuteFault, IsFillFault}
 use Rattle.mtxkit_commands.specs.Systems.{WritesSolution, SaysProduct}
 use Rattle.mtxkit_commands.specs.Systems.{IsSolveFailure, IsCheckFailure}
 use Rattle.mtxkit_commands.specs.declared.command_error.CommandError.{CommandError}
 use Rattle.mtxkit_commands.specs.declared.command_error.CommandError.TheVariants.{Failed}
 use Rattle.mtxkit_commands.specs.declared.command_error.CommandError.TheVariants.{Unscaled}
+use Rattle.mtxkit_commands.specs.declared.command_error.CommandError.TheVariants.{Misordered}
 use Rattle.mtxkit_commands.specs.declared.commands.Command.{Command}
 use Rattle.mtxkit_commands.specs.declared.commands.Command.TheVariants.{Info, Spy, Copy, Field}
 use Rattle.mtxkit_commands.specs.declared.commands.Command.TheVariants.{Integer}
+use Rattle.mtxkit_commands.specs.declared.commands.Command.TheVariants.{Order, Permute, Fill}
 use Rattle.mtxkit_commands.specs.declared.commands.Command.TheVariants.{Symmetric, Solve, Check}
 use Rattle.mtxkit_commands.specs.declared.commands.Target.{Target}
 use Rattle.mtxkit_commands.specs.declared.commands.Target.TheVariants.{Bitmap, Blocks, Svg, File}
@@ -41,22 +49,6 @@ ShowsPicture target text size written = ShowsBitmap text size written
 abbrev pub WritesValues : Values → List ℕ → List ℕ → Type 0
 WritesValues Integers text written = WritesIntegers text written
 WritesValues Pattern text written = WritesPattern text written
-
--- the only file was read; it has this path, and `Holds` holds of its text
-abbrev pub ReadsOne : List ℕ → (List ℕ → Type 0) → List Reading → List Reading → Type 0
-ReadsOne file Holds old new = (text : List ℕ) × (new ≡ (file, Ok text) ∷ old) × Holds text
-
--- the same for two files, which were read in this order
-abbrev pub ReadsTwo : List ℕ → List ℕ → (List ℕ → List ℕ → Type 0) → List Reading → List Reading
-    → Type 0
-ReadsTwo a b Holds old new = (first second : List ℕ)
-    × (new ≡ (b, Ok second) ∷ (a, Ok first) ∷ old) × Holds first second
-
--- the same for three files
-abbrev pub ReadsThree : List ℕ → List ℕ → List ℕ → (List ℕ → List ℕ → List ℕ → Type 0)
-    → List Reading → List Reading → Type 0
-ReadsThree a x b Holds old new = (first second third : List ℕ)
-    × (new ≡ (b, Ok third) ∷ (x, Ok second) ∷ (a, Ok first) ∷ old) × Holds first second third
 
 -- the text of the file with each number multiplied by 10 ^ scale, as a text of integers
 abbrev pub IsScaleAnswer : ℕ → List ℕ → List Reading → List Reading → List ℕ → Type 0
@@ -88,6 +80,10 @@ IsAnswer (Field file values) old new written =
 IsAnswer (Integer file scale) old new written = IsScaleAnswer scale file.now old new written
 IsAnswer (Symmetric file) old new written =
     ReadsOne file.now (λ text. Symmetrised (header_in text) text written) old new
+IsAnswer (Order file method) old new written = IsOrderAnswer file.now old new written
+IsAnswer (Permute order file) old new written =
+    IsPermuteAnswer order.now file.now old new written
+IsAnswer (Fill file order) old new written = IsFillAnswer order file.now old new written
 IsAnswer (Solve modulus a b) old new written = IsSolveAnswer modulus a.now b.now old new written
 IsAnswer (Check modulus a x b) old new written =
     IsCheckAnswer modulus a.now x.now b.now old new written
@@ -96,23 +92,6 @@ IsAnswer (Check modulus a x b) old new written =
 abbrev pub IsFieldFailureOf : Values → List ℕ → Failure → Type 0
 IsFieldFailureOf Integers text failure = IsValuesFailure 1 text failure
 IsFieldFailureOf Pattern text failure = IsLoadFailure 1 text failure
-
--- the only file cannot be read, or its text has a fault for which `IsFault` holds
-abbrev pub FailsOne : List ℕ → (List ℕ → Failure → Type 0) → List Reading → List Reading → Failure
-    → Type 0
-FailsOne file IsFault old new failure =
-    IsUnread 1 file old new failure ⊎ ReadsOne file (λ text. IsFault text failure) old new
-
--- the first file was read, and the second one cannot be read
-abbrev pub IsSecondUnread : List ℕ → List ℕ → List Reading → List Reading → Failure → Type 0
-IsSecondUnread a b old new failure =
-    (first : List ℕ) × IsUnread 2 b ((a, Ok first) ∷ old) new failure
-
--- the first two files were read, and the third one cannot be read
-abbrev pub IsThirdUnread : List ℕ → List ℕ → List ℕ → List Reading → List Reading → Failure
-    → Type 0
-IsThirdUnread a x b old new failure = (first second : List ℕ)
-    × IsUnread 3 b ((x, Ok second) ∷ (a, Ok first) ∷ old) new failure
 
 -- why `solve` fails: one of the files of A and B cannot be read, or the system of their texts is not solved
 abbrev pub IsUnsolved : Option ℕ → List ℕ → List ℕ → List Reading → List Reading → Failure → Type 0
@@ -140,6 +119,10 @@ IsFailure (Field file values) old new failure =
 IsFailure (Integer file scale) old new failure =
     FailsOne file.now (λ text f. f ≡ OutOfMemory) old new failure
 IsFailure (Symmetric file) old new failure = FailsOne file.now IsSymmetricFailure old new failure
+IsFailure (Order file method) old new failure = IsOrderFailure file.now old new failure
+IsFailure (Permute order file) old new failure =
+    IsPermuteFailure order.now file.now old new failure
+IsFailure (Fill file order) old new failure = IsFillFailure order file.now old new failure
 IsFailure (Solve modulus a b) old new failure = IsUnsolved modulus a.now b.now old new failure
 IsFailure (Check modulus a x b) old new failure =
     IsUnchecked modulus a.now x.now b.now old new failure
@@ -154,16 +137,26 @@ abbrev pub IsUnscaledBy : Command → List Reading → List Reading → ScaleErr
 IsUnscaledBy (Integer file scale) old new error = IsUnscaled scale file.now old new error
 IsUnscaledBy command old new error = ⊥
 
+-- the command is one of those about orders, and the order or its matrix is at fault, in this way
+abbrev pub IsMisorderedBy : Command → List Reading → List Reading → OrderError → Type 0
+IsMisorderedBy (Order file method) old new error = IsOrderFault file.now old new error
+IsMisorderedBy (Permute order file) old new error =
+    IsPermuteFault order.now file.now old new error
+IsMisorderedBy (Fill file order) old new error = IsFillFault order file.now old new error
+IsMisorderedBy command old new error = ⊥
+
 -- the same for all errors of commands
 abbrev pub HasNoAnswer : Command → List Reading → List Reading → CommandError → Type 0
 HasNoAnswer command old new (Failed failure) = IsFailure command old new failure
 HasNoAnswer command old new (Unscaled error) = IsUnscaledBy command old new error
+HasNoAnswer command old new (Misordered error) = IsMisorderedBy command old new error
 
 -- the same for `integer`
 abbrev pub IsScaleError : ℕ → List ℕ → List Reading → List Reading → CommandError → Type 0
 IsScaleError scale file old new (Failed failure) =
     FailsOne file (λ text f. f ≡ OutOfMemory) old new failure
 IsScaleError scale file old new (Unscaled error) = IsUnscaled scale file old new error
+IsScaleError scale file old new error = ⊥
 
 -- the target is a file
 abbrev pub is_file : Target → Bool
@@ -201,11 +194,14 @@ CanFail command old new before after last (Failed failure) =
     ⊎ IsUnwritten before after last failure
 CanFail command old new before after last (Unscaled error) =
     (after ≡ before) × IsUnscaledBy command old new error
+CanFail command old new before after last (Misordered error) =
+    (after ≡ before) × IsMisorderedBy command old new error
 
 -- the exit status of an error
 abbrev pub error_status : CommandError → ℕ
 error_status (Failed failure) = status_of failure
 error_status (Unscaled error) = 1
+error_status (Misordered error) = 1
 
 -- the picture has at least one cell
 abbrev pub IsSized : Command → Type 0

@@ -6,4 +6,7 @@ pub mod Inputs
 pub mod Arguments
 pub mod SystemErrors
 pub mod Names
+pub mod OrderCommands
+pub mod OrderErrors
+pub mod Reads
 pub mod Words

@@ -5,18 +5,41 @@ use Rattle.std.specs.Fmt.{decimal}
 use Rattle.std.specs.Io.KnownBytes.{Appends}
 use Rattle.mtxkit_matrices.specs.declared.decimals.error.ScaleError.{ScaleError}
 use Rattle.mtxkit_matrices.specs.declared.decimals.error.ScaleError.TheVariants as scale
+use Rattle.mtxkit_patterns.specs.declared.order_error.OrderError.{OrderError}
+use Rattle.mtxkit_patterns.specs.declared.order_error.OrderError.TheVariants as order
 use Rattle.mtxkit_texts.specs.declared.failure.Failure.{Failure}
 use Rattle.mtxkit_texts.specs.declared.failure.Failure.TheVariants.{Unread, Input, NotSupported}
 use Rattle.mtxkit_texts.specs.declared.failure.Failure.TheVariants.{Wide, Overflow, Unsaved}
 use Rattle.mtxkit_commands.specs.declared.command_error.CommandError.{CommandError}
 use Rattle.mtxkit_commands.specs.declared.command_error.CommandError.TheVariants.{Failed}
 use Rattle.mtxkit_commands.specs.declared.command_error.CommandError.TheVariants.{Unscaled}
+use Rattle.mtxkit_commands.specs.declared.command_error.CommandError.TheVariants.{Misordered}
 use Rattle.mtxkit_commands.specs.declared.commands.Command.{Command}
 use Rattle.mtxkit_commands.specs.declared.commands.Command.TheVariants.{Info, Spy, Copy, Field}
 use Rattle.mtxkit_commands.specs.declared.commands.Command.TheVariants.{Integer}
+use Rattle.mtxkit_commands.specs.declared.commands.Command.TheVariants.{Order, Permute, Fill}
 use Rattle.mtxkit_commands.specs.declared.commands.Command.TheVariants.{Symmetric, Solve, Check}
+use Rattle.mtxkit_commands.specs.declared.commands.FillOrder.{FillOrder}
+use Rattle.mtxkit_commands.specs.declared.commands.FillOrder.TheVariants as fill
 use Rattle.mtxkit_commands.specs.declared.commands.Target.{Target}
 use Rattle.mtxkit_commands.specs.declared.commands.Target.TheVariants.{Bitmap, Blocks, Svg, File}
+
+-- the path of the file of an order, if there is one
+abbrev pub order_file : FillOrder → Option (List ℕ)
+order_file fill.Natural = None
+order_file (fill.Computed method) = None
+order_file (fill.File path) = Some path.now
+
+-- the paths of the files of `fill`, in the order in which they are read
+abbrev pub first_of_fill : FillOrder → List ℕ → List ℕ
+first_of_fill fill.Natural file = file
+first_of_fill (fill.Computed method) file = file
+first_of_fill (fill.File path) file = path.now
+
+abbrev pub second_of_fill : FillOrder → List ℕ → Option (List ℕ)
+second_of_fill fill.Natural file = None
+second_of_fill (fill.Computed method) file = None
+second_of_fill (fill.File path) file = Some file
 
 abbrev pub first_file : Command → List ℕ
 first_file (Info file) = file.now
@@ -25,10 +48,15 @@ first_file (Copy file) = file.now
 first_file (Field file values) = file.now
 first_file (Integer file scale) = file.now
 first_file (Symmetric file) = file.now
+first_file (Order file method) = file.now
+first_file (Permute order file) = order.now
+first_file (Fill file order) = first_of_fill order file.now
 first_file (Solve modulus a b) = a.now
 first_file (Check modulus a x b) = a.now
 
 abbrev pub second_file : Command → Option (List ℕ)
+second_file (Permute order file) = Some file.now
+second_file (Fill file order) = second_of_fill order file.now
 second_file (Solve modulus a b) = Some b.now
 second_file (Check modulus a x b) = Some x.now
 second_file command = None
@@ -80,6 +108,15 @@ unscaled_line (scale.Range number) = Some number
 unscaled_line scale.Ended = None
 unscaled_line scale.OutOfMemory = None
 
+-- the number of the file that an error of an order is about
+abbrev pub order_number : OrderError → ℕ
+order_number (order.Failed failure) = 1
+order_number (order.NotSquare number) = number
+order_number (order.NotColumn number) = number
+order_number (order.OutOfRange number k) = number
+order_number (order.Repeated number k) = number
+order_number (order.OtherLength number) = number
+
 -- the path of a file, followed by a colon and the number of a line of it, if there is one
 abbrev pub with_line : Option (List ℕ) → Option ℕ → Option (List ℕ)
 with_line None number = None
@@ -91,6 +128,7 @@ abbrev pub error_file : Command → CommandError → Option (List ℕ)
 error_file command (Failed failure) = with_line (fault_file command failure) (fault_line failure)
 error_file command (Unscaled error) =
     with_line (Some (first_file command)) (unscaled_line error)
+error_file command (Misordered error) = with_line (file_of command (order_number error)) None
 
 -- the path of a file before the message, if there is one
 abbrev pub name_text : Option (List ℕ) → List ℕ

@@ -3,10 +3,16 @@ use Rattle.std.specs.Prelude.{◌≡◌, ℕ, List, codes, Option, Some, None, n
 use Rattle.clap.specs.Matches.{first_value, one_text}
 use Rattle.clap.specs.declared.parser.matches.Found.{Found}
 use Rattle.mtxkit_commands.specs.Names.{target_file}
+use Rattle.mtxkit_patterns.specs.declared.square.Method.{Method}
+use Rattle.mtxkit_patterns.specs.declared.square.Method.TheVariants.{MinimumDegree}
+use Rattle.mtxkit_patterns.specs.declared.square.Method.TheVariants.{ReverseCuthillMckee}
 use Rattle.mtxkit_commands.specs.declared.commands.Command.{Command}
 use Rattle.mtxkit_commands.specs.declared.commands.Command.TheVariants.{Info, Spy, Copy, Field}
 use Rattle.mtxkit_commands.specs.declared.commands.Command.TheVariants.{Integer}
+use Rattle.mtxkit_commands.specs.declared.commands.Command.TheVariants.{Order, Permute, Fill}
 use Rattle.mtxkit_commands.specs.declared.commands.Command.TheVariants.{Symmetric, Solve, Check}
+use Rattle.mtxkit_commands.specs.declared.commands.FillOrder.{FillOrder}
+use Rattle.mtxkit_commands.specs.declared.commands.FillOrder.TheVariants as fill
 use Rattle.mtxkit_commands.specs.declared.commands.Target.{Target}
 use Rattle.mtxkit_commands.specs.declared.commands.Target.TheVariants.{Bitmap, Blocks, Svg, File}
 use Rattle.mtxkit_commands.specs.declared.commands.Values.{Values}
@@ -20,6 +26,9 @@ command_name (Copy file) = codes "copy"
 command_name (Field file values) = codes "field"
 command_name (Integer file scale) = codes "integer"
 command_name (Symmetric file) = codes "symmetric"
+command_name (Order file method) = codes "order"
+command_name (Permute order file) = codes "permute"
+command_name (Fill file order) = codes "fill"
 command_name (Solve modulus a b) = codes "solve"
 command_name (Check modulus a x b) = codes "check"
 
@@ -40,6 +49,26 @@ abbrev pub size_given : Option ℕ → Target → ℕ
 size_given None target = default_size target
 size_given (Some size) target = if nat_lt 0 size then size else default_size target
 
+-- the name of a method
+abbrev pub method_name : Method → List ℕ
+method_name MinimumDegree = codes "amd"
+method_name ReverseCuthillMckee = codes "rcm"
+
+-- the method has the name that is given, or is minimum degree if none is
+abbrev pub GivesMethod : Option (List ℕ) → Method → Type 0
+GivesMethod None method = method ≡ MinimumDegree
+GivesMethod (Some name) method = name ≡ method_name method
+
+-- the order has the name that is given, or is that of the file with this path; it is the natural one if none is given
+abbrev pub IsOrderNamed : List ℕ → FillOrder → Type 0
+IsOrderNamed name fill.Natural = name ≡ codes "natural"
+IsOrderNamed name (fill.Computed method) = name ≡ method_name method
+IsOrderNamed name (fill.File path) = path.now ≡ name
+
+abbrev pub GivesOrder : Option (List ℕ) → FillOrder → Type 0
+GivesOrder None order = order ≡ fill.Natural
+GivesOrder (Some name) order = IsOrderNamed name order
+
 -- the argument with this name is this text
 abbrev pub IsArgument : Found → List ℕ → List ℕ → Type 0
 IsArgument words name text = first_value words name ≡ Some text
@@ -57,6 +86,12 @@ GivesCommand words (Field file values) =
 GivesCommand words (Integer file scale) = IsArgument words (codes "FILE") file.now
     × (one_text words (codes "scale") ≡ None → scale ≡ 0)
 GivesCommand words (Symmetric file) = IsArgument words (codes "FILE") file.now
+GivesCommand words (Order file method) = IsArgument words (codes "FILE") file.now
+    × GivesMethod (first_value words (codes "method")) method
+GivesCommand words (Permute order file) = IsArgument words (codes "ORDER") order.now
+    × IsArgument words (codes "FILE") file.now
+GivesCommand words (Fill file order) = IsArgument words (codes "FILE") file.now
+    × GivesOrder (first_value words (codes "order")) order
 GivesCommand words (Solve modulus a b) = IsArgument words (codes "A") a.now
     × IsArgument words (codes "B") b.now × (one_text words (codes "mod") ≡ None → modulus ≡ None)
 GivesCommand words (Check modulus a x b) = IsArgument words (codes "A") a.now

@@ -9,6 +9,7 @@ ghost use Rattle.mtxkit_commands.specs.Commands.{IsUnsolved, IsCheckAnswer, IsUn
 use crate::command_error::CommandError;
 use crate::commands::{Command, Target, Values};
 use crate::inputs::{Texts, read_text};
+use crate::orders::{filled_of, ordered_of, permuted_of};
 use crate::scaled::scaled_of;
 use crate::systems::{check_text, solve_text};
 use mtxkit_texts::{
@@ -53,6 +54,9 @@ pub fn answer_of<T: Texts>(
             let text = read_text(texts, 1, file)?;
             Ok(symmetric_text(alloc, text.as_str())?.into_bytes())
         }
+        Command::Order { file, method } => ordered_of(alloc, texts, file, method),
+        Command::Permute { order, file } => permuted_of(alloc, texts, order, file),
+        Command::Fill { file, order } => filled_of(alloc, texts, file, order),
         Command::Solve { modulus, a, b } => {
             Ok(solution_of(alloc, texts, modulus, a, b)?.into_bytes())
         }

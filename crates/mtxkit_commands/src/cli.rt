@@ -11,9 +11,10 @@ ghost use Rattle.mtxkit_texts.specs.declared.failure.Failure.TheVariants.{Unsave
 
 use crate::answers::answer_of;
 use crate::command_error::CommandError;
-use crate::commands::Command;
+use crate::commands::{Command, order_number};
 use crate::failure_lines::report;
 use crate::inputs::Texts;
+use crate::orders::report_misordered;
 use crate::scaled::report_unscaled;
 use mtxkit_texts::Failure;
 use sparse_io::{Out, Sink, write_all_to};
@@ -69,6 +70,9 @@ fn report_error<E: Sink>(
             report(alloc, command.file_at_fault(failure), failure, err)
         }
         CommandError::Unscaled(error) => report_unscaled(alloc, command.first_file(), error, err),
+        CommandError::Misordered(error) => {
+            report_misordered(alloc, command.file(order_number(error)), error, err)
+        }
     }
 }
 

@@ -1,6 +1,10 @@
 //! Why a command fails: the errors of all commands.
 
+ghost use Rattle.std.specs.Prelude.{◌≡◌};
+ghost use Rattle.mtxkit_commands.specs.OrderErrors.{order_fault};
+
 use mtxkit_matrices::ScaleError;
+use mtxkit_patterns::OrderError;
 use mtxkit_texts::Failure;
 
 /// Why a command fails.
@@ -10,6 +14,20 @@ pub enum CommandError {
     Failed(Failure),
     /// The numbers of the file of `mtxkit integer` are not scaled.
     Unscaled(ScaleError),
+    /// An order, or the matrix that it is for, is at fault.
+    Misordered(OrderError),
+}
+
+impl CommandError {
+    // Returns the error for one of an order.
+    pub(crate) fn of_order(error: OrderError) -> CommandError
+        ensures { result ≡ order_fault error }
+    {
+        match error {
+            OrderError::Failed(failure) => CommandError::Failed(failure),
+            error => CommandError::Misordered(error),
+        }
+    }
 }
 
 impl From<Failure> for CommandError {

@@ -23,6 +23,8 @@ const MODULI: [&str; 11] = [
 
 const FIELDS: [&str; 2] = ["integer", "pattern"];
 
+const METHODS: [&str; 2] = ["amd", "rcm"];
+
 const MATRIX_FILE: &str = "A Matrix Market file, or - for standard input";
 
 const DECIMAL_FILE: &str = "A real or integer Matrix Market file, or - for standard input";
@@ -40,7 +42,9 @@ enum Word {
     // A required file: its name in the usage line, and its help.
     File(&'static str, &'static str),
     Field,
+    Method,
     Modulus,
+    Order,
     Output,
     Scale,
     Size,
@@ -48,7 +52,7 @@ enum Word {
     Text,
 }
 
-const USAGES: [Usage; 8] = [
+const USAGES: [Usage; 11] = [
     Usage {
         name: "info",
         about: "Writes facts about a matrix",
@@ -84,6 +88,24 @@ const USAGES: [Usage; 8] = [
         name: "symmetric",
         about: "Expands a symmetric file, or writes the lower triangle of a symmetric matrix",
         words: &[Word::File("FILE", MATRIX_FILE)],
+    },
+    Usage {
+        name: "order",
+        about: "Writes an order of the rows and columns of a square matrix, for a factor with little fill",
+        words: &[Word::Method, Word::File("FILE", MATRIX_FILE)],
+    },
+    Usage {
+        name: "permute",
+        about: "Writes a square matrix with its rows and columns in an order",
+        words: &[
+            Word::File("ORDER", "The order, as mtxkit order writes it"),
+            Word::File("FILE", MATRIX_FILE),
+        ],
+    },
+    Usage {
+        name: "fill",
+        about: "Writes facts about the factor L D L^T of a square matrix: its fill and its cost",
+        words: &[Word::Order, Word::File("FILE", MATRIX_FILE)],
     },
     Usage {
         name: "solve",
@@ -134,7 +156,9 @@ fn argument<'a>(alloc: Global, word: Word) -> Result<Arg<'a>, AllocError> {
     match word {
         Word::File(name, help) => Ok(file_word(alloc, name, help)),
         Word::Field => Ok(field_word(alloc)),
+        Word::Method => Ok(method_word(alloc)),
         Word::Modulus => Ok(modulus_word(alloc)),
+        Word::Order => Ok(order_word(alloc)),
         Word::Output => output_word(alloc),
         Word::Scale => Ok(scale_word(alloc)),
         Word::Size => Ok(size_word(alloc)),
@@ -193,6 +217,21 @@ fn text_word<'a>(alloc: Global) -> Arg<'a> {
         .long("text")
         .action(ArgAction::SetTrue)
         .help("Write block characters for a terminal")
+}
+
+fn method_word<'a>(alloc: Global) -> Arg<'a> {
+    Arg::new(alloc, "method")
+        .long("method")
+        .value_name("METHOD")
+        .value_parser(METHODS.as_slice())
+        .help("amd, minimum degree, unless given; rcm, reverse Cuthill-McKee")
+}
+
+fn order_word<'a>(alloc: Global) -> Arg<'a> {
+    Arg::new(alloc, "order")
+        .long("order")
+        .value_name("ORDER")
+        .help("natural unless given, amd, rcm, or the file of an order")
 }
 
 fn modulus_word<'a>(alloc: Global) -> Arg<'a> {

@@ -5,7 +5,9 @@ ghost use Rattle.std.specs.Option.{option_map};
 ghost use Rattle.mtxkit_commands.specs.Commands.{is_file, is_saved};
 ghost use Rattle.mtxkit_commands.specs.Names.{first_file, second_file, third_file, file_of};
 ghost use Rattle.mtxkit_commands.specs.Names.{target_file, saved_file, fault_file};
+ghost use Rattle.mtxkit_commands.specs.Names.{order_file, order_number};
 
+use mtxkit_patterns::{Method, OrderError};
 use mtxkit_texts::Failure;
 
 /// A command. Its files are given by their paths, and `-` is standard input.
@@ -48,6 +50,27 @@ pub enum Command<'a> {
     Symmetric {
         /// The file.
         file: &'a str,
+    },
+    /// `order`: writes an order of the rows and columns of a square matrix.
+    Order {
+        /// The file.
+        file: &'a str,
+        /// How the order is computed.
+        method: Method,
+    },
+    /// `permute`: writes a matrix with its rows and columns in an order.
+    Permute {
+        /// The file of the order.
+        order: &'a str,
+        /// The file.
+        file: &'a str,
+    },
+    /// `fill`: writes facts about the fill of the factor of a square matrix.
+    Fill {
+        /// The file.
+        file: &'a str,
+        /// The order of the rows and columns.
+        order: FillOrder<'a>,
     },
     /// `solve`: writes the matrix X for which A X = B.
     Solve {
@@ -109,7 +132,10 @@ impl<'a> Command<'a> {
             | Command::Copy { file }
             | Command::Field { file, .. }
             | Command::Integer { file, .. }
-            | Command::Symmetric { file } => file,
+            | Command::Symmetric { file }
+            | Command::Order { file, .. } => file,
+            Command::Permute { order, .. } => order,
+            Command::Fill { file, order } => order.path().unwrap_or(file),
             Command::Solve { a, .. } | Command::Check { a, .. } => a,
         }
     }
@@ -118,6 +144,11 @@ impl<'a> Command<'a> {
         ensures { option_map (λ path. path.now) result ≡ second_file self.entry }
     {
         match self {
+            Command::Permute { file, .. } => Some(file),
+            Command::Fill {
+                file,
+                order: FillOrder::File(_),
+            } => Some(file),
             Command::Solve { b, .. } => Some(b),
             Command::Check { x, .. } => Some(x),
             _ => None,
@@ -146,6 +177,43 @@ impl<'a> Command<'a> {
             Failure::Unsaved(_) => self.path(),
             _ => None,
         }
+    }
+}
+
+/// The order in which the rows and columns of a matrix are taken.
+#[derive(Clone, Copy, Debug)]
+pub enum FillOrder<'a> {
+    /// That of the matrix.
+    Natural,
+    /// One that is computed.
+    Computed(Method),
+    /// That of the file with this path.
+    File(&'a str),
+}
+
+impl<'a> FillOrder<'a> {
+    // Returns the path of the file of the order, if there is one.
+    fn path(self) -> Option<&'a str>
+        ensures { option_map (λ path. path.now) result ≡ order_file self.entry }
+    {
+        match self {
+            FillOrder::Natural | FillOrder::Computed(_) => None,
+            FillOrder::File(path) => Some(path),
+        }
+    }
+}
+
+// Returns the number of the file that an error of an order is about, counted from 1.
+pub(crate) fn order_number(error: OrderError) -> usize
+    ensures { result ≡ order_number error }
+{
+    match error {
+        OrderError::Failed(_) => 1,
+        OrderError::NotSquare(number)
+        | OrderError::NotColumn(number)
+        | OrderError::OutOfRange(number, _)
+        | OrderError::Repeated(number, _)
+        | OrderError::OtherLength(number) => number,
     }
 }
 

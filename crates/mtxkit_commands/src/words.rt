@@ -9,10 +9,12 @@ ghost use Rattle.std.specs.Option.{option_map};
 ghost use Rattle.mtxkit_commands.specs.Commands.{IsSized};
 ghost use Rattle.mtxkit_commands.specs.Names.{target_file};
 ghost use Rattle.mtxkit_commands.specs.Words.{command_name, field_name, size_given, GivesCommand};
+ghost use Rattle.mtxkit_commands.specs.Words.{GivesMethod, GivesOrder};
 
 use crate::command_line::command_line;
-use crate::commands::{Command, Target, Values};
+use crate::commands::{Command, FillOrder, Target, Values};
 use clap::{ArgMatches, Error};
+use mtxkit_patterns::Method;
 use std::alloc::Global;
 
 /// Returns the command that the arguments give. The first argument is the program's name. The size of a picture is not
@@ -56,6 +58,9 @@ fn named_command<'a>(name: &str, words: &ArgMatches<'a>) -> Option<Command<'a>>
         "field" => field_of(words),
         "integer" => integer_of(words),
         "symmetric" => symmetric_of(words),
+        "order" => order_of(words),
+        "permute" => permute_of(words),
+        "fill" => fill_of(words),
         "solve" => solve_of(words),
         "check" => check_of(words),
         _ => None,
@@ -155,6 +160,65 @@ fn symmetric_of<'a>(words: &ArgMatches<'a>) -> Option<Command<'a>>
 {
     let file = words.get_str("FILE")?;
     Some(Command::Symmetric { file })
+}
+
+fn order_of<'a>(words: &ArgMatches<'a>) -> Option<Command<'a>>
+    ensures sized { IfSome result IsSized }
+    ensures named { IfSome result (λ command. command_name command ≡ codes "order") }
+    ensures given { IfSome result (GivesCommand (found_of words.now)) }
+{
+    let file = words.get_str("FILE")?;
+    let method = method_of(words.get_str("method"))?;
+    Some(Command::Order { file, method })
+}
+
+// Returns the method with this name, and minimum degree if none is given.
+fn method_of(name: Option<&str>) -> Option<Method>
+    ensures { IfSome result (GivesMethod (option_map (λ name. name.now) name.entry)) }
+{
+    let Some(name) = name else {
+        return Some(Method::MinimumDegree);
+    };
+    match name {
+        "amd" => Some(Method::MinimumDegree),
+        "rcm" => Some(Method::ReverseCuthillMckee),
+        _ => None,
+    }
+}
+
+fn permute_of<'a>(words: &ArgMatches<'a>) -> Option<Command<'a>>
+    ensures sized { IfSome result IsSized }
+    ensures named { IfSome result (λ command. command_name command ≡ codes "permute") }
+    ensures given { IfSome result (GivesCommand (found_of words.now)) }
+{
+    let order = words.get_str("ORDER")?;
+    let file = words.get_str("FILE")?;
+    Some(Command::Permute { order, file })
+}
+
+fn fill_of<'a>(words: &ArgMatches<'a>) -> Option<Command<'a>>
+    ensures sized { IfSome result IsSized }
+    ensures named { IfSome result (λ command. command_name command ≡ codes "fill") }
+    ensures given { IfSome result (GivesCommand (found_of words.now)) }
+{
+    let file = words.get_str("FILE")?;
+    let order = fill_order(words.get_str("order"));
+    Some(Command::Fill { file, order })
+}
+
+// Returns the order with this name, or that of the file with this path, and the natural one if none is given.
+fn fill_order<'a>(name: Option<&'a str>) -> FillOrder<'a>
+    ensures { GivesOrder (option_map (λ name. name.now) name.entry) result }
+{
+    let Some(name) = name else {
+        return FillOrder::Natural;
+    };
+    match name {
+        "natural" => FillOrder::Natural,
+        "amd" => FillOrder::Computed(Method::MinimumDegree),
+        "rcm" => FillOrder::Computed(Method::ReverseCuthillMckee),
+        path => FillOrder::File(path),
+    }
 }
 
 fn solve_of<'a>(words: &ArgMatches<'a>) -> Option<Command<'a>>

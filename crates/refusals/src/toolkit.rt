@@ -5,7 +5,8 @@ ghost use Rattle.mtxkit_commands.specs.Commands.{IsSized};
 use crate::outcome::{Outcome, checksum_of_bytes};
 use crate::page::Page;
 use case_words::turn::Turn;
-use mtxkit_commands::{Command, Inputs, Target, Values, run as run_command};
+use mtxkit_commands::{Command, FillOrder, Inputs, Target, Values, run as run_command};
+use mtxkit_patterns::Method;
 use mtxkit_texts::Screen;
 use nalgebra_sparse::io::Out;
 use std::fs;
@@ -16,6 +17,9 @@ const A: &str = "matrix.mtx";
 const X: &str = "solution.mtx";
 
 const B: &str = "sides.mtx";
+
+// An order of the rows and columns of A.
+const ORDER: &str = "order.mtx";
 
 const FILES: &[(&str, &str)] = &[
     (
@@ -29,6 +33,10 @@ const FILES: &[(&str, &str)] = &[
     (
         B,
         "%%MatrixMarket matrix coordinate integer general\n2 1 2\n1 1 1\n2 1 2\n",
+    ),
+    (
+        ORDER,
+        "%%MatrixMarket matrix array integer general\n2 1\n2\n1\n",
     ),
 ];
 
@@ -50,6 +58,18 @@ pub fn run(rt: &HostRuntime, turn: &mut Turn, case: &str) -> Outcome {
             run_args(rt, turn, Command::Integer { file: A, scale })
         }
         "symmetric" => run_args(rt, turn, Command::Symmetric { file: A }),
+        "order" => {
+            let method = Method::MinimumDegree;
+            run_args(rt, turn, Command::Order { file: A, method })
+        }
+        "permute" => {
+            let order = ORDER;
+            run_args(rt, turn, Command::Permute { order, file: A })
+        }
+        "fill" => {
+            let order = FillOrder::File(ORDER);
+            run_args(rt, turn, Command::Fill { file: A, order })
+        }
         "solve" => run_args(rt, turn, solve(None)),
         "solve modulo" => run_args(rt, turn, solve(modulus)),
         "check" => {

@@ -1,0 +1,149 @@
+//! The commands `mtxkit order`, `permute` and `fill`, and the lines of their errors.
+
+ghost use Rattle.std.specs.Prelude.{◌≡◌, IfOk, IfErr, Some, None, string_bytes};
+ghost use Rattle.std.specs.Option.{option_map};
+ghost use Rattle.mtxkit_commands.specs.OrderCommands.{IsOrderAnswer, IsPermuteAnswer, IsFillAnswer};
+ghost use Rattle.mtxkit_commands.specs.OrderCommands.{IsOrderError, IsPermuteError, IsFillError};
+ghost use Rattle.mtxkit_commands.specs.OrderCommands.{IsFillErrorInOrder};
+ghost use Rattle.mtxkit_commands.specs.OrderCommands.{IsFillAnswerAlone, IsFillAnswerInOrder};
+ghost use Rattle.mtxkit_commands.specs.Names.{with_line, IsErrorLine, IsReported};
+
+use crate::command_error::CommandError;
+use crate::commands::FillOrder;
+use crate::failure_lines::{push_name, write_line};
+use crate::inputs::{Texts, read_text};
+use mtxkit_patterns::{
+    Method, OrderError, fill_text, fill_text_in_order, order_text, permute_text,
+};
+use sparse_io::Sink;
+use std::alloc::{AllocError, Global};
+
+/// Reads the file, and returns the text of an order of its rows and columns.
+pub(crate) fn ordered_of<T: Texts>(
+    alloc: Global,
+    texts: &mut T,
+    file: &str,
+    method: Method,
+) -> Result<Vec<u8>, CommandError>
+    ensures answer { IfOk result (λ answer. IsOrderAnswer file.now (T.readings texts.old)
+        (T.readings texts.new) answer.items) }
+    ensures failed { IfErr result
+        (IsOrderError file.now (T.readings texts.old) (T.readings texts.new)) }
+{
+    let text = read_text(texts, 1, file)?;
+    match order_text(alloc, method, text.as_str()) {
+        Ok(order) => Ok(order.into_bytes()),
+        Err(error) => Err(CommandError::of_order(error)),
+    }
+}
+
+/// Reads the file of the order and that of the matrix, and returns the text of the permuted matrix.
+pub(crate) fn permuted_of<T: Texts>(
+    alloc: Global,
+    texts: &mut T,
+    order: &str,
+    file: &str,
+) -> Result<Vec<u8>, CommandError>
+    ensures answer { IfOk result (λ answer. IsPermuteAnswer order.now file.now
+        (T.readings texts.old) (T.readings texts.new) answer.items) }
+    ensures failed { IfErr result
+        (IsPermuteError order.now file.now (T.readings texts.old) (T.readings texts.new)) }
+{
+    let first = read_text(texts, 1, order)?;
+    let second = read_text(texts, 2, file)?;
+    match permute_text(alloc, first.as_str(), second.as_str()) {
+        Ok(permuted) => Ok(permuted.into_bytes()),
+        Err(error) => Err(CommandError::of_order(error)),
+    }
+}
+
+/// Reads the file of the order, if there is one, and that of the matrix, and returns the lines about its fill.
+pub(crate) fn filled_of<T: Texts>(
+    alloc: Global,
+    texts: &mut T,
+    file: &str,
+    order: FillOrder<'_>,
+) -> Result<Vec<u8>, CommandError>
+    ensures answer { IfOk result (λ answer. IsFillAnswer order.entry file.now
+        (T.readings texts.old) (T.readings texts.new) answer.items) }
+    ensures failed { IfErr result
+        (IsFillError order.entry file.now (T.readings texts.old) (T.readings texts.new)) }
+{
+    match order {
+        FillOrder::Natural => filled_alone(alloc, texts, file, None),
+        FillOrder::Computed(method) => filled_alone(alloc, texts, file, Some(method)),
+        FillOrder::File(path) => filled_in_order(alloc, texts, path, file),
+    }
+}
+
+// Reads the file, and returns the lines about its fill.
+fn filled_alone<T: Texts>(
+    alloc: Global,
+    texts: &mut T,
+    file: &str,
+    method: Option<Method>,
+) -> Result<Vec<u8>, CommandError>
+    ensures answer { IfOk result (λ answer. IsFillAnswerAlone method file.now
+        (T.readings texts.old) (T.readings texts.new) answer.items) }
+    ensures failed { IfErr result
+        (IsOrderError file.now (T.readings texts.old) (T.readings texts.new)) }
+{
+    let text = read_text(texts, 1, file)?;
+    match fill_text(alloc, method, text.as_str()) {
+        Ok(lines) => Ok(lines.into_bytes()),
+        Err(error) => Err(CommandError::of_order(error)),
+    }
+}
+
+// Reads both files, and returns the lines about the fill of the matrix in this order.
+fn filled_in_order<T: Texts>(
+    alloc: Global,
+    texts: &mut T,
+    order: &str,
+    file: &str,
+) -> Result<Vec<u8>, CommandError>
+    ensures answer { IfOk result (λ answer. IsFillAnswerInOrder order.now file.now
+        (T.readings texts.old) (T.readings texts.new) answer.items) }
+    ensures failed { IfErr result
+        (IsFillErrorInOrder order.now file.now (T.readings texts.old) (T.readings texts.new)) }
+{
+    let first = read_text(texts, 1, order)?;
+    let second = read_text(texts, 2, file)?;
+    match fill_text_in_order(alloc, first.as_str(), second.as_str()) {
+        Ok(lines) => Ok(lines.into_bytes()),
+        Err(error) => Err(CommandError::of_order(error)),
+    }
+}
+
+/// Writes the line of an error of an order, which names this file, and returns the exit status. An error in writing the
+/// line is ignored.
+pub(crate) fn report_misordered<E: Sink>(
+    alloc: Global,
+    file: Option<&str>,
+    error: OrderError,
+    err: &mut E,
+) -> u8
+    ensures status { result ≡ 1 }
+    ensures reported { IsReported
+        (with_line (option_map (λ path. path.now) file.entry) None) (E.accepted err.old)
+        (E.accepted err.new) (E.failures err.old) (E.failures err.new) }
+{
+    write_line(misordered_line(alloc, file, error), err);
+    1
+}
+
+// Returns the line of an error of an order: the program, the file, if there is one, and the message.
+fn misordered_line(
+    alloc: Global,
+    file: Option<&str>,
+    error: OrderError,
+) -> Result<String, AllocError>
+    ensures { IfOk result (λ line. IsErrorLine
+        (with_line (option_map (λ path. path.now) file.entry) None) (string_bytes line)) }
+{
+    let mut line = String::new(alloc);
+    push_name(alloc, &mut line, file, None)?;
+    let why = format!(in alloc; ": {error}\n")?;
+    line.push_str(why.as_str())?;
+    Ok(line)
+}

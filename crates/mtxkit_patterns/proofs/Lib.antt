@@ -1,0 +1,6 @@
+mod ColumnProducts
+mod CountedEntries
+mod CountedIndices
+mod LowerFactors
+mod ReadOrders
+mod TreeDepths
