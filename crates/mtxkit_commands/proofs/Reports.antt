@@ -25,7 +25,7 @@ reported text (Ok line) path old new before after names written memory =
 reported text (Err e) path old new before after names written memory =
     record { line = codes "mtxkit: out of memory\n"; names = inr refl; written = memory }
 
-pub write_status-is : (kind : ErrorKind) → IsStatus (write_status kind)
+write_status-is : (kind : ErrorKind) → IsStatus (write_status kind)
 write_status-is io.BrokenPipe = inr refl
 write_status-is kind = inl (omega arith)
 
@@ -36,27 +36,29 @@ error_status-is (Unscaled error) = inl (omega arith)
 error_status-is (Unwritten kind) = write_status-is kind
 
 module _ (old new : Option (List ℕ)) (before after : ℕ) where
-  pub written_at_1 : (kind : ErrorKind) → write_status kind ≡ 1
+  written_at_1 : (kind : ErrorKind) → write_status kind ≡ 1
       → IsWriteReported kind old new before after → IsReported None old new before after
   written_at_1 io.BrokenPipe is told = absurd (omega (arith, is))
   written_at_1 kind is told = told
 
-  pub silent_at_141 : (kind : ErrorKind) → write_status kind ≡ 141
+  silent_at_141 : (kind : ErrorKind) → write_status kind ≡ 141
       → IsWriteReported kind old new before after → IsSilent old new before after
   silent_at_141 io.BrokenPipe is told = told
   silent_at_141 kind is told = absurd (omega (arith, is))
 
-  pub error_written_at_1 : (command : Command) (error : CommandError) → error_status error ≡ 1
+  -- the line of an error with status 1 was written
+  pub written_of_error : (command : Command) (error : CommandError) → error_status error ≡ 1
       → IsErrorReported command error old new before after → HasReport old new before after
-  error_written_at_1 command (Failed failure) is told =
+  written_of_error command (Failed failure) is told =
       (error_file command (Failed failure), told)
-  error_written_at_1 command (Unscaled error) is told =
+  written_of_error command (Unscaled error) is told =
       (error_file command (Unscaled error), told)
-  error_written_at_1 command (Unwritten kind) is told = (None, written_at_1 kind is told)
+  written_of_error command (Unwritten kind) is told = (None, written_at_1 kind is told)
 
-  pub error_silent_at_141 : (command : Command) (error : CommandError) → error_status error ≡ 141
+  -- nothing was written for an error with status 141
+  pub silent_of_error : (command : Command) (error : CommandError) → error_status error ≡ 141
       → IsErrorReported command error old new before after → IsSilent old new before after
-  error_silent_at_141 command (Failed Usage) is told = absurd (omega (arith, is))
-  error_silent_at_141 command (Failed failure) is told = absurd (omega (arith, is))
-  error_silent_at_141 command (Unscaled error) is told = absurd (omega (arith, is))
-  error_silent_at_141 command (Unwritten kind) is told = silent_at_141 kind is told
+  silent_of_error command (Failed Usage) is told = absurd (omega (arith, is))
+  silent_of_error command (Failed failure) is told = absurd (omega (arith, is))
+  silent_of_error command (Unscaled error) is told = absurd (omega (arith, is))
+  silent_of_error command (Unwritten kind) is told = silent_at_141 kind is told

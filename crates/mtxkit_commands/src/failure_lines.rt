@@ -1,13 +1,14 @@
 //! Writes the lines of errors.
 
-ghost use Rattle.std.specs.Prelude.{◌≡◌, ◌++◌, IfOk, IfErr, OnOk, codes, string_bytes};
+ghost use Rattle.std.specs.Prelude.{◌≡◌, ◌⊎◌, ◌++◌, None, IfOk, IfErr, OnOk, codes};
+ghost use Rattle.std.specs.Prelude.{string_bytes};
 ghost use Rattle.std.specs.Fmt.{decimal};
 ghost use Rattle.std.specs.Option.{option_map};
 ghost use Rattle.mtxkit_texts.specs.Statuses.{status_of};
 ghost use Rattle.mtxkit_commands.specs.Names.{fault_line, with_line, name_text};
 ghost use Rattle.mtxkit_commands.specs.Commands.{write_status};
 ghost use Rattle.mtxkit_commands.specs.Names.{IsErrorLine, IsReported, IsWritten};
-ghost use Rattle.mtxkit_commands.specs.Names.{IsWriteReported};
+ghost use Rattle.mtxkit_commands.specs.Names.{IsSilent, IsWriteReported};
 
 use mtxkit_texts::Failure;
 use sparse_io::{Sink, write_all_to};
@@ -36,7 +37,12 @@ pub fn report<E: Sink>(alloc: Global, file: Option<&str>, failure: Failure, err:
 /// nothing is written, and the status is that of a program which is stopped so.
 pub(crate) fn report_write<E: Sink>(alloc: Global, kind: ErrorKind, err: &mut E) -> u8
     ensures status { result ≡ write_status kind }
-    ensures reported { IsWriteReported kind (E.accepted err.old) (E.accepted err.new)
+    ensures statuses { (result ≡ 1) ⊎ (result ≡ 141) }
+    ensures told { IsWriteReported kind (E.accepted err.old) (E.accepted err.new)
+        (E.failures err.old) (E.failures err.new) }
+    ensures reported { result ≡ 1 → IsReported None (E.accepted err.old) (E.accepted err.new)
+        (E.failures err.old) (E.failures err.new) }
+    ensures stopped { result ≡ 141 → IsSilent (E.accepted err.old) (E.accepted err.new)
         (E.failures err.old) (E.failures err.new) }
 {
     match kind {
