@@ -6,6 +6,7 @@ ghost use Rattle.mtxkit_commands.specs.OrderErrors.{order_fault};
 use mtxkit_matrices::ScaleError;
 use mtxkit_patterns::OrderError;
 use mtxkit_texts::Failure;
+use std::io::ErrorKind;
 
 /// Why a command fails.
 #[derive(Clone, Copy, Debug)]
@@ -16,6 +17,8 @@ pub enum CommandError {
     Unscaled(ScaleError),
     /// An order, or the matrix that it is for, is at fault.
     Misordered(OrderError),
+    /// A write to the output failed, with an error of this kind.
+    Unwritten(ErrorKind),
 }
 
 impl CommandError {
