@@ -1,5 +1,3 @@
-pub mod Moduli
-pub mod Rings
 pub mod Systems
 pub mod Commands
 pub mod Inputs

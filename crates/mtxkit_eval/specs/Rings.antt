@@ -1,6 +1,6 @@
--- The rings that systems are solved in: the integers modulo 2 ^ 64, or modulo a given number.
+-- Rings of residues: the integers modulo 2 ^ 64, 2 ^ 128, or a given number.
 use Rattle.std.specs.Prelude.{ℤ, pos, ℕ, Option, Some, None, unsigned_abs}
-use Rattle.std.specs.Int.{w64, int_rem_euclid, int_wrap}
+use Rattle.std.specs.Int.{w64, w128, int_rem_euclid, int_wrap}
 use Rattle.sparse_algebra.specs.Algebra.{CommRing}
 use Rattle.sparse_algebra.specs.ModNumbers.{mod_value}
 use Rattle.sparse_algebra.specs.Moduli.{modulus, mod_ring}
@@ -15,6 +15,10 @@ remainder m z = unsigned_abs (int_rem_euclid z (pos m))
 -- the signed integer of 64 bits that is congruent to z modulo 2 ^ 64
 abbrev pub reduced64 : ℤ → ℤ
 reduced64 z = int_wrap w64 z
+
+-- the signed integer of 128 bits that is congruent to z modulo 2 ^ 128
+abbrev pub reduced128 : ℤ → ℤ
+reduced128 z = int_wrap w128 z
 
 -- the least integer that is congruent to z modulo M and not negative
 abbrev pub reduced_modulo : ℕ → ℤ → ℤ

@@ -3,9 +3,9 @@
 ghost use Rattle.std.specs.Prelude.{◌≡◌, ◌<◌, ◌≤◌, ◌^◌, ℤ};
 ghost use Rattle.sparse_algebra.specs.Moduli.{modulus};
 ghost use Rattle.sparse_algebra.specs.Integers.{element_of};
-ghost use Rattle.mtxkit_commands.specs.Rings.{remainder, reduced64, reduced_modulo};
+ghost use Rattle.mtxkit_eval.specs.Rings.{remainder, reduced64, reduced128, reduced_modulo};
 
-use sparse_algebra::scalar::{Mod, Units, W64};
+use sparse_algebra::scalar::{Mod, Units, W64, W128};
 
 /// A ring of residues.
 pub trait Residues: Units {
@@ -32,6 +32,19 @@ impl Residues for W64 {
     /// The integer has 64 bits.
     fn integer(self) -> i128 {
         i128::from(self.get())
+    }
+}
+
+impl Residues for W128 {
+    ghost reduced = { reduced128 };
+
+    fn of_integer(number: i128) -> W128 {
+        W128::new(number)
+    }
+
+    /// The integer has 128 bits.
+    fn integer(self) -> i128 {
+        self.get()
     }
 }
 

@@ -2,9 +2,9 @@ use Rattle.std.proofs.Common.{◌≡◌, ◌%◌, rules, ap, ◌∙◌}
 use Rattle.std.proofs.Math.Nat.{mod-mod}
 use Rattle.sparse_algebra.specs.Moduli.{modulus, modulus_pos, mod_class}
 use Rattle.sparse_algebra.specs.Residues.{same_class}
-use Rattle.mtxkit_commands.specs.Rings.{remainder}
-use Rattle.mtxkit_commands.proofs.Remainders.{element_of-remainder}
-use Rattle.mtxkit_commands.proofs.residues.ModResidues.of_integer.Goals as goal
+use Rattle.mtxkit_eval.specs.Rings.{remainder}
+use Rattle.mtxkit_eval.proofs.Remainders.{element_of-remainder}
+use Rattle.mtxkit_eval.proofs.residues.ModResidues.of_integer.Goals as goal
 
 pub returns : goal.returns
 returns g c =

@@ -3,7 +3,7 @@ use Rattle.std.specs.Int.{w64, w128}
 use Rattle.sparse_algebra.specs.Wrapping.{wrapping_ring}
 use Rattle.sparse_algebra.specs.Integers.{element_of}
 use Rattle.sparse_algebra.proofs.Integers.{element_of-class}
-use Rattle.mtxkit_commands.proofs.residues.W64Residues.integer.Goals as goal
+use Rattle.mtxkit_eval.proofs.residues.W64Residues.integer.Goals as goal
 
 pub returns-clause-meant : goal.returns-clause-meant
 returns-clause-meant c =

@@ -4,9 +4,9 @@ use Rattle.std.proofs.Math.Nat.{mod-eq_of_lt}
 use Rattle.std.proofs.Math.Pow.{pow_pos}
 use Rattle.sparse_algebra.specs.Residues.{residue}
 use Rattle.sparse_algebra.specs.Wrapping.{class_of, class_of_bits}
-use Rattle.mtxkit_commands.specs.Rings.{remainder}
-use Rattle.mtxkit_commands.proofs.Remainders.{element_of-remainder}
-use Rattle.mtxkit_commands.proofs.residues.W64Residues.of_integer.Goals as goal
+use Rattle.mtxkit_eval.specs.Rings.{remainder}
+use Rattle.mtxkit_eval.proofs.Remainders.{element_of-remainder}
+use Rattle.mtxkit_eval.proofs.residues.W64Residues.of_integer.Goals as goal
 
 pub returns : goal.returns
 returns c =

@@ -3,9 +3,9 @@ use Rattle.std.specs.Int.{w128}
 use Rattle.std.proofs.Math.Nat.{mod-eq_of_lt}
 use Rattle.sparse_algebra.specs.Moduli.{modulus, modulus_pos, mod_ring}
 use Rattle.sparse_algebra.specs.Integers.{element_of}
-use Rattle.mtxkit_commands.specs.Rings.{reduced_modulo}
-use Rattle.mtxkit_commands.proofs.Remainders.{element_of-natural}
-use Rattle.mtxkit_commands.proofs.residues.ModResidues.integer.Goals as goal
+use Rattle.mtxkit_eval.specs.Rings.{reduced_modulo}
+use Rattle.mtxkit_eval.proofs.Remainders.{element_of-natural}
+use Rattle.mtxkit_eval.proofs.residues.ModResidues.integer.Goals as goal
 
 pub returns-clause-meant : goal.returns-clause-meant
 returns-clause-meant g c =
