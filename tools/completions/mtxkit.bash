@@ -3,7 +3,7 @@
 _mtxkit() {
     local word=${COMP_WORDS[COMP_CWORD]} before=${COMP_WORDS[COMP_CWORD - 1]} words=""
     if [ "$COMP_CWORD" -eq 1 ]; then
-        words="info spy copy field integer symmetric solve check --help --version"
+        words="info spy copy field integer symmetric eval solve check --help --version"
         mapfile -t COMPREPLY < <(compgen -W "$words" -- "$word")
         return
     fi
@@ -11,6 +11,7 @@ _mtxkit() {
     spy) words="--size -o --svg --text" ;;
     field) [ "$COMP_CWORD" -ne 2 ] || words="integer pattern" ;;
     integer) words="--scale" ;;
+    eval) words="--mod --rows --columns" ;;
     solve | check) words="--mod" ;;
     esac
     case $before in

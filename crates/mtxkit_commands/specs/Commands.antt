@@ -16,16 +16,21 @@ use Rattle.mtxkit_texts.specs.Statuses.{status_of}
 use Rattle.mtxkit_matrices.specs.ScaleFailures.{IsScaleFailure}
 use Rattle.mtxkit_matrices.specs.ScaledTexts.{IsScaledText}
 use Rattle.mtxkit_matrices.specs.declared.decimals.error.ScaleError.{ScaleError}
-use Rattle.mtxkit_commands.specs.Inputs.{Reading, IsUnread}
+use Rattle.mtxkit_eval.specs.Evaluated.{WritesValue, IsEvalFailure}
+use Rattle.mtxkit_eval.specs.declared.error.EvalError.{EvalError}
+use Rattle.mtxkit_eval.specs.declared.error.EvalError.TheVariants as eval
+use Rattle.sparse_expr.specs.declared.calculator.OutputOrder.{OutputOrder}
+use Rattle.mtxkit_commands.specs.Names.{paths}
+use Rattle.mtxkit_commands.specs.Inputs.{Reading, AreRead, IsUnread, IsFirstUnread}
 use Rattle.mtxkit_commands.specs.Systems.{WritesSolution, SaysProduct}
 use Rattle.mtxkit_commands.specs.Systems.{IsSolveFailure, IsCheckFailure}
 use Rattle.mtxkit_commands.specs.declared.command_error.CommandError.{CommandError}
 use Rattle.mtxkit_commands.specs.declared.command_error.CommandError.TheVariants.{Failed}
-use Rattle.mtxkit_commands.specs.declared.command_error.CommandError.TheVariants.{Unscaled}
+use Rattle.mtxkit_commands.specs.declared.command_error.CommandError.TheVariants.{Unscaled, Unevaluated}
 use Rattle.mtxkit_commands.specs.declared.commands.Command.{Command}
 use Rattle.mtxkit_commands.specs.declared.commands.Command.TheVariants.{Info, Spy, Copy, Field}
 use Rattle.mtxkit_commands.specs.declared.commands.Command.TheVariants.{Integer}
-use Rattle.mtxkit_commands.specs.declared.commands.Command.TheVariants.{Symmetric, Solve, Check}
+use Rattle.mtxkit_commands.specs.declared.commands.Command.TheVariants.{Symmetric, Eval, Solve, Check}
 use Rattle.mtxkit_commands.specs.declared.commands.Target.{Target}
 use Rattle.mtxkit_commands.specs.declared.commands.Target.TheVariants.{Bitmap, Blocks, Svg, File}
 use Rattle.mtxkit_commands.specs.declared.commands.Values.{Values}
@@ -69,6 +74,19 @@ abbrev pub IsSolveAnswer : Option ℕ → List ℕ → List ℕ → List Reading
 IsSolveAnswer modulus a b old new written =
     ReadsTwo a b (λ first second. WritesSolution modulus first second written) old new
 
+-- the same for any number of files
+pub record ReadsAll (files : List (List ℕ)) (Holds : List (List ℕ) → Type 0) (old new : List Reading)
+    : Type 0 where
+  pub texts : List (List ℕ)
+  pub read : AreRead files texts old new
+  pub holds : Holds texts
+
+-- the text of the value of an expression over the matrices of files
+abbrev pub IsEvalAnswer : Option ℕ → OutputOrder → List ℕ → List (List ℕ) → List Reading
+    → List Reading → List ℕ → Type 0
+IsEvalAnswer modulus order words files old new written =
+    ReadsAll files (λ texts. WritesValue modulus order words texts written) old new
+
 -- the line that says that A X = B, for the texts of A, X and B
 abbrev pub IsCheckAnswer : Option ℕ → List ℕ → List ℕ → List ℕ → List Reading → List Reading
     → List ℕ → Type 0
@@ -88,6 +106,8 @@ IsAnswer (Field file values) old new written =
 IsAnswer (Integer file scale) old new written = IsScaleAnswer scale file.now old new written
 IsAnswer (Symmetric file) old new written =
     ReadsOne file.now (λ text. Symmetrised (header_in text) text written) old new
+IsAnswer (Eval modulus order words files) old new written =
+    IsEvalAnswer modulus order words.now (paths files.now) old new written
 IsAnswer (Solve modulus a b) old new written = IsSolveAnswer modulus a.now b.now old new written
 IsAnswer (Check modulus a x b) old new written =
     IsCheckAnswer modulus a.now x.now b.now old new written
@@ -128,6 +148,20 @@ IsUnchecked modulus a x b old new failure = IsUnread 1 a old new failure
     ⊎ ReadsThree a x b (λ first second third. IsCheckFailure modulus first second third failure)
     old new))
 
+-- why `eval` fails for the texts of its files
+abbrev pub IsEvalFault : Option ℕ → List ℕ → List (List ℕ) → List Reading → List Reading → EvalError
+    → Type 0
+IsEvalFault modulus words files old new error =
+    ReadsAll files (λ texts. IsEvalFailure modulus words texts error) old new
+
+-- why `eval` fails with a failure that other commands have too: an allocation failed, a file cannot be read, or it is
+-- why it fails for their texts
+abbrev pub IsEvalFailed : Option ℕ → List ℕ → List (List ℕ) → List Reading → List Reading → Failure
+    → Type 0
+IsEvalFailed modulus words files old new failure =
+    (failure ≡ OutOfMemory) ⊎ (IsFirstUnread files old new failure
+    ⊎ IsEvalFault modulus words files old new (eval.Failed failure))
+
 -- why a command fails before it writes: a file cannot be read after those before it were, or the texts of the files
 -- have a fault
 abbrev pub IsFailure : Command → List Reading → List Reading → Failure → Type 0
@@ -140,6 +174,8 @@ IsFailure (Field file values) old new failure =
 IsFailure (Integer file scale) old new failure =
     FailsOne file.now (λ text f. f ≡ OutOfMemory) old new failure
 IsFailure (Symmetric file) old new failure = FailsOne file.now IsSymmetricFailure old new failure
+IsFailure (Eval modulus order words files) old new failure =
+    IsEvalFailed modulus words.now (paths files.now) old new failure
 IsFailure (Solve modulus a b) old new failure = IsUnsolved modulus a.now b.now old new failure
 IsFailure (Check modulus a x b) old new failure =
     IsUnchecked modulus a.now x.now b.now old new failure
@@ -154,16 +190,33 @@ abbrev pub IsUnscaledBy : Command → List Reading → List Reading → ScaleErr
 IsUnscaledBy (Integer file scale) old new error = IsUnscaled scale file.now old new error
 IsUnscaledBy command old new error = ⊥
 
+-- the command is `eval`, and its expression has no value that is written, for this reason
+abbrev pub IsUnevaluatedBy : Command → List Reading → List Reading → EvalError → Type 0
+IsUnevaluatedBy (Eval modulus order words files) old new error =
+    IsEvalFault modulus words.now (paths files.now) old new error
+IsUnevaluatedBy command old new error = ⊥
+
 -- the same for all errors of commands
 abbrev pub HasNoAnswer : Command → List Reading → List Reading → CommandError → Type 0
 HasNoAnswer command old new (Failed failure) = IsFailure command old new failure
 HasNoAnswer command old new (Unscaled error) = IsUnscaledBy command old new error
+HasNoAnswer command old new (Unevaluated error) = IsUnevaluatedBy command old new error
 
 -- the same for `integer`
 abbrev pub IsScaleError : ℕ → List ℕ → List Reading → List Reading → CommandError → Type 0
 IsScaleError scale file old new (Failed failure) =
     FailsOne file (λ text f. f ≡ OutOfMemory) old new failure
 IsScaleError scale file old new (Unscaled error) = IsUnscaled scale file old new error
+IsScaleError scale file old new (Unevaluated error) = ⊥
+
+-- the same for `eval`
+abbrev pub IsEvalError : Option ℕ → List ℕ → List (List ℕ) → List Reading → List Reading
+    → CommandError → Type 0
+IsEvalError modulus words files old new (Failed failure) =
+    IsEvalFailed modulus words files old new failure
+IsEvalError modulus words files old new (Unscaled error) = ⊥
+IsEvalError modulus words files old new (Unevaluated error) =
+    IsEvalFault modulus words files old new error
 
 -- the target is a file
 abbrev pub is_file : Target → Bool
@@ -201,11 +254,14 @@ CanFail command old new before after last (Failed failure) =
     ⊎ IsUnwritten before after last failure
 CanFail command old new before after last (Unscaled error) =
     (after ≡ before) × IsUnscaledBy command old new error
+CanFail command old new before after last (Unevaluated error) =
+    (after ≡ before) × IsUnevaluatedBy command old new error
 
 -- the exit status of an error
 abbrev pub error_status : CommandError → ℕ
 error_status (Failed failure) = status_of failure
 error_status (Unscaled error) = 1
+error_status (Unevaluated error) = 1
 
 -- the picture has at least one cell
 abbrev pub IsSized : Command → Type 0

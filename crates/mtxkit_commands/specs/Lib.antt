@@ -5,3 +5,4 @@ pub mod Arguments
 pub mod SystemErrors
 pub mod Names
 pub mod Words
+pub mod Evaluations

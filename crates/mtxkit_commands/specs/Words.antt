@@ -1,12 +1,14 @@
 -- The commands that arguments give.
 use Rattle.std.specs.Prelude.{◌≡◌, ℕ, List, codes, Option, Some, None, nat_lt, if◌then◌else◌}
-use Rattle.clap.specs.Matches.{first_value, one_text}
+use Rattle.std.specs.Option.{option_map}
+use Rattle.clap.specs.Matches.{first_value, matched_of, one_text, raw_values}
 use Rattle.clap.specs.declared.parser.matches.Found.{Found}
-use Rattle.mtxkit_commands.specs.Names.{target_file}
+use Rattle.sparse_expr.specs.declared.calculator.OutputOrder.TheVariants.{Rows}
+use Rattle.mtxkit_commands.specs.Names.{target_file, paths}
 use Rattle.mtxkit_commands.specs.declared.commands.Command.{Command}
 use Rattle.mtxkit_commands.specs.declared.commands.Command.TheVariants.{Info, Spy, Copy, Field}
 use Rattle.mtxkit_commands.specs.declared.commands.Command.TheVariants.{Integer}
-use Rattle.mtxkit_commands.specs.declared.commands.Command.TheVariants.{Symmetric, Solve, Check}
+use Rattle.mtxkit_commands.specs.declared.commands.Command.TheVariants.{Symmetric, Eval, Solve, Check}
 use Rattle.mtxkit_commands.specs.declared.commands.Target.{Target}
 use Rattle.mtxkit_commands.specs.declared.commands.Target.TheVariants.{Bitmap, Blocks, Svg, File}
 use Rattle.mtxkit_commands.specs.declared.commands.Values.{Values}
@@ -20,6 +22,7 @@ command_name (Copy file) = codes "copy"
 command_name (Field file values) = codes "field"
 command_name (Integer file scale) = codes "integer"
 command_name (Symmetric file) = codes "symmetric"
+command_name (Eval modulus order words files) = codes "eval"
 command_name (Solve modulus a b) = codes "solve"
 command_name (Check modulus a x b) = codes "check"
 
@@ -44,6 +47,10 @@ size_given (Some size) target = if nat_lt 0 size then size else default_size tar
 abbrev pub IsArgument : Found → List ℕ → List ℕ → Type 0
 IsArgument words name text = first_value words name ≡ Some text
 
+-- the arguments with this name are these texts
+abbrev pub AreArguments : Found → List ℕ → List (List ℕ) → Type 0
+AreArguments words name texts = option_map raw_values (matched_of words name) ≡ Some texts
+
 -- the command has the files, the field and the output file that these arguments name, and the default size, scale or
 -- modulus if the arguments give none
 abbrev pub GivesCommand : Found → Command → Type 0
@@ -57,6 +64,10 @@ GivesCommand words (Field file values) =
 GivesCommand words (Integer file scale) = IsArgument words (codes "FILE") file.now
     × (one_text words (codes "scale") ≡ None → scale ≡ 0)
 GivesCommand words (Symmetric file) = IsArgument words (codes "FILE") file.now
+GivesCommand words (Eval modulus order expression files) =
+    IsArgument words (codes "EXPR") expression.now × AreArguments words (codes "FILE") (paths files.now)
+    × (one_text words (codes "columns") ≡ None → order ≡ Rows)
+    × (one_text words (codes "mod") ≡ None → modulus ≡ None)
 GivesCommand words (Solve modulus a b) = IsArgument words (codes "A") a.now
     × IsArgument words (codes "B") b.now × (one_text words (codes "mod") ≡ None → modulus ≡ None)
 GivesCommand words (Check modulus a x b) = IsArgument words (codes "A") a.now

@@ -8,6 +8,7 @@ ghost use Rattle.mtxkit_commands.specs.Commands.{IsUnsolved, IsCheckAnswer, IsUn
 
 use crate::command_error::CommandError;
 use crate::commands::{Command, Target, Values};
+use crate::evaluated::evaluated_of;
 use crate::inputs::{Texts, read_text};
 use crate::scaled::scaled_of;
 use crate::systems::{check_text, solve_text};
@@ -53,6 +54,12 @@ pub fn answer_of<T: Texts>(
             let text = read_text(texts, 1, file)?;
             Ok(symmetric_text(alloc, text.as_str())?.into_bytes())
         }
+        Command::Eval {
+            modulus,
+            order,
+            words,
+            files,
+        } => evaluated_of(alloc, texts, modulus, order, words, files),
         Command::Solve { modulus, a, b } => {
             Ok(solution_of(alloc, texts, modulus, a, b)?.into_bytes())
         }

@@ -12,6 +12,7 @@ ghost use Rattle.mtxkit_texts.specs.declared.failure.Failure.TheVariants.{Unsave
 use crate::answers::answer_of;
 use crate::command_error::CommandError;
 use crate::commands::Command;
+use crate::evaluated::report_unevaluated;
 use crate::failure_lines::report;
 use crate::inputs::Texts;
 use crate::scaled::report_unscaled;
@@ -69,6 +70,7 @@ fn report_error<E: Sink>(
             report(alloc, command.file_at_fault(failure), failure, err)
         }
         CommandError::Unscaled(error) => report_unscaled(alloc, command.first_file(), error, err),
+        CommandError::Unevaluated(error) => report_unevaluated(alloc, error, err),
     }
 }
 

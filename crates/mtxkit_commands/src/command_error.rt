@@ -1,5 +1,6 @@
 //! Why a command fails: the errors of all commands.
 
+use mtxkit_eval::EvalError;
 use mtxkit_matrices::ScaleError;
 use mtxkit_texts::Failure;
 
@@ -10,6 +11,8 @@ pub enum CommandError {
     Failed(Failure),
     /// The numbers of the file of `mtxkit integer` are not scaled.
     Unscaled(ScaleError),
+    /// The expression of `mtxkit eval` has no value that is written.
+    Unevaluated(EvalError),
 }
 
 impl From<Failure> for CommandError {

@@ -8,3 +8,6 @@ mod WideClasses
 mod FirstWide
 mod SameTriplets
 mod Magnitudes
+mod Outcomes
+mod Bounded
+mod LoadedTexts

@@ -70,9 +70,9 @@ pub record IsFirstWide (z : Plain whole_ring) (row col : ℕ) : Type 0 where
 
 -- the matrix has the integers of the value, and they fit in 64 bits
 pub record HasExactValue (a : Result (Plain whole_ring) ExprError) (m : Compressed W128) : Type 0
-    where
-  pub exact : a ≡ Ok (exact_of m)
-  pub narrow : All (λ t. FitsSigned w64 t.2) (row_order whole_ring (exact_of m))
+  where
+    pub exact : a ≡ Ok (exact_of m)
+    pub narrow : All (λ t. FitsSigned w64 t.2) (row_order whole_ring (exact_of m))
 
 -- the value has an entry that does not fit in 64 bits, the first of which is here
 pub record HasWideValue (a : Result (Plain whole_ring) ExprError) (row col : ℕ) : Type 0 where

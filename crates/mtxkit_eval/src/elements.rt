@@ -1,6 +1,6 @@
 //! Turns matrices of integers into lists of ring elements, and back.
 
-ghost use Rattle.std.specs.Prelude.{◌≡◌, All, IfOk, map};
+ghost use Rattle.std.specs.Prelude.{◌≡◌, All, IfOk, OnOk, map};
 ghost use Rattle.sparse_algebra.specs.Integers.{element_of};
 ghost use Rattle.sparse_algebra.specs.WrappingValues.{w128_number};
 ghost use Rattle.sparse_compressed.specs.Compressed.{IsSound};
@@ -10,6 +10,7 @@ ghost use Rattle.mtxkit_eval.specs.Values.{exact_of, image_in};
 
 use crate::residues::Residues;
 use mtxkit_texts::with_values;
+use sparse_algebra::recall;
 use sparse_algebra::scalar::W128;
 use sparse_convert::serial::convert_csr_coo;
 use sparse_coo_dense::coo::CooMatrix;
@@ -21,8 +22,9 @@ pub(crate) fn element_lists<T: Residues>(
     alloc: Global,
     matrices: &[CsrMatrix<W128>],
 ) -> Result<Vec<CooMatrix<T>>, AllocError>
-    ensures { IfOk result (λ lists. map (λ m. plain_of_coo T.ring T.value m) lists.items
+    ensures images { IfOk result (λ lists. map (λ m. plain_of_coo T.ring T.value m) lists.items
         ≡ map (λ m. image_in T.ring (exact_of m)) matrices.now) }
+    ensures sound { OnOk result (All IsSound matrices.now) }
 {
     let mut lists = Vec::with_capacity(alloc, matrices.len())?;
     for matrix in matrices {
@@ -36,9 +38,11 @@ fn element_list<T: Residues>(
     alloc: Global,
     matrix: &CsrMatrix<W128>,
 ) -> Result<CooMatrix<T>, AllocError>
-    ensures { IfOk result
+    ensures images { IfOk result
         (λ m. plain_of_coo T.ring T.value m ≡ image_in T.ring (exact_of matrix.now)) }
+    ensures sound { IsSound matrix.now }
 {
+    recall(matrix.values());
     let list = convert_csr_coo(alloc, matrix)?;
     let elements = elements_of(alloc, list.values())?;
     with_values(alloc, &list, elements)

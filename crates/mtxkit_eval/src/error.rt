@@ -29,7 +29,10 @@ impl Display for EvalError {
             EvalError::Expression(error) => Display::fmt(error, f),
             EvalError::Wide(row, col) => {
                 let (row, col) = (*row as u128 + 1, *col as u128 + 1);
-                write!(f, "row {row}, column {col}: the value does not fit in 64 bits")
+                write!(
+                    f,
+                    "row {row}, column {col}: the value does not fit in 64 bits"
+                )
             }
             EvalError::Unbounded => f.write_str("a value may not fit in 128 bits"),
         }

@@ -1,6 +1,6 @@
 //! The values of expressions over matrices of integers.
 
-ghost use Rattle.std.specs.Prelude.{IfOk, IfErr};
+ghost use Rattle.std.specs.Prelude.{All, IfOk, IfErr, OnOk};
 ghost use Rattle.sparse_compressed.specs.Compressed.{IsSound};
 ghost use Rattle.mtxkit_eval.specs.Values.{exact_value, HasExactValue, HasValue, IsExprFailure};
 ghost use Rattle.mtxkit_eval.specs.Values.{IsInexact, IsReduced};
@@ -83,6 +83,7 @@ fn value_in<T: Residues>(
     inputs: &[CsrMatrix<W128>],
 ) -> Result<CsrMatrix<W128>, EvalError>
     ensures value { IfOk result (HasValue T.ring T.reduced (exact_value inputs.now expr.now)) }
+    ensures sound { OnOk result (All IsSound inputs.now) }
     ensures refused { IfErr result (IsExprFailure (exact_value inputs.now expr.now)) }
 {
     let lists: Vec<CooMatrix<T>> = element_lists(alloc, inputs)?;

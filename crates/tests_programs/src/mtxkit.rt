@@ -1,6 +1,7 @@
 //! What `mtxkit` writes and answers.
 
 mod cases;
+mod eval_cases;
 mod failures;
 mod info_cases;
 mod line_cases;
@@ -10,6 +11,7 @@ mod system_cases;
 
 use crate::files::{HEADER, matrices, matrix, remove_all};
 use crate::mtxkit::cases::{CASES, Case, OBLONG, Oblong};
+use crate::mtxkit::eval_cases::EVAL_CASES;
 use crate::mtxkit::info_cases::INFO_CASES;
 use crate::mtxkit::line_cases::{LINE_CASES, LineCase};
 use crate::mtxkit::refusals::{REFUSALS, Refusal};
@@ -190,6 +192,14 @@ fn is_met(
 fn solutions_of_files(rt: HostRuntime) -> Result<(), Fail> {
     for case in SOLVE_CASES {
         assert!(rt; is_met(&rt, case, HEADING)?, "{:?}", case.1);
+    }
+    Ok(())
+}
+
+#[test]
+fn values_of_expressions(rt: HostRuntime) -> Result<(), Fail> {
+    for case in EVAL_CASES {
+        assert!(rt; is_met(&rt, case, HEADING)?, "{:?}", case.0);
     }
     Ok(())
 }
