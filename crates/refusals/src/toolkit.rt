@@ -7,6 +7,7 @@ use crate::page::Page;
 use case_words::turn::Turn;
 use mtxkit_commands::{Command, Inputs, Target, Values, run as run_command};
 use mtxkit_texts::Screen;
+use nalgebra_sparse::expr::OutputOrder;
 use nalgebra_sparse::io::Out;
 use std::fs;
 
@@ -50,6 +51,7 @@ pub fn run(rt: &HostRuntime, turn: &mut Turn, case: &str) -> Outcome {
             run_args(rt, turn, Command::Integer { file: A, scale })
         }
         "symmetric" => run_args(rt, turn, Command::Symmetric { file: A }),
+        "eval" => run_args(rt, turn, square()),
         "solve" => run_args(rt, turn, solve(None)),
         "solve modulo" => run_args(rt, turn, solve(modulus)),
         "check" => {
@@ -57,6 +59,18 @@ pub fn run(rt: &HostRuntime, turn: &mut Turn, case: &str) -> Outcome {
             run_args(rt, turn, Command::Check { modulus, a, x, b })
         }
         _ => Outcome::Unknown,
+    }
+}
+
+// The square of A.
+fn square() -> Command<'static>
+    ensures { IsSized result }
+{
+    Command::Eval {
+        modulus: None,
+        order: OutputOrder::Cols,
+        words: "1 1 *",
+        files: &[A],
     }
 }
 

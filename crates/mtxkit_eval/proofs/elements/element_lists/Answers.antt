@@ -1,4 +1,4 @@
-use Rattle.std.proofs.Common.{◌≡◌, ◌∷◌, [], All, get_or, take, map, refl, ap, sym, subst, ◌∙◌}
+use Rattle.std.proofs.Common.{◌∷◌, [], ◌++◌, All, get_or, take, map, ap, sym, subst}
 use Rattle.std.proofs.lemmas.List.{map-append, take_more}
 use Rattle.std.proofs.lemmas.List.Elements.{All-push}
 use Rattle.sparse_compressed.specs.Compressed.{Compressed, IsSound}
@@ -26,8 +26,8 @@ loop-matrix-preserved g c =
         more,
         map-append image (take i matrices) (get_or matrices i m ∷ []),
         c.in_ok-element_list.ensures.images,
-      ) refl;
+      ) (ap (λ x. map image (take i matrices) ++ image x ∷ []) c.matrix-item.is);
       sound = subst (All IsSound) (sym more)
           (All-push IsSound (take i matrices) (get_or matrices i m) c.loop-matrix.invariant.sound
-          c.in_ok-element_list.ensures.sound);
+          (subst IsSound c.matrix-item.is c.element_list.ensures.sound));
     }
