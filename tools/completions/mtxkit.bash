@@ -3,7 +3,7 @@
 _mtxkit() {
     local word=${COMP_WORDS[COMP_CWORD]} before=${COMP_WORDS[COMP_CWORD - 1]} words=""
     if [ "$COMP_CWORD" -eq 1 ]; then
-        words="info spy copy field integer symmetric order permute fill solve check help --help --version"
+        words="info spy copy field integer symmetric order permute fill eval solve check help --help --version"
         mapfile -t COMPREPLY < <(compgen -W "$words" -- "$word")
         return
     fi
@@ -13,9 +13,10 @@ _mtxkit() {
     integer) words="--scale" ;;
     order) words="--method" ;;
     fill) words="--order" ;;
+    eval) words="--mod --rows --columns" ;;
     solve | check) words="--mod" ;;
     help)
-        mapfile -t COMPREPLY < <(compgen -W "info spy copy field integer symmetric order permute fill solve check" -- "$word")
+        mapfile -t COMPREPLY < <(compgen -W "info spy copy field integer symmetric order permute fill eval solve check" -- "$word")
         return
         ;;
     esac

@@ -1,5 +1,4 @@
 mod Listed
-mod Remainders
 mod Solving
 mod OrderRefusals
 mod Readings

@@ -13,7 +13,7 @@ use Rattle.mtxkit_matrices.specs.declared.systems.SystemError.{SystemError}
 use Rattle.mtxkit_matrices.specs.declared.systems.SystemError.TheVariants as system
 use Rattle.mtxkit_texts.specs.declared.failure.Failure.{Failure}
 use Rattle.mtxkit_texts.specs.declared.failure.Failure.TheVariants.{Modulus}
-use Rattle.mtxkit_commands.specs.Rings.{ring_of, reduced_by, ring_value}
+use Rattle.mtxkit_eval.specs.Rings.{ring_of, reduced_by, ring_value}
 use Rattle.mtxkit_commands.specs.SystemErrors.{system_fault}
 use Rattle.mtxkit_commands.specs.Systems.{plain_of_integers, IsSolved, IsTested}
 use Rattle.mtxkit_commands.specs.Systems.{IsSolvedBy, IsTestedBy}

@@ -18,12 +18,17 @@ use Rattle.mtxkit_matrices.specs.ScaleFailures.{IsScaleFailure}
 use Rattle.mtxkit_matrices.specs.ScaledTexts.{IsScaledText}
 use Rattle.mtxkit_matrices.specs.declared.decimals.error.ScaleError.{ScaleError}
 use Rattle.mtxkit_patterns.specs.declared.order_error.OrderError.{OrderError}
-use Rattle.mtxkit_commands.specs.Inputs.{Reading, IsUnread}
 use Rattle.mtxkit_commands.specs.Reads.{ReadsOne, ReadsTwo, ReadsThree, FailsOne}
 use Rattle.mtxkit_commands.specs.Reads.{IsSecondUnread, IsThirdUnread}
 use Rattle.mtxkit_commands.specs.OrderCommands.{IsOrderAnswer, IsPermuteAnswer, IsFillAnswer}
 use Rattle.mtxkit_commands.specs.OrderCommands.{IsOrderFailure, IsPermuteFailure, IsFillFailure}
 use Rattle.mtxkit_commands.specs.OrderCommands.{IsOrderFault, IsPermuteFault, IsFillFault}
+use Rattle.mtxkit_eval.specs.Evaluated.{WritesValue, IsEvalFailure}
+use Rattle.mtxkit_eval.specs.declared.error.EvalError.{EvalError}
+use Rattle.mtxkit_eval.specs.declared.error.EvalError.TheVariants as eval
+use Rattle.sparse_expr.specs.declared.calculator.OutputOrder.{OutputOrder}
+use Rattle.mtxkit_commands.specs.Names.{paths}
+use Rattle.mtxkit_commands.specs.Inputs.{Reading, AreRead, IsUnread, IsFirstUnread}
 use Rattle.mtxkit_commands.specs.Systems.{WritesSolution, SaysProduct}
 use Rattle.mtxkit_commands.specs.Systems.{IsSolveFailure, IsCheckFailure}
 use Rattle.mtxkit_commands.specs.declared.command_error.CommandError.{CommandError}
@@ -31,11 +36,13 @@ use Rattle.mtxkit_commands.specs.declared.command_error.CommandError.TheVariants
 use Rattle.mtxkit_commands.specs.declared.command_error.CommandError.TheVariants.{Unscaled}
 use Rattle.mtxkit_commands.specs.declared.command_error.CommandError.TheVariants.{Misordered}
 use Rattle.mtxkit_commands.specs.declared.command_error.CommandError.TheVariants.{Unwritten}
+use Rattle.mtxkit_commands.specs.declared.command_error.CommandError.TheVariants.{Unevaluated}
 use Rattle.mtxkit_commands.specs.declared.commands.Command.{Command}
 use Rattle.mtxkit_commands.specs.declared.commands.Command.TheVariants.{Info, Spy, Copy, Field}
 use Rattle.mtxkit_commands.specs.declared.commands.Command.TheVariants.{Integer}
 use Rattle.mtxkit_commands.specs.declared.commands.Command.TheVariants.{Order, Permute, Fill}
 use Rattle.mtxkit_commands.specs.declared.commands.Command.TheVariants.{Symmetric, Solve, Check}
+use Rattle.mtxkit_commands.specs.declared.commands.Command.TheVariants.{Eval}
 use Rattle.mtxkit_commands.specs.declared.commands.Target.{Target}
 use Rattle.mtxkit_commands.specs.declared.commands.Target.TheVariants.{Bitmap, Blocks, Svg, File}
 use Rattle.mtxkit_commands.specs.declared.commands.Values.{Values}
@@ -63,6 +70,19 @@ abbrev pub IsSolveAnswer : Option ℕ → List ℕ → List ℕ → List Reading
 IsSolveAnswer modulus a b old new written =
     ReadsTwo a b (λ first second. WritesSolution modulus first second written) old new
 
+-- the same for any number of files
+pub record ReadsAll (files : List (List ℕ)) (Holds : List (List ℕ) → Type 0) (old new : List Reading)
+    : Type 0 where
+  pub texts : List (List ℕ)
+  pub read : AreRead files texts old new
+  pub holds : Holds texts
+
+-- the text of the value of an expression over the matrices of files
+abbrev pub IsEvalAnswer : Option ℕ → OutputOrder → List ℕ → List (List ℕ) → List Reading
+    → List Reading → List ℕ → Type 0
+IsEvalAnswer modulus order words files old new written =
+    ReadsAll files (λ texts. WritesValue modulus order words texts written) old new
+
 -- the line that says that A X = B, for the texts of A, X and B
 abbrev pub IsCheckAnswer : Option ℕ → List ℕ → List ℕ → List ℕ → List Reading → List Reading
     → List ℕ → Type 0
@@ -86,6 +106,8 @@ IsAnswer (Order file method) old new written = IsOrderAnswer file.now old new wr
 IsAnswer (Permute order file) old new written =
     IsPermuteAnswer order.now file.now old new written
 IsAnswer (Fill file order) old new written = IsFillAnswer order file.now old new written
+IsAnswer (Eval modulus order words files) old new written =
+    IsEvalAnswer modulus order words.now (paths files.now) old new written
 IsAnswer (Solve modulus a b) old new written = IsSolveAnswer modulus a.now b.now old new written
 IsAnswer (Check modulus a x b) old new written =
     IsCheckAnswer modulus a.now x.now b.now old new written
@@ -109,6 +131,20 @@ IsUnchecked modulus a x b old new failure = IsUnread 1 a old new failure
     ⊎ ReadsThree a x b (λ first second third. IsCheckFailure modulus first second third failure)
     old new))
 
+-- why `eval` fails for the texts of its files
+abbrev pub IsEvalFault : Option ℕ → List ℕ → List (List ℕ) → List Reading → List Reading → EvalError
+    → Type 0
+IsEvalFault modulus words files old new error =
+    ReadsAll files (λ texts. IsEvalFailure modulus words texts error) old new
+
+-- why `eval` fails with a failure that other commands have too: an allocation failed, a file cannot be read, or it is
+-- why it fails for their texts
+abbrev pub IsEvalFailed : Option ℕ → List ℕ → List (List ℕ) → List Reading → List Reading → Failure
+    → Type 0
+IsEvalFailed modulus words files old new failure =
+    (failure ≡ OutOfMemory) ⊎ (IsFirstUnread files old new failure
+    ⊎ IsEvalFault modulus words files old new (eval.Failed failure))
+
 -- why a command fails before it writes: a file cannot be read after those before it were, or the texts of the files
 -- have a fault
 abbrev pub IsFailure : Command → List Reading → List Reading → Failure → Type 0
@@ -125,6 +161,8 @@ IsFailure (Order file method) old new failure = IsOrderFailure file.now old new 
 IsFailure (Permute order file) old new failure =
     IsPermuteFailure order.now file.now old new failure
 IsFailure (Fill file order) old new failure = IsFillFailure order file.now old new failure
+IsFailure (Eval modulus order words files) old new failure =
+    IsEvalFailed modulus words.now (paths files.now) old new failure
 IsFailure (Solve modulus a b) old new failure = IsUnsolved modulus a.now b.now old new failure
 IsFailure (Check modulus a x b) old new failure =
     IsUnchecked modulus a.now x.now b.now old new failure
@@ -147,11 +185,18 @@ IsMisorderedBy (Permute order file) old new error =
 IsMisorderedBy (Fill file order) old new error = IsFillFault order file.now old new error
 IsMisorderedBy command old new error = ⊥
 
+-- the command is `eval`, and its expression has no value that is written, for this reason
+abbrev pub IsUnevaluatedBy : Command → List Reading → List Reading → EvalError → Type 0
+IsUnevaluatedBy (Eval modulus order words files) old new error =
+    IsEvalFault modulus words.now (paths files.now) old new error
+IsUnevaluatedBy command old new error = ⊥
+
 -- the same for all errors of commands
 abbrev pub HasNoAnswer : Command → List Reading → List Reading → CommandError → Type 0
 HasNoAnswer command old new (Failed failure) = IsFailure command old new failure
 HasNoAnswer command old new (Unscaled error) = IsUnscaledBy command old new error
 HasNoAnswer command old new (Misordered error) = IsMisorderedBy command old new error
+HasNoAnswer command old new (Unevaluated error) = IsUnevaluatedBy command old new error
 HasNoAnswer command old new (Unwritten kind) = ⊥
 
 -- the same for `integer`
@@ -160,6 +205,15 @@ IsScaleError scale file old new (Failed failure) =
     FailsOne file (λ text f. f ≡ OutOfMemory) old new failure
 IsScaleError scale file old new (Unscaled error) = IsUnscaled scale file old new error
 IsScaleError scale file old new error = ⊥
+
+-- the same for `eval`
+abbrev pub IsEvalError : Option ℕ → List ℕ → List (List ℕ) → List Reading → List Reading
+    → CommandError → Type 0
+IsEvalError modulus words files old new (Failed failure) =
+    IsEvalFailed modulus words files old new failure
+IsEvalError modulus words files old new (Unevaluated error) =
+    IsEvalFault modulus words files old new error
+IsEvalError modulus words files old new error = ⊥
 
 -- the target is a file
 abbrev pub is_file : Target → Bool
@@ -201,6 +255,8 @@ CanFail command old new before after last (Unscaled error) =
     (after ≡ before) × IsUnscaledBy command old new error
 CanFail command old new before after last (Misordered error) =
     (after ≡ before) × IsMisorderedBy command old new error
+CanFail command old new before after last (Unevaluated error) =
+    (after ≡ before) × IsUnevaluatedBy command old new error
 CanFail command old new before after last (Unwritten kind) = IsUnwritten before after last kind
 
 -- the exit status for a failed write of this kind: that of a program that a closed pipe stops, or else 1
@@ -213,6 +269,7 @@ abbrev pub error_status : CommandError → ℕ
 error_status (Failed failure) = status_of failure
 error_status (Unscaled error) = 1
 error_status (Misordered error) = 1
+error_status (Unevaluated error) = 1
 error_status (Unwritten kind) = write_status kind
 
 -- the exit status of a program that ends, or that a closed pipe stops

@@ -1,5 +1,3 @@
-pub mod Moduli
-pub mod Rings
 pub mod Systems
 pub mod Commands
 pub mod Inputs
@@ -10,3 +8,4 @@ pub mod OrderCommands
 pub mod OrderErrors
 pub mod Reads
 pub mod Words
+pub mod Evaluations

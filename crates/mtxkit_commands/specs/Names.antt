@@ -1,6 +1,7 @@
 -- The files that the lines of errors name, and the lines of these files.
 use Rattle.std.specs.Prelude.{◌≡◌, ◌⊎◌, ℕ, ◌+◌, ◌==◌, if◌then◌else◌, List, [], ◌++◌, codes, Option}
-use Rattle.std.specs.Prelude.{Some, None}
+use Rattle.std.specs.Prelude.{Some, None, zero, suc, ◌∷◌, map, slice_get}
+use denote.Ref.{Bor}
 use Rattle.std.specs.Fmt.{decimal}
 use Rattle.std.specs.Io.KnownBytes.{Appends}
 use Rattle.std.specs.declared.io.ErrorKind.{ErrorKind}
@@ -17,11 +18,13 @@ use Rattle.mtxkit_commands.specs.declared.command_error.CommandError.TheVariants
 use Rattle.mtxkit_commands.specs.declared.command_error.CommandError.TheVariants.{Unscaled}
 use Rattle.mtxkit_commands.specs.declared.command_error.CommandError.TheVariants.{Misordered}
 use Rattle.mtxkit_commands.specs.declared.command_error.CommandError.TheVariants.{Unwritten}
+use Rattle.mtxkit_commands.specs.declared.command_error.CommandError.TheVariants.{Unevaluated}
 use Rattle.mtxkit_commands.specs.declared.commands.Command.{Command}
 use Rattle.mtxkit_commands.specs.declared.commands.Command.TheVariants.{Info, Spy, Copy, Field}
 use Rattle.mtxkit_commands.specs.declared.commands.Command.TheVariants.{Integer}
 use Rattle.mtxkit_commands.specs.declared.commands.Command.TheVariants.{Order, Permute, Fill}
 use Rattle.mtxkit_commands.specs.declared.commands.Command.TheVariants.{Symmetric, Solve, Check}
+use Rattle.mtxkit_commands.specs.declared.commands.Command.TheVariants.{Eval}
 use Rattle.mtxkit_commands.specs.declared.commands.FillOrder.{FillOrder}
 use Rattle.mtxkit_commands.specs.declared.commands.FillOrder.TheVariants as fill
 use Rattle.mtxkit_commands.specs.declared.commands.Target.{Target}
@@ -44,6 +47,20 @@ second_of_fill fill.Natural file = None
 second_of_fill (fill.Computed method) file = None
 second_of_fill (fill.File path) file = Some file
 
+-- the paths of borrowed words
+abbrev pub paths : List (Bor (List ℕ)) → List (List ℕ)
+paths files = map (λ file. file.now) files
+
+-- the path with this number, counted from 1, if there is one
+abbrev pub path_at : List (List ℕ) → ℕ → Option (List ℕ)
+path_at files zero = None
+path_at files (suc n) = slice_get files n
+
+-- the first path, or an empty one if there is none
+abbrev pub first_path : List (List ℕ) → List ℕ
+first_path [] = []
+first_path (file ∷ files) = file
+
 abbrev pub first_file : Command → List ℕ
 first_file (Info file) = file.now
 first_file (Spy file size target) = file.now
@@ -54,6 +71,7 @@ first_file (Symmetric file) = file.now
 first_file (Order file method) = file.now
 first_file (Permute order file) = order.now
 first_file (Fill file order) = first_of_fill order file.now
+first_file (Eval modulus order words files) = first_path (paths files.now)
 first_file (Solve modulus a b) = a.now
 first_file (Check modulus a x b) = a.now
 
@@ -68,11 +86,16 @@ abbrev pub third_file : Command → Option (List ℕ)
 third_file (Check modulus a x b) = Some b.now
 third_file command = None
 
--- the path of the file with this number, counted from 1, if the command has one
-abbrev pub file_of : Command → ℕ → Option (List ℕ)
-file_of command number = if number == 1 then Some (first_file command)
+-- the path of the file with this number, counted from 1, if the command has one and its files have names
+abbrev pub named_file : Command → ℕ → Option (List ℕ)
+named_file command number = if number == 1 then Some (first_file command)
     else if number == 2 then second_file command
     else if number == 3 then third_file command else None
+
+-- the path of the file with this number, counted from 1, if the command has one
+abbrev pub file_of : Command → ℕ → Option (List ℕ)
+file_of (Eval modulus order words files) number = path_at (paths files.now) number
+file_of command number = named_file command number
 
 -- the path of the file that a picture is written to
 abbrev pub target_file : Target → Option (List ℕ)
@@ -132,6 +155,7 @@ error_file command (Failed failure) = with_line (fault_file command failure) (fa
 error_file command (Unscaled error) =
     with_line (Some (first_file command)) (unscaled_line error)
 error_file command (Misordered error) = with_line (file_of command (order_number error)) None
+error_file command (Unevaluated error) = None
 error_file command (Unwritten kind) = None
 
 -- the path of a file before the message, if there is one

@@ -20,8 +20,8 @@ use Rattle.mtxkit_texts.specs.declared.failure.Failure.{Failure}
 use Rattle.mtxkit_texts.specs.declared.failure.Failure.TheVariants.{Shapes, NotSymmetric, NoFactors}
 use Rattle.mtxkit_texts.specs.declared.failure.Failure.TheVariants.{NotSolution, Modulus}
 use Rattle.mtxkit_texts.specs.declared.failure.Failure.TheVariants.{OutOfMemory}
-use Rattle.mtxkit_commands.specs.Moduli.{IsUnlisted}
-use Rattle.mtxkit_commands.specs.Rings.{ring_of, reduced_by, ring_value}
+use Rattle.mtxkit_eval.specs.Moduli.{IsUnlisted}
+use Rattle.mtxkit_eval.specs.Rings.{ring_of, reduced_by, ring_value}
 
 -- ---- lists of integers, each of which represents a ring element: the integer times one
 

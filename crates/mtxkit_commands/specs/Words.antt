@@ -1,9 +1,11 @@
 -- The commands that arguments give.
 use Rattle.std.specs.Prelude.{◌≡◌, ◌≢◌, ℕ, List, codes, Option, Some, None, nat_lt}
 use Rattle.std.specs.Prelude.{if◌then◌else◌}
-use Rattle.clap.specs.Matches.{first_value, one_text}
+use Rattle.std.specs.Option.{option_map}
+use Rattle.clap.specs.Matches.{first_value, matched_of, one_text, raw_values}
 use Rattle.clap.specs.declared.parser.matches.Found.{Found}
-use Rattle.mtxkit_commands.specs.Names.{target_file}
+use Rattle.sparse_expr.specs.declared.calculator.OutputOrder.TheVariants.{Rows}
+use Rattle.mtxkit_commands.specs.Names.{target_file, paths}
 use Rattle.mtxkit_patterns.specs.declared.square.Method.{Method}
 use Rattle.mtxkit_patterns.specs.declared.square.Method.TheVariants.{MinimumDegree}
 use Rattle.mtxkit_patterns.specs.declared.square.Method.TheVariants.{ReverseCuthillMckee}
@@ -12,6 +14,7 @@ use Rattle.mtxkit_commands.specs.declared.commands.Command.TheVariants.{Info, Sp
 use Rattle.mtxkit_commands.specs.declared.commands.Command.TheVariants.{Integer}
 use Rattle.mtxkit_commands.specs.declared.commands.Command.TheVariants.{Order, Permute, Fill}
 use Rattle.mtxkit_commands.specs.declared.commands.Command.TheVariants.{Symmetric, Solve, Check}
+use Rattle.mtxkit_commands.specs.declared.commands.Command.TheVariants.{Eval}
 use Rattle.mtxkit_commands.specs.declared.commands.FillOrder.{FillOrder}
 use Rattle.mtxkit_commands.specs.declared.commands.FillOrder.TheVariants as fill
 use Rattle.mtxkit_commands.specs.declared.commands.Target.{Target}
@@ -30,6 +33,7 @@ command_name (Symmetric file) = codes "symmetric"
 command_name (Order file method) = codes "order"
 command_name (Permute order file) = codes "permute"
 command_name (Fill file order) = codes "fill"
+command_name (Eval modulus order words files) = codes "eval"
 command_name (Solve modulus a b) = codes "solve"
 command_name (Check modulus a x b) = codes "check"
 
@@ -80,6 +84,10 @@ IsNamedFile None file = file ≡ None
 IsNamedFile (Some path) file =
     (path ≡ codes "-" → file ≡ None) × (path ≢ codes "-" → file ≡ Some path)
 
+-- the arguments with this name are these texts
+abbrev pub AreArguments : Found → List ℕ → List (List ℕ) → Type 0
+AreArguments words name texts = option_map raw_values (matched_of words name) ≡ Some texts
+
 -- the command has the files, the field and the output file that these arguments name, and the default size, scale or
 -- modulus if the arguments give none
 abbrev pub GivesCommand : Found → Command → Type 0
@@ -99,6 +107,10 @@ GivesCommand words (Permute order file) = IsArgument words (codes "ORDER") order
     × IsArgument words (codes "FILE") file.now
 GivesCommand words (Fill file order) = IsArgument words (codes "FILE") file.now
     × GivesOrder (first_value words (codes "order")) order
+GivesCommand words (Eval modulus order expression files) =
+    IsArgument words (codes "EXPR") expression.now × AreArguments words (codes "FILE") (paths files.now)
+    × (one_text words (codes "columns") ≡ None → order ≡ Rows)
+    × (one_text words (codes "mod") ≡ None → modulus ≡ None)
 GivesCommand words (Solve modulus a b) = IsArgument words (codes "A") a.now
     × IsArgument words (codes "B") b.now × (one_text words (codes "mod") ≡ None → modulus ≡ None)
 GivesCommand words (Check modulus a x b) = IsArgument words (codes "A") a.now

@@ -8,6 +8,7 @@ ghost use Rattle.mtxkit_commands.specs.Commands.{IsUnsolved, IsCheckAnswer, IsUn
 
 use crate::command_error::CommandError;
 use crate::commands::{Command, Target, Values};
+use crate::evaluated::evaluated_of;
 use crate::inputs::{Texts, read_text};
 use crate::orders::{filled_of, ordered_of, permuted_of};
 use crate::scaled::scaled_of;
@@ -57,6 +58,12 @@ pub fn answer_of<T: Texts>(
         Command::Order { file, method } => ordered_of(alloc, texts, file, method),
         Command::Permute { order, file } => permuted_of(alloc, texts, order, file),
         Command::Fill { file, order } => filled_of(alloc, texts, file, order),
+        Command::Eval {
+            modulus,
+            order,
+            words,
+            files,
+        } => evaluated_of(alloc, texts, modulus, order, words, files),
         Command::Solve { modulus, a, b } => {
             Ok(solution_of(alloc, texts, modulus, a, b)?.into_bytes())
         }

@@ -14,7 +14,8 @@ use crate::argument_error::ArgumentError;
 use crate::cli::{finish, run};
 use crate::failure_lines::{report, report_write};
 use crate::inputs::{Inputs, Texts};
-use crate::words::parse;
+use crate::words::{command_of, parse};
+use clap::ArgMatches;
 use mtxkit_texts::{Failure, Screen};
 use sparse_io::{Out, Sink, write_all_to};
 use std::alloc::Global;
@@ -145,9 +146,35 @@ where
         → W.accepted out.new ≡ W.accepted out.old }
 {
     match parse(rt.alloc(), words) {
-        Ok(Some(command)) => run(rt, command, texts, out, err),
-        Ok(None) => report(rt.alloc(), None, Failure::Usage, err),
+        Ok(matches) => run_matched(rt, &matches, texts, out, err),
         Err(error) => explain(rt.alloc(), &error, out, err),
+    }
+}
+
+// Runs the command that `clap` matched, without a flush of the output.
+fn run_matched<R, T, W, E>(
+    rt: &R,
+    matches: &ArgMatches<'_>,
+    texts: &mut T,
+    out: &mut W,
+    err: &mut E,
+) -> u8
+where
+    R: Files + AllocGlobal,
+    T: Texts,
+    W: Sink,
+    E: Sink,
+    ensures status { result ≤ 2 }
+    ensures silent { result ≡ 0 → E.accepted err.new ≡ E.accepted err.old }
+    ensures quiet { result ≡ 0 → E.failures err.new ≡ E.failures err.old }
+    ensures reported { result ≡ 1 → HasReport (E.accepted err.old) (E.accepted err.new)
+        (E.failures err.old) (E.failures err.new) }
+    ensures unanswered { result ≡ 2 → W.failures out.new ≡ W.failures out.old
+        → W.accepted out.new ≡ W.accepted out.old }
+{
+    match command_of(matches) {
+        Some(command) => run(rt, command, texts, out, err),
+        None => report(rt.alloc(), None, Failure::Usage, err),
     }
 }
 

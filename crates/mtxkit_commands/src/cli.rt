@@ -13,6 +13,7 @@ ghost use Rattle.mtxkit_texts.specs.declared.failure.Failure.TheVariants.{Unsave
 use crate::answers::answer_of;
 use crate::command_error::CommandError;
 use crate::commands::{Command, order_number};
+use crate::evaluated::report_unevaluated;
 use crate::failure_lines::{report, report_write};
 use crate::inputs::Texts;
 use crate::orders::report_misordered;
@@ -75,6 +76,7 @@ fn report_error<E: Sink>(
         CommandError::Misordered(error) => {
             report_misordered(alloc, command.file(order_number(error)), error, err)
         }
+        CommandError::Unevaluated(error) => report_unevaluated(alloc, error, err),
         CommandError::Unwritten(kind) => report_write(alloc, kind, err),
     }
 }

@@ -3,6 +3,7 @@
 ghost use Rattle.std.specs.Prelude.{◌≡◌};
 ghost use Rattle.mtxkit_commands.specs.OrderErrors.{order_fault};
 
+use mtxkit_eval::EvalError;
 use mtxkit_matrices::ScaleError;
 use mtxkit_patterns::OrderError;
 use mtxkit_texts::Failure;
@@ -17,6 +18,8 @@ pub enum CommandError {
     Unscaled(ScaleError),
     /// An order, or the matrix that it is for, is at fault.
     Misordered(OrderError),
+    /// The expression of `mtxkit eval` has no value that is written.
+    Unevaluated(EvalError),
     /// A write to the output failed, with an error of this kind.
     Unwritten(ErrorKind),
 }

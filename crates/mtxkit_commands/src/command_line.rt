@@ -29,6 +29,9 @@ const MATRIX_FILE: &str = "A Matrix Market file, or - for standard input";
 
 const DECIMAL_FILE: &str = "A real or integer Matrix Market file, or - for standard input";
 
+const EXPRESSION: &str =
+    "Words in postfix order: the numbers of files from 1, +, -, *, t (transpose) and n (negative)";
+
 // A command, and its arguments in the order of the usage line.
 struct Usage {
     name: &'static str,
@@ -41,18 +44,22 @@ struct Usage {
 enum Word {
     // A required file: its name in the usage line, and its help.
     File(&'static str, &'static str),
+    Columns,
+    Expression,
     Field,
+    Files,
     Method,
     Modulus,
     Order,
     Output,
+    Rows,
     Scale,
     Size,
     Svg,
     Text,
 }
 
-const USAGES: [Usage; 11] = [
+const USAGES: [Usage; 12] = [
     Usage {
         name: "info",
         about: "Writes facts about a matrix",
@@ -108,6 +115,17 @@ const USAGES: [Usage; 11] = [
         words: &[Word::Order, Word::File("FILE", MATRIX_FILE)],
     },
     Usage {
+        name: "eval",
+        about: "Writes the value of an expression over matrices of integers, exactly",
+        words: &[
+            Word::Modulus,
+            Word::Rows,
+            Word::Columns,
+            Word::Expression,
+            Word::Files,
+        ],
+    },
+    Usage {
         name: "solve",
         about: "Writes the matrix X with A X = B for a symmetric matrix A, exactly, by L D L^T",
         words: &[
@@ -154,11 +172,15 @@ fn command_used<'a>(alloc: Global, usage: &Usage) -> Result<clap::Command<'a>, A
 fn argument<'a>(alloc: Global, word: Word) -> Result<Arg<'a>, AllocError> {
     match word {
         Word::File(name, help) => Ok(file_word(alloc, name, help)),
+        Word::Columns => columns_word(alloc),
+        Word::Expression => Ok(file_word(alloc, "EXPR", EXPRESSION)),
         Word::Field => Ok(field_word(alloc)),
+        Word::Files => Ok(files_word(alloc)),
         Word::Method => Ok(method_word(alloc)),
         Word::Modulus => Ok(modulus_word(alloc)),
         Word::Order => Ok(order_word(alloc)),
         Word::Output => output_word(alloc),
+        Word::Rows => Ok(rows_word(alloc)),
         Word::Scale => Ok(scale_word(alloc)),
         Word::Size => Ok(size_word(alloc)),
         Word::Svg => svg_word(alloc),
@@ -176,6 +198,25 @@ fn file_word<'a>(alloc: Global, name: &'a str, help: &'a str) -> Arg<'a> {
 
 fn field_word<'a>(alloc: Global) -> Arg<'a> {
     file_word(alloc, "FIELD", "The field to write").value_parser(FIELDS.as_slice())
+}
+
+fn files_word<'a>(alloc: Global) -> Arg<'a> {
+    file_word(alloc, "FILE", MATRIX_FILE).num_args(1..)
+}
+
+fn rows_word<'a>(alloc: Global) -> Arg<'a> {
+    Arg::new(alloc, "rows")
+        .long("rows")
+        .action(ArgAction::SetTrue)
+        .help("Write the entries row by row, as without this word")
+}
+
+fn columns_word<'a>(alloc: Global) -> Result<Arg<'a>, AllocError> {
+    Arg::new(alloc, "columns")
+        .long("columns")
+        .action(ArgAction::SetTrue)
+        .help("Write the entries column by column")
+        .conflicts_with("rows")
 }
 
 fn size_word<'a>(alloc: Global) -> Arg<'a> {
@@ -239,5 +280,5 @@ fn modulus_word<'a>(alloc: Global) -> Arg<'a> {
         .long("mod")
         .value_name("P")
         .value_parser(MODULI.as_slice())
-        .help("Take the integers modulo P, in place of 2^64")
+        .help("Take the integers modulo P")
 }

@@ -4,11 +4,13 @@ ghost use Rattle.std.specs.Prelude.{◌≡◌, is_some};
 ghost use Rattle.std.specs.Option.{option_map};
 ghost use Rattle.mtxkit_commands.specs.Commands.{is_file, is_saved};
 ghost use Rattle.mtxkit_commands.specs.Names.{first_file, second_file, third_file, file_of};
+ghost use Rattle.mtxkit_commands.specs.Names.{first_path, named_file, path_at, paths};
 ghost use Rattle.mtxkit_commands.specs.Names.{target_file, saved_file, fault_file};
 ghost use Rattle.mtxkit_commands.specs.Names.{order_file, order_number};
 
 use mtxkit_patterns::{Method, OrderError};
 use mtxkit_texts::Failure;
+use sparse_expr::OutputOrder;
 
 /// A command. Its files are given by their paths, and `-` is standard input.
 #[derive(Clone, Copy, Debug)]
@@ -72,6 +74,17 @@ pub enum Command<'a> {
         /// The order of the rows and columns.
         order: FillOrder<'a>,
     },
+    /// `eval`: writes the value of an expression over matrices of integers.
+    Eval {
+        /// The modulus; without one the integers are exact.
+        modulus: Option<u64>,
+        /// The order in which the entries are written.
+        order: OutputOrder,
+        /// The words of the expression, in postfix order.
+        words: &'a str,
+        /// The files.
+        files: &'a [&'a str],
+    },
     /// `solve`: writes the matrix X for which A X = B.
     Solve {
         /// The modulus; without one the integers are those modulo 2^64.
@@ -114,6 +127,16 @@ impl<'a> Command<'a> {
     pub fn file(self, number: usize) -> Option<&'a str>
         ensures { option_map (λ path. path.now) result ≡ file_of self.entry number }
     {
+        match self {
+            Command::Eval { files, .. } => file_among(files, number),
+            _ => self.named_file(number),
+        }
+    }
+
+    // Returns the path of the file with this number, for a command whose files have names.
+    fn named_file(self, number: usize) -> Option<&'a str>
+        ensures { option_map (λ path. path.now) result ≡ named_file self.entry number }
+    {
         match number {
             1 => Some(self.first_file()),
             2 => self.second_file(),
@@ -136,6 +159,7 @@ impl<'a> Command<'a> {
             | Command::Order { file, .. } => file,
             Command::Permute { order, .. } => order,
             Command::Fill { file, order } => order.path().unwrap_or(file),
+            Command::Eval { files, .. } => first_among(files),
             Command::Solve { a, .. } | Command::Check { a, .. } => a,
         }
     }
@@ -214,6 +238,26 @@ pub(crate) fn order_number(error: OrderError) -> usize
         | OrderError::OutOfRange(number, _)
         | OrderError::Repeated(number, _)
         | OrderError::OtherLength(number) => number,
+    }
+}
+
+// Returns the path with this number, counted from 1, if there is one.
+fn file_among<'a>(files: &'a [&'a str], number: usize) -> Option<&'a str>
+    ensures { option_map (λ path. path.now) result ≡ path_at (paths files.now) number }
+{
+    if number == 0 {
+        return None;
+    }
+    files.get(number - 1).copied()
+}
+
+// Returns the first path, or an empty one if there is none.
+fn first_among<'a>(files: &'a [&'a str]) -> &'a str
+    ensures { result.now ≡ first_path (paths files.now) }
+{
+    match files.first() {
+        Some(file) => file,
+        None => "",
     }
 }
 

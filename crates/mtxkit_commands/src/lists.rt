@@ -6,7 +6,7 @@ ghost use Rattle.sparse_algebra.specs.Integers.{element_of};
 ghost use Rattle.mtxkit_commands.specs.Systems.{plain_of_integers};
 ghost use Rattle.mtxkit_matrices.specs.Orders.{coordinates_of};
 
-use crate::residues::Residues;
+use mtxkit_eval::Residues;
 use mtxkit_texts::with_values;
 use sparse_coo_dense::coo::CooMatrix;
 use std::alloc::{AllocError, Global};

@@ -9,7 +9,7 @@ ghost use Rattle.mtxkit_texts.specs.declared.failure.Failure.TheVariants.{OutOfM
 ghost use Rattle.mtxkit_commands.specs.SystemErrors.{system_fault};
 
 use crate::lists::{elements_of, integers_of};
-use crate::residues::Residues;
+use mtxkit_eval::Residues;
 use mtxkit_matrices::{SystemError, is_solution, solve_listed};
 use mtxkit_texts::{Failure, read_integers};
 use sparse_algebra::scalar::{Mod, W64};

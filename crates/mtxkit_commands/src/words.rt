@@ -1,11 +1,12 @@
 //! Parses the arguments of the program.
 
-ghost use Rattle.clap.specs.Matches.{found_of, first_value, subcommand_name_of};
+ghost use Rattle.clap.specs.Matches.{found_of, first_value, one_text, subcommand_name_of};
 ghost use Rattle.clap.specs.Simple.{subcommand_rows_of};
 ghost use Rattle.clap.specs.Walk.{rows_of};
 ghost use Rattle.clap.specs.declared.parser.matches.Found.{Found};
-ghost use Rattle.std.specs.Prelude.{◌≡◌, ◌<◌, IfOk, IfSome, Some, codes};
+ghost use Rattle.std.specs.Prelude.{◌≡◌, ◌<◌, IfSome, Some, None, codes};
 ghost use Rattle.std.specs.Option.{option_map};
+ghost use Rattle.sparse_expr.specs.declared.calculator.OutputOrder.TheVariants.{Rows};
 ghost use Rattle.mtxkit_commands.specs.Commands.{IsSized};
 ghost use Rattle.mtxkit_commands.specs.Names.{target_file};
 ghost use Rattle.mtxkit_commands.specs.Words.{command_name, field_name, size_given};
@@ -15,26 +16,22 @@ use crate::command_line::command_line;
 use crate::commands::{Command, FillOrder, Target, Values};
 use clap::{ArgMatches, Error};
 use mtxkit_patterns::Method;
+use sparse_expr::OutputOrder;
 use std::alloc::Global;
 
-/// Returns the command that the arguments give. The first argument is the program's name. The size of a picture is not
-/// 0.
-///
-/// Returns `None` if `clap` accepts an argument that the command does not have.
+/// Returns what `clap` matches in the arguments. The first argument is the program's name.
 ///
 /// # Errors
 ///
-/// Returns the error of `clap` for other arguments and for a request for help.
-pub fn parse<'a>(alloc: Global, words: &'a [String]) -> Result<Option<Command<'a>>, Error>
-    ensures { IfOk result (λ parsed. IfSome parsed IsSized) }
-{
+/// Returns the error of `clap` for arguments that it does not accept and for a request for help.
+pub fn parse<'a>(alloc: Global, words: &'a [String]) -> Result<ArgMatches<'a>, Error> {
     let line = command_line(alloc)?;
-    let matches = line.try_get_matches_from(words)?;
-    Ok(command_of(&matches))
+    line.try_get_matches_from(words)
 }
 
-// Returns the command that `clap` matched.
-fn command_of<'a>(matches: &ArgMatches<'a>) -> Option<Command<'a>>
+/// Returns the command that `clap` matched, or `None` if `clap` accepts an argument that the command does not have. The
+/// size of a picture is not 0.
+pub fn command_of<'a>(matches: &'a ArgMatches<'a>) -> Option<Command<'a>>
     ensures sized { IfSome result IsSized }
     ensures named { IfSome result
         (λ command. subcommand_name_of matches.now ≡ Some (command_name command)) }
@@ -46,7 +43,7 @@ fn command_of<'a>(matches: &ArgMatches<'a>) -> Option<Command<'a>>
 }
 
 // Returns the command with this name and these arguments.
-fn named_command<'a>(name: &str, words: &ArgMatches<'a>) -> Option<Command<'a>>
+fn named_command<'a>(name: &str, words: &'a ArgMatches<'a>) -> Option<Command<'a>>
     ensures sized { IfSome result IsSized }
     ensures named { IfSome result (λ command. name.now ≡ command_name command) }
     ensures given { IfSome result (GivesCommand (found_of words.now)) }
@@ -61,6 +58,7 @@ fn named_command<'a>(name: &str, words: &ArgMatches<'a>) -> Option<Command<'a>>
         "order" => order_of(words),
         "permute" => permute_of(words),
         "fill" => fill_of(words),
+        "eval" => eval_of(words),
         "solve" => solve_of(words),
         "check" => check_of(words),
         _ => None,
@@ -221,6 +219,31 @@ fn fill_order<'a>(name: Option<&'a str>) -> FillOrder<'a>
         "amd" => FillOrder::Computed(Method::MinimumDegree),
         "rcm" => FillOrder::Computed(Method::ReverseCuthillMckee),
         path => FillOrder::File(path),
+    }
+}
+
+fn eval_of<'a>(words: &'a ArgMatches<'a>) -> Option<Command<'a>>
+    ensures sized { IfSome result IsSized }
+    ensures named { IfSome result (λ command. command_name command ≡ codes "eval") }
+    ensures given { IfSome result (GivesCommand (found_of words.now)) }
+{
+    let files = words.get_strs("FILE")?;
+    Some(Command::Eval {
+        modulus: words.get_one::<u64>("mod"),
+        order: output_order(words),
+        words: words.get_str("EXPR")?,
+        files,
+    })
+}
+
+// Returns the order in which entries are written.
+fn output_order(words: &ArgMatches<'_>) -> OutputOrder
+    ensures { one_text (found_of words.now) (codes "columns") ≡ None → result ≡ Rows }
+{
+    if words.get_flag("columns") {
+        OutputOrder::Cols
+    } else {
+        OutputOrder::Rows
     }
 }
 

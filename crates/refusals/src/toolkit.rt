@@ -8,6 +8,7 @@ use case_words::turn::Turn;
 use mtxkit_commands::{Command, FillOrder, Inputs, Target, Values, run as run_command};
 use mtxkit_patterns::Method;
 use mtxkit_texts::Screen;
+use nalgebra_sparse::expr::OutputOrder;
 use nalgebra_sparse::io::Out;
 use std::fs;
 
@@ -70,6 +71,7 @@ pub fn run(rt: &HostRuntime, turn: &mut Turn, case: &str) -> Outcome {
             let order = FillOrder::File(ORDER);
             run_args(rt, turn, Command::Fill { file: A, order })
         }
+        "eval" => run_args(rt, turn, square()),
         "solve" => run_args(rt, turn, solve(None)),
         "solve modulo" => run_args(rt, turn, solve(modulus)),
         "check" => {
@@ -77,6 +79,18 @@ pub fn run(rt: &HostRuntime, turn: &mut Turn, case: &str) -> Outcome {
             run_args(rt, turn, Command::Check { modulus, a, x, b })
         }
         _ => Outcome::Unknown,
+    }
+}
+
+// The square of A.
+fn square() -> Command<'static>
+    ensures { IsSized result }
+{
+    Command::Eval {
+        modulus: None,
+        order: OutputOrder::Cols,
+        words: "1 1 *",
+        files: &[A],
     }
 }
 

@@ -1,6 +1,7 @@
 //! What `mtxkit` writes and answers.
 
 mod cases;
+mod eval_cases;
 mod failures;
 mod info_cases;
 mod line_cases;
@@ -11,6 +12,7 @@ mod system_cases;
 
 use crate::files::{HEADER, matrices, matrix};
 use crate::mtxkit::cases::{CASES, Case, OBLONG, Oblong};
+use crate::mtxkit::eval_cases::EVAL_CASES;
 use crate::mtxkit::info_cases::INFO_CASES;
 use crate::mtxkit::line_cases::{LINE_CASES, LineCase};
 use crate::mtxkit::order_cases::{FILL_CASES, ORDER_CASES, PERMUTE_CASES};
@@ -194,8 +196,12 @@ fn is_met(
 }
 
 #[test]
-fn solved_and_checked_files(rt: HostRuntime) {
-    for (cases, heading) in [(SOLVE_CASES, HEADING), (CHECK_CASES, "")] {
+fn files_of_expressions_and_systems(rt: HostRuntime) {
+    for (cases, heading) in [
+        (EVAL_CASES, HEADING),
+        (SOLVE_CASES, HEADING),
+        (CHECK_CASES, ""),
+    ] {
         for (row, case) in cases.iter().enumerate() {
             let is_met = is_met(&rt, case, heading);
             assert!(rt; matches!(is_met, Ok(true)), "{heading} row {row}");
@@ -318,7 +324,10 @@ const HELP: [(&[&str], &str); 5] = [
     (&["--help"], "\n  spy        Writes a picture"),
     (&["help"], "\n  spy        Writes a picture"),
     (&["solve", "--help"], "998244353, 1000000007,"),
-    (&["help", "solve"], "Usage: mtxkit solve [OPTIONS] <A> <B>\n"),
+    (
+        &["help", "solve"],
+        "Usage: mtxkit solve [OPTIONS] <A> <B>\n",
+    ),
     (&["--version"], "mtxkit 0.1.0\n"),
 ];
 

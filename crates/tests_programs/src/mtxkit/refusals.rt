@@ -71,6 +71,7 @@ pub const REFUSALS: &[Refusal] = &[
     (&["spy", "-"], REAL, 1, NOT_CARRIED),
     (&["copy", "-"], REAL, 1, NOT_CARRIED),
     (&["copy", "-"], COMPLEX, 1, NOT_CARRIED),
+    (&["eval", "1", "-"], REAL, 1, NOT_CARRIED),
     (&["solve", "-", "-"], REAL, 1, NOT_CARRIED),
     (
         &["info", "-"],
@@ -174,6 +175,7 @@ pub const REFUSALS: &[Refusal] = &[
         "",
     ),
     // The whole of standard input is the first file, and the second is empty.
+    (&["eval", "1", "-", "-"], ONE, 1, NO_HEADER),
     (&["solve", "-", "-"], ONE, 1, NO_HEADER),
     (
         &["info", "-"],

@@ -1,7 +1,7 @@
 use Rattle.std.proofs.Common.{◌≡◌, ℕ, ℤ, Bool, Option, Some, None, Result, rules, sym, subst}
 use Rattle.sparse_coo_dense.specs.Coo.{Coo}
 use Rattle.mtxkit_texts.specs.declared.failure.Failure.{Failure}
-use Rattle.mtxkit_commands.specs.Rings.{ring_of}
+use Rattle.mtxkit_eval.specs.Rings.{ring_of}
 use Rattle.mtxkit_commands.specs.Systems.{IsTested, IsTestedBy}
 use Rattle.mtxkit_commands.proofs.Solving.{tested_by}
 use Rattle.mtxkit_commands.proofs.systems.is_solution_modulo.Goals as goal

@@ -1,7 +1,7 @@
 use Rattle.std.proofs.Common.{◌≡◌, ℕ, ℤ, Option, Some, None, Result, rules, sym, subst}
 use Rattle.sparse_coo_dense.specs.Coo.{Coo}
 use Rattle.mtxkit_texts.specs.declared.failure.Failure.{Failure}
-use Rattle.mtxkit_commands.specs.Rings.{ring_of, reduced_by, ring_value}
+use Rattle.mtxkit_eval.specs.Rings.{ring_of, reduced_by, ring_value}
 use Rattle.mtxkit_commands.specs.Systems.{IsSolved, IsSolvedBy}
 use Rattle.mtxkit_commands.proofs.Solving.{solved_by}
 use Rattle.mtxkit_commands.proofs.systems.solve_modulo.Goals as goal

@@ -1,0 +1,13 @@
+mod Remainders
+mod MappedPlains
+mod IntegerImages
+mod ValueImages
+mod Caps
+mod Bounds
+mod WideClasses
+mod FirstWide
+mod SameTriplets
+mod Magnitudes
+mod Outcomes
+mod Bounded
+mod LoadedTexts
