@@ -6,7 +6,8 @@ ghost use Rattle.std.specs.Io.KnownBytes.{Appends};
 ghost use Rattle.mtxkit_commands.specs.Commands.{IsAnswered, IsSized, IsUnsaved};
 ghost use Rattle.mtxkit_commands.specs.Commands.{IsStatus, CanFail, error_status};
 ghost use Rattle.mtxkit_commands.specs.Commands.{IsOutputFailure};
-ghost use Rattle.mtxkit_commands.specs.Names.{IsErrorReported, IsReported, IsSilent};
+ghost use Rattle.mtxkit_commands.specs.Names.{HasReport, IsErrorReported, IsReported};
+ghost use Rattle.mtxkit_commands.specs.Names.{IsSilent};
 ghost use Rattle.mtxkit_commands.specs.declared.command_error.CommandError.{CommandError};
 ghost use Rattle.mtxkit_texts.specs.declared.failure.Failure.TheVariants.{Unsaved};
 
@@ -47,6 +48,10 @@ where
         (W.failures out.old) (W.failures out.new) (W.last out.new) error
         × (result ≡ error_status error)
         × IsErrorReported command.entry error (E.accepted err.old) (E.accepted err.new)
+        (E.failures err.old) (E.failures err.new) }
+    ensures reported { result ≡ 1 → HasReport (E.accepted err.old) (E.accepted err.new)
+        (E.failures err.old) (E.failures err.new) }
+    ensures stopped { result ≡ 141 → IsSilent (E.accepted err.old) (E.accepted err.new)
         (E.failures err.old) (E.failures err.new) }
     ensures unanswered { result ≢ 0 → W.failures out.new ≡ W.failures out.old
         → W.accepted out.new ≡ W.accepted out.old }
