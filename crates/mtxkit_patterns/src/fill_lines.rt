@@ -1,6 +1,6 @@
 //! Writes the lines of `mtxkit fill`.
 
-ghost use Rattle.std.specs.Prelude.{◌≡◌, ◌++◌, IfOk, OnOk, codes, string_bytes};
+ghost use Rattle.std.specs.Prelude.{◌≡◌, ◌++◌, ◌-◌, IfOk, OnOk, codes, string_bytes};
 ghost use Rattle.mtxkit_matrices.specs.FactLines.{count_line};
 ghost use Rattle.mtxkit_patterns.specs.Fills.{cost_lines, fill_lines, hundredths, place_lines, ratio};
 
@@ -27,11 +27,21 @@ fn push_places(alloc: Global, lines: &mut String, counts: FillCounts) -> Result<
     ensures { OnOk result
         (string_bytes lines.new ≡ string_bytes lines.old ++ place_lines counts) }
 {
-    let fill = counts.factor.saturating_sub(counts.lower);
     push_count(alloc, lines, "places", counts.places)?;
     push_count(alloc, lines, "places of the lower triangle", counts.lower)?;
     push_count(alloc, lines, "places of the factor", counts.factor)?;
-    push_count(alloc, lines, "fill", fill)
+    push_count(alloc, lines, "fill", fill_of(counts))
+}
+
+// Returns the number of places of the factor that are fill.
+fn fill_of(counts: FillCounts) -> usize
+    ensures { result ≡ counts.factor - counts.lower }
+{
+    if counts.factor < counts.lower {
+        0
+    } else {
+        counts.factor - counts.lower
+    }
 }
 
 // Appends the lines of the multiplications, the longest column and the elimination tree.

@@ -1,12 +1,13 @@
 //! Orders the rows and columns of square patterns.
 
 ghost use Rattle.std.specs.Prelude.{◌≡◌, IfOk, IfErr, string_bytes};
+ghost use Rattle.mtxkit_texts.specs.Loaded.{IsLoadFailure};
 ghost use Rattle.mtxkit_patterns.specs.Orders.{IsNoSquare, MeansPattern, WritesOrder};
 
 use crate::order_error::OrderError;
 use crate::order_texts::write_order;
 use crate::square::{Method, order_of};
-use mtxkit_texts::load;
+use mtxkit_texts::{Failure, load};
 use sparse_pattern::pattern::SparsityPattern;
 use std::alloc::Global;
 
@@ -36,9 +37,22 @@ pub(crate) fn square_pattern(
     ensures square { IfOk result (λ p. p.major_dim ≡ p.minor_dim) }
     ensures refused { IfErr result (IsNoSquare number text.now) }
 {
-    let (pattern, _values) = load(alloc, number, text)?.matrix.into_pattern_and_values();
+    let pattern = load_pattern(alloc, number, text)?;
     if pattern.major_dim() != pattern.minor_dim() {
         return Err(OrderError::NotSquare(number));
     }
+    Ok(pattern)
+}
+
+/// Returns the pattern of the matrix of a text. `number` is that of the text in the command.
+pub(crate) fn load_pattern(
+    alloc: Global,
+    number: usize,
+    text: &str,
+) -> Result<SparsityPattern, Failure>
+    ensures meant { IfOk result (MeansPattern text.now) }
+    ensures refused { IfErr result (IsLoadFailure number text.now) }
+{
+    let (pattern, _values) = load(alloc, number, text)?.matrix.into_pattern_and_values();
     Ok(pattern)
 }

@@ -9,8 +9,9 @@ ghost use Rattle.mtxkit_patterns.specs.Permuted.{WritesPermutedPattern, WritesPe
 
 use crate::order_error::OrderError;
 use crate::order_reading::read_order;
+use crate::orders::load_pattern;
 use crate::square::permuted_pattern;
-use mtxkit_texts::{Failure, header_of, load, load_values, write_pattern};
+use mtxkit_texts::{Failure, header_of, load_values, write_pattern};
 use sparse_io::{Banner, save_to_matrix_market_str_with};
 use sparse_parser::header::Field;
 use sparse_permutation::permutation::Permutation;
@@ -69,10 +70,9 @@ fn permuted_pattern_text(
         (λ written. WritesPermutedPattern order.now text.now (string_bytes written)) }
     ensures refused { IfErr result (IsMisfitPattern order.now text.now) }
 {
-    let loaded = load(alloc, 2, text)?;
-    let pattern = loaded.matrix.pattern();
+    let pattern = load_pattern(alloc, 2, text)?;
     fit(pattern.major_dim(), pattern.minor_dim(), order)?;
-    let permuted = permuted_pattern(alloc, pattern, order)?;
+    let permuted = permuted_pattern(alloc, &pattern, order)?;
     Ok(write_pattern(alloc, &permuted)?)
 }
 
