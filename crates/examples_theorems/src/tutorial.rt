@@ -13,9 +13,9 @@ use nalgebra_sparse::laws::compressed::{equal_law, stands_law};
 use nalgebra_sparse::laws::plain::identity_product_law;
 use nalgebra_sparse::ldl::Ldl;
 use nalgebra_sparse::ops::Op;
-use nalgebra_sparse::ops::serial::{mul_csr, spsolve_csc_lower_triangular};
+use nalgebra_sparse::ops::serial::{OperationError, mul_csr, spsolve_csc_lower_triangular};
 use nalgebra_sparse::scalar::{Mod, Ring, W64};
-use nalgebra_sparse::{CooMatrix, CsrMatrix};
+use nalgebra_sparse::{CooMatrix, CscMatrix, CsrMatrix};
 use std::alloc::{AllocError, Global};
 use std::test::Fail;
 
@@ -89,18 +89,44 @@ fn push_within(
     Ok(())
 }
 
+// Solves A X = B in natural order, and returns the number of entries of the factor.
+fn solve(
+    alloc: Global,
+    a: &CscMatrix<Mod<101>>,
+    b: &mut DMatrix<Mod<101>>,
+) -> Result<usize, OperationError>
+    requires square { a.now.pattern.minor_dim ≡ a.now.pattern.major_dim }
+    requires rows { b.old.nrows ≡ a.now.pattern.minor_dim }
+{
+    let natural = Ldl::factor(alloc, a)?;
+    natural.solve_mut(b);
+    Ok(natural.l().nnz())
+}
+
+// The same in an order of little fill.
+fn solve_ordered(
+    alloc: Global,
+    a: &CscMatrix<Mod<101>>,
+    b: &mut DMatrix<Mod<101>>,
+) -> Result<usize, OperationError>
+    requires square { a.now.pattern.minor_dim ≡ a.now.pattern.major_dim }
+    requires rows { b.old.nrows ≡ a.now.pattern.minor_dim }
+{
+    let ordered = Ldl::factor_ordered(alloc, a)?;
+    ordered.solve_mut(alloc, b)?;
+    Ok(ordered.factors().l().nnz())
+}
+
 fn a_grid_is_ordered_and_solved(alloc: Global) -> Result<bool, Fail> {
     let a = convert_coo_csc(alloc, &grid(alloc)?)?;
-    let mut b = DMatrix::repeat(alloc, 25, 1, Mod::new(1))?;
-    if a.nrows() != a.ncols() || a.nrows() != b.nrows() {
+    let mut x = DMatrix::repeat(alloc, 25, 1, Mod::new(1))?;
+    let mut y = DMatrix::repeat(alloc, 25, 1, Mod::new(1))?;
+    if a.nrows() != a.ncols() || a.nrows() != x.nrows() || a.nrows() != y.nrows() {
         return Ok(false);
     }
-    let mut x = b.clone(alloc)?;
-    let natural = Ldl::factor(alloc, &a)?;
-    natural.solve_mut(&mut b);
-    let ordered = Ldl::factor_ordered(alloc, &a)?;
-    ordered.solve_mut(alloc, &mut x)?;
-    Ok(x == b && natural.l().nnz() == 129 && ordered.factors().l().nnz() < 129)
+    let entries = solve(alloc, &a, &mut x)?;
+    let fewer = solve_ordered(alloc, &a, &mut y)?;
+    Ok(x == y && entries == 129 && fewer < 129)
 }
 
 // A law: the identity times a matrix is that matrix.

@@ -13,10 +13,10 @@ use sparse_csr_csc::csr::CsrMatrix;
 use sparse_products::serial::{mul_csr, spmm_csr_prealloc_unchecked_counted};
 use std::alloc::{AllocError, Global};
 
-// The product A B, updated to `beta C + alpha A B` in counted steps.
+// The product C = A B, updated to `beta C + alpha A B` in counted steps, where `scalars` has beta and alpha.
 fn updated_in_steps(
     alloc: Global,
-    (beta, alpha): (i64, i64),
+    scalars: (i64, i64),
     a: &CsrMatrix<W64>,
     b: &CsrMatrix<W64>,
 ) -> Result<CsrMatrix<W64>, OperationError>
@@ -25,9 +25,9 @@ fn updated_in_steps(
     let mut product = mul_csr(alloc, a, b)?;
     let computed = spmm_csr_prealloc_unchecked_counted(
         alloc,
-        W64::new(beta),
+        W64::new(scalars.0),
         &mut product,
-        W64::new(alpha),
+        W64::new(scalars.1),
         Op::NoOp(a),
         Op::NoOp(b),
         &mut Steps::new(),
