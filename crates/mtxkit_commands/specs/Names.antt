@@ -30,12 +30,6 @@ use Rattle.mtxkit_commands.specs.declared.commands.FillOrder.TheVariants as fill
 use Rattle.mtxkit_commands.specs.declared.commands.Target.{Target}
 use Rattle.mtxkit_commands.specs.declared.commands.Target.TheVariants.{Bitmap, Blocks, Svg, File}
 
--- the path of the file of an order, if there is one
-abbrev pub order_file : FillOrder → Option (List ℕ)
-order_file fill.Natural = None
-order_file (fill.Computed method) = None
-order_file (fill.File path) = Some path.now
-
 -- the paths of the files of `fill`, in the order in which they are read
 abbrev pub first_of_fill : FillOrder → List ℕ → List ℕ
 first_of_fill fill.Natural file = file

@@ -6,7 +6,7 @@ ghost use Rattle.mtxkit_commands.specs.Commands.{is_file, is_saved};
 ghost use Rattle.mtxkit_commands.specs.Names.{first_file, second_file, third_file, file_of};
 ghost use Rattle.mtxkit_commands.specs.Names.{first_path, named_file, path_at, paths};
 ghost use Rattle.mtxkit_commands.specs.Names.{target_file, saved_file, fault_file};
-ghost use Rattle.mtxkit_commands.specs.Names.{order_file, order_number};
+ghost use Rattle.mtxkit_commands.specs.Names.{first_of_fill, order_number, second_of_fill};
 
 use mtxkit_patterns::{Method, OrderError};
 use mtxkit_texts::Failure;
@@ -158,7 +158,7 @@ impl<'a> Command<'a> {
             | Command::Symmetric { file }
             | Command::Order { file, .. } => file,
             Command::Permute { order, .. } => order,
-            Command::Fill { file, order } => order.path().unwrap_or(file),
+            Command::Fill { file, order } => order.first(file),
             Command::Eval { files, .. } => first_among(files),
             Command::Solve { a, .. } | Command::Check { a, .. } => a,
         }
@@ -169,10 +169,7 @@ impl<'a> Command<'a> {
     {
         match self {
             Command::Permute { file, .. } => Some(file),
-            Command::Fill {
-                file,
-                order: FillOrder::File(_),
-            } => Some(file),
+            Command::Fill { file, order } => order.second(file),
             Command::Solve { b, .. } => Some(b),
             Command::Check { x, .. } => Some(x),
             _ => None,
@@ -216,13 +213,23 @@ pub enum FillOrder<'a> {
 }
 
 impl<'a> FillOrder<'a> {
-    // Returns the path of the file of the order, if there is one.
-    fn path(self) -> Option<&'a str>
-        ensures { option_map (λ path. path.now) result ≡ order_file self.entry }
+    // Returns the path of the first file that is read for the fill of this file.
+    fn first(self, file: &'a str) -> &'a str
+        ensures { result.now ≡ first_of_fill self.entry file.now }
+    {
+        match self {
+            FillOrder::Natural | FillOrder::Computed(_) => file,
+            FillOrder::File(path) => path,
+        }
+    }
+
+    // Returns the path of the second file that is read for the fill of this file, if there is one.
+    fn second(self, file: &'a str) -> Option<&'a str>
+        ensures { option_map (λ path. path.now) result ≡ second_of_fill self.entry file.now }
     {
         match self {
             FillOrder::Natural | FillOrder::Computed(_) => None,
-            FillOrder::File(path) => Some(path),
+            FillOrder::File(_) => Some(file),
         }
     }
 }

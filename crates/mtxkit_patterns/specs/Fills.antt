@@ -32,12 +32,11 @@ ratio a b = decimal (hundredths a b / 100) ++ (codes "."
 
 -- ---- the lines of `mtxkit fill`
 
--- the places of the pattern, of its lower triangle and of its factor, and how many of these are fill
+-- the places of the pattern, of its lower triangle and of its factor
 abbrev pub place_lines : FillCounts → List ℕ
 place_lines s = count_line (codes "places") s.places
     ++ (count_line (codes "places of the lower triangle") s.lower
-    ++ (count_line (codes "places of the factor") s.factor
-    ++ count_line (codes "fill") (s.factor - s.lower)))
+    ++ count_line (codes "places of the factor") s.factor)
 
 abbrev pub cost_lines : FillCounts → List ℕ
 cost_lines s = count_line (codes "multiplications") s.products
@@ -45,5 +44,5 @@ cost_lines s = count_line (codes "multiplications") s.products
     ++ count_line (codes "height of the elimination tree") s.height)
 
 abbrev pub fill_lines : FillCounts → List ℕ
-fill_lines s = place_lines s
-    ++ (line (codes "factor to lower triangle") (ratio s.factor s.lower) ++ cost_lines s)
+fill_lines s = place_lines s ++ (count_line (codes "fill") (s.factor - s.lower)
+    ++ (line (codes "factor to lower triangle") (ratio s.factor s.lower) ++ cost_lines s))

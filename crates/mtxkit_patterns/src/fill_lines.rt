@@ -16,21 +16,21 @@ pub(crate) fn lines_of(alloc: Global, counts: FillCounts) -> Result<String, Allo
 {
     let mut lines = String::new(alloc);
     push_places(alloc, &mut lines, counts)?;
+    push_count(alloc, &mut lines, "fill", fill_of(counts))?;
     let ratio = ratio_text(alloc, counts.factor, counts.lower)?;
     push_line(&mut lines, "factor to lower triangle", ratio.as_str())?;
     push_costs(alloc, &mut lines, counts)?;
     Ok(lines)
 }
 
-// Appends the lines of the places and of the fill.
+// Appends the lines of the places.
 fn push_places(alloc: Global, lines: &mut String, counts: FillCounts) -> Result<(), AllocError>
     ensures { OnOk result
         (string_bytes lines.new ≡ string_bytes lines.old ++ place_lines counts) }
 {
     push_count(alloc, lines, "places", counts.places)?;
     push_count(alloc, lines, "places of the lower triangle", counts.lower)?;
-    push_count(alloc, lines, "places of the factor", counts.factor)?;
-    push_count(alloc, lines, "fill", fill_of(counts))
+    push_count(alloc, lines, "places of the factor", counts.factor)
 }
 
 // Returns the number of places of the factor that are fill.
