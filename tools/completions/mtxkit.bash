@@ -3,7 +3,7 @@
 _mtxkit() {
     local word=${COMP_WORDS[COMP_CWORD]} before=${COMP_WORDS[COMP_CWORD - 1]} words=""
     if [ "$COMP_CWORD" -eq 1 ]; then
-        words="info spy copy field integer symmetric solve check --help --version"
+        words="info spy copy field integer symmetric solve check help --help --version"
         mapfile -t COMPREPLY < <(compgen -W "$words" -- "$word")
         return
     fi
@@ -12,6 +12,10 @@ _mtxkit() {
     field) [ "$COMP_CWORD" -ne 2 ] || words="integer pattern" ;;
     integer) words="--scale" ;;
     solve | check) words="--mod" ;;
+    help)
+        mapfile -t COMPREPLY < <(compgen -W "info spy copy field integer symmetric solve check" -- "$word")
+        return
+        ;;
     esac
     case $before in
     --mod) words="2 3 5 7 11 13 101 65537 998244353 1000000007 2305843009213693951" ;;

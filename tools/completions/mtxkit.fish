@@ -1,9 +1,10 @@
 # Completion of mtxkit for fish: put this file into ~/.config/fish/completions.
 
-set -l commands info spy copy field integer symmetric solve check
+set -l commands info spy copy field integer symmetric solve check help
 complete -c mtxkit -n "not __fish_seen_subcommand_from $commands" -f -a "$commands"
 complete -c mtxkit -l help -d 'what the program or the command does'
 complete -c mtxkit -n "not __fish_seen_subcommand_from $commands" -l version -d 'its version'
+complete -c mtxkit -n '__fish_seen_subcommand_from help' -f -a "$commands"
 complete -c mtxkit -n '__fish_seen_subcommand_from spy' -l size -x -d 'cells of a side'
 complete -c mtxkit -n '__fish_seen_subcommand_from spy' -s o -r -d 'the file to write'
 complete -c mtxkit -n '__fish_seen_subcommand_from spy' -l svg -d 'a picture for browsers'

@@ -1,6 +1,17 @@
--- A line of an error was written.
-use Rattle.std.proofs.Common.{ℕ, List, Option, Result, Ok, Err, IfOk, IfErr, refl, inl, inr, codes}
-use Rattle.mtxkit_commands.specs.Names.{IsErrorLine, IsReported, IsWritten}
+-- A line of an error was written, or none for an output that its reader has closed.
+use Rattle.std.proofs.Common.{◌≡◌, ℕ, List, Option, None, Result, Ok, Err, IfOk, IfErr, refl, inl}
+use Rattle.std.proofs.Common.{inr, codes, arith}
+use Rattle.std.specs.declared.io.ErrorKind.{ErrorKind}
+use Rattle.std.specs.declared.io.ErrorKind.TheVariants as io
+use Rattle.mtxkit_texts.specs.declared.failure.Failure.TheVariants.{Usage}
+use Rattle.mtxkit_commands.specs.Commands.{error_status, write_status, IsStatus}
+use Rattle.mtxkit_commands.specs.Names.{error_file, HasReport, IsErrorLine, IsErrorReported}
+use Rattle.mtxkit_commands.specs.Names.{IsReported, IsSilent, IsWriteReported, IsWritten}
+use Rattle.mtxkit_commands.specs.declared.command_error.CommandError.{CommandError}
+use Rattle.mtxkit_commands.specs.declared.command_error.CommandError.TheVariants.{Failed}
+use Rattle.mtxkit_commands.specs.declared.command_error.CommandError.TheVariants.{Unscaled}
+use Rattle.mtxkit_commands.specs.declared.command_error.CommandError.TheVariants.{Unwritten}
+use Rattle.mtxkit_commands.specs.declared.commands.Command.{Command}
 
 -- the line of the error was written, or the one that says that an allocation failed
 pub reported : {S E : Type 0} (text : S → List ℕ) (made : Result S E) (path : Option (List ℕ))
@@ -13,3 +24,41 @@ reported text (Ok line) path old new before after names written memory =
     record { line = text line; names = inl names; written = written }
 reported text (Err e) path old new before after names written memory =
     record { line = codes "mtxkit: out of memory\n"; names = inr refl; written = memory }
+
+write_status-is : (kind : ErrorKind) → IsStatus (write_status kind)
+write_status-is io.BrokenPipe = inr refl
+write_status-is kind = inl (omega arith)
+
+pub error_status-is : (error : CommandError) → IsStatus (error_status error)
+error_status-is (Failed Usage) = inl (omega arith)
+error_status-is (Failed failure) = inl (omega arith)
+error_status-is (Unscaled error) = inl (omega arith)
+error_status-is (Unwritten kind) = write_status-is kind
+
+module _ (old new : Option (List ℕ)) (before after : ℕ) where
+  written_at_1 : (kind : ErrorKind) → write_status kind ≡ 1
+      → IsWriteReported kind old new before after → IsReported None old new before after
+  written_at_1 io.BrokenPipe is told = absurd (omega (arith, is))
+  written_at_1 kind is told = told
+
+  silent_at_141 : (kind : ErrorKind) → write_status kind ≡ 141
+      → IsWriteReported kind old new before after → IsSilent old new before after
+  silent_at_141 io.BrokenPipe is told = told
+  silent_at_141 kind is told = absurd (omega (arith, is))
+
+  -- the line of an error with status 1 was written
+  pub written_of_error : (command : Command) (error : CommandError) → error_status error ≡ 1
+      → IsErrorReported command error old new before after → HasReport old new before after
+  written_of_error command (Failed failure) is told =
+      (error_file command (Failed failure), told)
+  written_of_error command (Unscaled error) is told =
+      (error_file command (Unscaled error), told)
+  written_of_error command (Unwritten kind) is told = (None, written_at_1 kind is told)
+
+  -- nothing was written for an error with status 141
+  pub silent_of_error : (command : Command) (error : CommandError) → error_status error ≡ 141
+      → IsErrorReported command error old new before after → IsSilent old new before after
+  silent_of_error command (Failed Usage) is told = absurd (omega (arith, is))
+  silent_of_error command (Failed failure) is told = absurd (omega (arith, is))
+  silent_of_error command (Unscaled error) is told = absurd (omega (arith, is))
+  silent_of_error command (Unwritten kind) is told = silent_at_141 kind is told

@@ -1,8 +1,9 @@
 -- What commands write, and why they fail.
-use Rattle.std.specs.Prelude.{◌≡◌, ◌⊎◌, ◌+◌, ◌<◌, ℕ, List, ◌∷◌, Option, Some, Ok}
+use Rattle.std.specs.Prelude.{◌≡◌, ◌⊎◌, ◌+◌, ◌<◌, ◌≤◌, ℕ, List, ◌∷◌, Option, Some, Ok}
 use Rattle.std.specs.Prelude.{Bool, true, false}
 use Rattle.std.specs.declared.io.Error.{Error}
 use Rattle.std.specs.declared.io.ErrorKind.{ErrorKind}
+use Rattle.std.specs.declared.io.ErrorKind.TheVariants as io
 use Rattle.std.specs.Io.KnownBytes.{Appends}
 use Rattle.mtxkit_texts.specs.Facts.{WritesInfo, IsInfoFailure}
 use Rattle.mtxkit_texts.specs.Headers.{header_in}
@@ -11,7 +12,7 @@ use Rattle.mtxkit_texts.specs.Lower.{IsSymmetricFailure, Symmetrised}
 use Rattle.mtxkit_texts.specs.Rewritten.{WritesIntegers, WritesPattern, WritesCopy, IsCopyFailure}
 use Rattle.mtxkit_texts.specs.Shown.{ShowsBitmap, ShowsBlocks, ShowsSvg}
 use Rattle.mtxkit_texts.specs.declared.failure.Failure.{Failure}
-use Rattle.mtxkit_texts.specs.declared.failure.Failure.TheVariants.{Unsaved, Write, OutOfMemory}
+use Rattle.mtxkit_texts.specs.declared.failure.Failure.TheVariants.{Unsaved, OutOfMemory}
 use Rattle.mtxkit_texts.specs.Statuses.{status_of}
 use Rattle.mtxkit_matrices.specs.ScaleFailures.{IsScaleFailure}
 use Rattle.mtxkit_matrices.specs.ScaledTexts.{IsScaledText}
@@ -22,6 +23,7 @@ use Rattle.mtxkit_commands.specs.Systems.{IsSolveFailure, IsCheckFailure}
 use Rattle.mtxkit_commands.specs.declared.command_error.CommandError.{CommandError}
 use Rattle.mtxkit_commands.specs.declared.command_error.CommandError.TheVariants.{Failed}
 use Rattle.mtxkit_commands.specs.declared.command_error.CommandError.TheVariants.{Unscaled}
+use Rattle.mtxkit_commands.specs.declared.command_error.CommandError.TheVariants.{Unwritten}
 use Rattle.mtxkit_commands.specs.declared.commands.Command.{Command}
 use Rattle.mtxkit_commands.specs.declared.commands.Command.TheVariants.{Info, Spy, Copy, Field}
 use Rattle.mtxkit_commands.specs.declared.commands.Command.TheVariants.{Integer}
@@ -158,12 +160,14 @@ IsUnscaledBy command old new error = ⊥
 abbrev pub HasNoAnswer : Command → List Reading → List Reading → CommandError → Type 0
 HasNoAnswer command old new (Failed failure) = IsFailure command old new failure
 HasNoAnswer command old new (Unscaled error) = IsUnscaledBy command old new error
+HasNoAnswer command old new (Unwritten kind) = ⊥
 
 -- the same for `integer`
 abbrev pub IsScaleError : ℕ → List ℕ → List Reading → List Reading → CommandError → Type 0
 IsScaleError scale file old new (Failed failure) =
     FailsOne file (λ text f. f ≡ OutOfMemory) old new failure
 IsScaleError scale file old new (Unscaled error) = IsUnscaled scale file old new error
+IsScaleError scale file old new (Unwritten kind) = ⊥
 
 -- the target is a file
 abbrev pub is_file : Target → Bool
@@ -177,11 +181,14 @@ abbrev pub is_saved : Command → Bool
 is_saved (Spy file size target) = is_file target
 is_saved command = false
 
--- a write to the output failed, the last one, and the failure has its kind; by the numbers of failed writes before and
--- after
-abbrev pub IsUnwritten : ℕ → ℕ → Option ErrorKind → Failure → Type 0
-IsUnwritten before after last failure =
-    (kind : ErrorKind) × (failure ≡ Write kind) × (after ≡ before + 1) × (last ≡ Some kind)
+-- a write to the output failed, the last one, with this kind; by the numbers of failed writes before and after
+abbrev pub IsUnwritten : ℕ → ℕ → Option ErrorKind → ErrorKind → Type 0
+IsUnwritten before after last kind = (after ≡ before + 1) × (last ≡ Some kind)
+
+-- the error is a failed write to the output, the last one
+abbrev pub IsOutputFailure : ℕ → ℕ → Option ErrorKind → CommandError → Type 0
+IsOutputFailure before after last error =
+    (kind : ErrorKind) × (error ≡ Unwritten kind) × IsUnwritten before after last kind
 
 -- the output file was not created or not written
 abbrev pub IsUnsaved : Failure → Type 0
@@ -197,15 +204,25 @@ IsUnanswered command old new failure =
 abbrev pub CanFail : Command → List Reading → List Reading → ℕ → ℕ → Option ErrorKind
     → CommandError → Type 0
 CanFail command old new before after last (Failed failure) =
-    ((after ≡ before) × IsUnanswered command old new failure)
-    ⊎ IsUnwritten before after last failure
+    (after ≡ before) × IsUnanswered command old new failure
 CanFail command old new before after last (Unscaled error) =
     (after ≡ before) × IsUnscaledBy command old new error
+CanFail command old new before after last (Unwritten kind) = IsUnwritten before after last kind
+
+-- the exit status for a failed write of this kind: that of a program that a closed pipe stops, or else 1
+abbrev pub write_status : ErrorKind → ℕ
+write_status io.BrokenPipe = 141
+write_status kind = 1
 
 -- the exit status of an error
 abbrev pub error_status : CommandError → ℕ
 error_status (Failed failure) = status_of failure
 error_status (Unscaled error) = 1
+error_status (Unwritten kind) = write_status kind
+
+-- the exit status of a program that ends, or that a closed pipe stops
+abbrev pub IsStatus : ℕ → Type 0
+IsStatus status = (status ≤ 2) ⊎ (status ≡ 141)
 
 -- the picture has at least one cell
 abbrev pub IsSized : Command → Type 0

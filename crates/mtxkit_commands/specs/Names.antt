@@ -3,6 +3,8 @@ use Rattle.std.specs.Prelude.{◌≡◌, ◌⊎◌, ℕ, ◌+◌, ◌==◌, if�
 use Rattle.std.specs.Prelude.{Some, None}
 use Rattle.std.specs.Fmt.{decimal}
 use Rattle.std.specs.Io.KnownBytes.{Appends}
+use Rattle.std.specs.declared.io.ErrorKind.{ErrorKind}
+use Rattle.std.specs.declared.io.ErrorKind.TheVariants as io
 use Rattle.mtxkit_matrices.specs.declared.decimals.error.ScaleError.{ScaleError}
 use Rattle.mtxkit_matrices.specs.declared.decimals.error.ScaleError.TheVariants as scale
 use Rattle.mtxkit_texts.specs.declared.failure.Failure.{Failure}
@@ -11,6 +13,7 @@ use Rattle.mtxkit_texts.specs.declared.failure.Failure.TheVariants.{Wide, Overfl
 use Rattle.mtxkit_commands.specs.declared.command_error.CommandError.{CommandError}
 use Rattle.mtxkit_commands.specs.declared.command_error.CommandError.TheVariants.{Failed}
 use Rattle.mtxkit_commands.specs.declared.command_error.CommandError.TheVariants.{Unscaled}
+use Rattle.mtxkit_commands.specs.declared.command_error.CommandError.TheVariants.{Unwritten}
 use Rattle.mtxkit_commands.specs.declared.commands.Command.{Command}
 use Rattle.mtxkit_commands.specs.declared.commands.Command.TheVariants.{Info, Spy, Copy, Field}
 use Rattle.mtxkit_commands.specs.declared.commands.Command.TheVariants.{Integer}
@@ -91,6 +94,7 @@ abbrev pub error_file : Command → CommandError → Option (List ℕ)
 error_file command (Failed failure) = with_line (fault_file command failure) (fault_line failure)
 error_file command (Unscaled error) =
     with_line (Some (first_file command)) (unscaled_line error)
+error_file command (Unwritten kind) = None
 
 -- the path of a file before the message, if there is one
 abbrev pub name_text : Option (List ℕ) → List ℕ
@@ -121,3 +125,20 @@ pub record IsReported (path : Option (List ℕ)) (old new : Option (List ℕ)) (
 abbrev pub HasReport : Option (List ℕ) → Option (List ℕ) → ℕ → ℕ → Type 0
 HasReport old new before after =
     (path : Option (List ℕ)) × IsReported path old new before after
+
+-- nothing was written; the number of failed writes is as before
+abbrev pub IsSilent : Option (List ℕ) → Option (List ℕ) → ℕ → ℕ → Type 0
+IsSilent old new before after = (new ≡ old) × (after ≡ before)
+
+-- a failed write of this kind was reported: by no line if the reader of the output has closed it
+abbrev pub IsWriteReported : ErrorKind → Option (List ℕ) → Option (List ℕ) → ℕ → ℕ → Type 0
+IsWriteReported io.BrokenPipe old new before after = IsSilent old new before after
+IsWriteReported kind old new before after = IsReported None old new before after
+
+-- an error of the command was reported
+abbrev pub IsErrorReported : Command → CommandError → Option (List ℕ) → Option (List ℕ) → ℕ → ℕ
+    → Type 0
+IsErrorReported command (Unwritten kind) old new before after =
+    IsWriteReported kind old new before after
+IsErrorReported command error old new before after =
+    IsReported (error_file command error) old new before after

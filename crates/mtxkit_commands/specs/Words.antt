@@ -1,5 +1,6 @@
 -- The commands that arguments give.
-use Rattle.std.specs.Prelude.{◌≡◌, ℕ, List, codes, Option, Some, None, nat_lt, if◌then◌else◌}
+use Rattle.std.specs.Prelude.{◌≡◌, ◌≢◌, ℕ, List, codes, Option, Some, None, nat_lt}
+use Rattle.std.specs.Prelude.{if◌then◌else◌}
 use Rattle.clap.specs.Matches.{first_value, one_text}
 use Rattle.clap.specs.declared.parser.matches.Found.{Found}
 use Rattle.mtxkit_commands.specs.Names.{target_file}
@@ -44,12 +45,18 @@ size_given (Some size) target = if nat_lt 0 size then size else default_size tar
 abbrev pub IsArgument : Found → List ℕ → List ℕ → Type 0
 IsArgument words name text = first_value words name ≡ Some text
 
+-- the output file is the one that the argument names, if any; - names the standard output, which is no file
+abbrev pub IsNamedFile : Option (List ℕ) → Option (List ℕ) → Type 0
+IsNamedFile None file = file ≡ None
+IsNamedFile (Some path) file =
+    (path ≡ codes "-" → file ≡ None) × (path ≢ codes "-" → file ≡ Some path)
+
 -- the command has the files, the field and the output file that these arguments name, and the default size, scale or
 -- modulus if the arguments give none
 abbrev pub GivesCommand : Found → Command → Type 0
 GivesCommand words (Info file) = IsArgument words (codes "FILE") file.now
 GivesCommand words (Spy file size target) = IsArgument words (codes "FILE") file.now
-    × (target_file target ≡ first_value words (codes "output"))
+    × IsNamedFile (first_value words (codes "output")) (target_file target)
     × (one_text words (codes "size") ≡ None → size ≡ default_size target)
 GivesCommand words (Copy file) = IsArgument words (codes "FILE") file.now
 GivesCommand words (Field file values) =

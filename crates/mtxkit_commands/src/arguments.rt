@@ -2,16 +2,17 @@
 
 ghost use Rattle.clap.specs.Values.{kind_of};
 ghost use Rattle.clap.specs.declared.error.kind.ErrorKind.TheVariants as words;
-ghost use Rattle.std.specs.Prelude.{◌≡◌, ◌≢◌, ◌≤◌, IfOk, IfErr, IsTrue, Err, None};
+ghost use Rattle.std.specs.Prelude.{◌≡◌, ◌≢◌, IfOk, IfErr, IsTrue, Err, None};
 ghost use Rattle.std.specs.IoError.{error_kind};
 ghost use Rattle.std.specs.Process.{exit_status};
 ghost use Rattle.mtxkit_commands.specs.Arguments.{argument_fault, argument_status};
-ghost use Rattle.mtxkit_commands.specs.Names.{HasReport, IsReported};
+ghost use Rattle.mtxkit_commands.specs.Commands.{IsStatus};
+ghost use Rattle.mtxkit_commands.specs.Names.{HasReport, IsReported, IsSilent};
 ghost use Rattle.mtxkit_commands.specs.declared.argument_error.ArgumentError.TheVariants.{OutOfMemory};
 
 use crate::argument_error::ArgumentError;
 use crate::cli::{finish, run};
-use crate::failure_lines::report;
+use crate::failure_lines::{report, report_write};
 use crate::inputs::{Inputs, Texts};
 use crate::words::parse;
 use mtxkit_texts::{Failure, Screen};
@@ -25,9 +26,9 @@ use std::rt::Files;
 /// Runs the command that the arguments give, and returns the exit status. The file `-` is read from `stdin`.
 ///
 /// The first argument is the program's name. An argument that is not UTF-8 is wrong usage. The result and help are
-/// written to `out`. At status 0 the output was flushed; a failed flush is reported as a failed write. At another
-/// status a line was written to `err`, unless a write of it failed. The screen shows the progress of reading large
-/// files.
+/// written to `out`. At status 0 the output was flushed; a failed flush is reported as a failed write. At status 141 the
+/// reader of the output has closed it, and nothing was written to `err`. At another status a line was written to `err`,
+/// unless a write of it failed. The screen shows the progress of reading large files.
 pub fn answer<R, I, W, E, S>(
     rt: &R,
     arguments: io::Result<Args>,
@@ -42,10 +43,12 @@ where
     W: io::Write,
     E: Sink,
     S: io::Write + Drop,
-    ensures status { exit_status result ≤ 2 }
+    ensures status { IsStatus (exit_status result) }
     ensures flushed { exit_status result ≡ 0 → IsTrue out.new.flushed }
     ensures silent { exit_status result ≡ 0 → E.accepted err.new ≡ E.accepted err.old }
     ensures reported { exit_status result ≡ 1 → HasReport (E.accepted err.old) (E.accepted err.new)
+        (E.failures err.old) (E.failures err.new) }
+    ensures stopped { exit_status result ≡ 141 → IsSilent (E.accepted err.old) (E.accepted err.new)
         (E.failures err.old) (E.failures err.new) }
     ensures unanswered { exit_status result ≡ 2 → out.new.failures ≡ out.old.failures
         → W.contents out.new.inner ≡ W.contents out.old.inner }
@@ -77,10 +80,12 @@ where
     T: Texts,
     W: io::Write,
     E: Sink,
-    ensures status { result ≤ 2 }
+    ensures status { IsStatus result }
     ensures flushed { result ≡ 0 → IsTrue out.new.flushed }
     ensures silent { result ≡ 0 → E.accepted err.new ≡ E.accepted err.old }
     ensures reported { result ≡ 1 → HasReport (E.accepted err.old) (E.accepted err.new)
+        (E.failures err.old) (E.failures err.new) }
+    ensures stopped { result ≡ 141 → IsSilent (E.accepted err.old) (E.accepted err.new)
         (E.failures err.old) (E.failures err.new) }
     ensures unanswered { result ≡ 2 → out.new.failures ≡ out.old.failures
         → W.contents out.new.inner ≡ W.contents out.old.inner }
@@ -106,10 +111,12 @@ where
     T: Texts,
     W: io::Write,
     E: Sink,
-    ensures status { result ≤ 2 }
+    ensures status { IsStatus result }
     ensures flushed { result ≡ 0 → IsTrue out.new.flushed }
     ensures silent { result ≡ 0 → E.accepted err.new ≡ E.accepted err.old }
     ensures reported { result ≡ 1 → HasReport (E.accepted err.old) (E.accepted err.new)
+        (E.failures err.old) (E.failures err.new) }
+    ensures stopped { result ≡ 141 → IsSilent (E.accepted err.old) (E.accepted err.new)
         (E.failures err.old) (E.failures err.new) }
     ensures unanswered { result ≡ 2 → out.new.failures ≡ out.old.failures
         → W.contents out.new.inner ≡ W.contents out.old.inner }
@@ -127,10 +134,12 @@ where
     T: Texts,
     W: Sink,
     E: Sink,
-    ensures status { result ≤ 2 }
+    ensures status { IsStatus result }
     ensures silent { result ≡ 0 → E.accepted err.new ≡ E.accepted err.old }
     ensures quiet { result ≡ 0 → E.failures err.new ≡ E.failures err.old }
     ensures reported { result ≡ 1 → HasReport (E.accepted err.old) (E.accepted err.new)
+        (E.failures err.old) (E.failures err.new) }
+    ensures stopped { result ≡ 141 → IsSilent (E.accepted err.old) (E.accepted err.new)
         (E.failures err.old) (E.failures err.new) }
     ensures unanswered { result ≡ 2 → W.failures out.new ≡ W.failures out.old
         → W.accepted out.new ≡ W.accepted out.old }
@@ -145,11 +154,13 @@ where
 // Writes the message of an error of `clap`, and returns the exit status: help is written to `out`, with status 0, and a
 // mistake in the arguments to `err`, with status 2.
 fn explain<W: Sink, E: Sink>(alloc: Global, error: &clap::Error, out: &mut W, err: &mut E) -> u8
-    ensures status { result ≤ 2 }
+    ensures status { IsStatus result }
     ensures memory { kind_of error.now ≡ words.OutOfMemory → result ≡ 1 }
     ensures silent { result ≡ 0 → E.accepted err.new ≡ E.accepted err.old }
     ensures quiet { result ≡ 0 → E.failures err.new ≡ E.failures err.old }
     ensures reported { result ≡ 1 → IsReported None (E.accepted err.old) (E.accepted err.new)
+        (E.failures err.old) (E.failures err.new) }
+    ensures stopped { result ≡ 141 → IsSilent (E.accepted err.old) (E.accepted err.new)
         (E.failures err.old) (E.failures err.new) }
     ensures mistake { result ≡ 2 → (kind_of error.now ≢ words.DisplayHelp)
         × (kind_of error.now ≢ words.DisplayVersion) }
@@ -170,7 +181,7 @@ fn explain<W: Sink, E: Sink>(alloc: Global, error: &clap::Error, out: &mut W, er
     }
     match write_all_to(out, text.as_bytes()) {
         Ok(()) => 0,
-        Err(kind) => report(alloc, None, Failure::Write(kind), err),
+        Err(kind) => report_write(alloc, kind, err),
     }
 }
 

@@ -1,18 +1,20 @@
 //! Runs commands.
 
-ghost use Rattle.std.specs.Prelude.{◌≡◌, ◌≢◌, ◌≤◌, ◌↔◌, None, Err};
+ghost use Rattle.std.specs.Prelude.{◌≡◌, ◌≢◌, ◌≤◌, ◌⊎◌, ◌↔◌, None, Err};
 ghost use Rattle.std.specs.Prelude.{OnOk, OnErr, IfOk, IfErr, IsOk, IsTrue};
 ghost use Rattle.std.specs.Io.KnownBytes.{Appends};
 ghost use Rattle.mtxkit_commands.specs.Commands.{IsAnswered, IsSized, IsUnsaved};
-ghost use Rattle.mtxkit_commands.specs.Commands.{IsUnwritten, CanFail, error_status};
-ghost use Rattle.mtxkit_commands.specs.Names.{error_file, IsReported};
+ghost use Rattle.mtxkit_commands.specs.Commands.{IsStatus, CanFail, error_status};
+ghost use Rattle.mtxkit_commands.specs.Commands.{IsOutputFailure};
+ghost use Rattle.mtxkit_commands.specs.Names.{HasReport, IsErrorReported, IsReported};
+ghost use Rattle.mtxkit_commands.specs.Names.{IsSilent};
 ghost use Rattle.mtxkit_commands.specs.declared.command_error.CommandError.{CommandError};
 ghost use Rattle.mtxkit_texts.specs.declared.failure.Failure.TheVariants.{Unsaved};
 
 use crate::answers::answer_of;
 use crate::command_error::CommandError;
 use crate::commands::Command;
-use crate::failure_lines::report;
+use crate::failure_lines::{report, report_write};
 use crate::inputs::Texts;
 use crate::scaled::report_unscaled;
 use mtxkit_texts::Failure;
@@ -23,8 +25,9 @@ use std::{fs, io};
 
 /// Runs a command and returns its exit status. The size of a picture must not be 0.
 ///
-/// The result is written to `out`, or to the file that the command names. At a status other than 0 one line is written
-/// to `err`; an error in writing that line is ignored. All files are read before anything is written.
+/// The result is written to `out`, or to the file that the command names. At the statuses 1 and 2 one line is written
+/// to `err`; an error in writing that line is ignored. The status is 141, and nothing is written to `err`, exactly where
+/// a write to `out` failed because its reader has closed it. All files are read before anything is written.
 pub fn run<R, T, W, E>(rt: &R, command: Command<'_>, texts: &mut T, out: &mut W, err: &mut E) -> u8
 where
     R: Files + AllocGlobal,
@@ -32,7 +35,7 @@ where
     W: Sink,
     E: Sink,
     requires { IsSized command }
-    ensures status { result ≤ 2 }
+    ensures status { IsStatus result }
     ensures answered { result ≡ 0 → IsAnswered command.entry (T.readings texts.old)
         (T.readings texts.new) (W.accepted out.old) (W.accepted out.new) }
     ensures unfailed { result ≡ 0 → W.failures out.new ≡ W.failures out.old }
@@ -42,7 +45,11 @@ where
         × CanFail command.entry (T.readings texts.old) (T.readings texts.new)
         (W.failures out.old) (W.failures out.new) (W.last out.new) error
         × (result ≡ error_status error)
-        × IsReported (error_file command.entry error) (E.accepted err.old) (E.accepted err.new)
+        × IsErrorReported command.entry error (E.accepted err.old) (E.accepted err.new)
+        (E.failures err.old) (E.failures err.new) }
+    ensures reported { result ≡ 1 → HasReport (E.accepted err.old) (E.accepted err.new)
+        (E.failures err.old) (E.failures err.new) }
+    ensures stopped { result ≡ 141 → IsSilent (E.accepted err.old) (E.accepted err.new)
         (E.failures err.old) (E.failures err.new) }
     ensures unanswered { result ≢ 0 → W.failures out.new ≡ W.failures out.old
         → W.accepted out.new ≡ W.accepted out.old }
@@ -61,7 +68,7 @@ fn report_error<E: Sink>(
     err: &mut E,
 ) -> u8
     ensures status { result ≡ error_status error }
-    ensures reported { IsReported (error_file command.entry error) (E.accepted err.old)
+    ensures reported { IsErrorReported command.entry error (E.accepted err.old)
         (E.accepted err.new) (E.failures err.old) (E.failures err.new) }
 {
     match error {
@@ -69,6 +76,7 @@ fn report_error<E: Sink>(
             report(alloc, command.file_at_fault(failure), failure, err)
         }
         CommandError::Unscaled(error) => report_unscaled(alloc, command.first_file(), error, err),
+        CommandError::Unwritten(kind) => report_write(alloc, kind, err),
     }
 }
 
@@ -95,7 +103,7 @@ where
     let answer = answer_of(rt.alloc(), command, texts)?;
     match command.path() {
         Some(path) => Ok(save(rt, path, &answer)?),
-        None => Ok(write_text(out, &answer)?),
+        None => write_text(out, &answer),
     }
 }
 
@@ -118,32 +126,35 @@ fn saved(written: io::Result<()>) -> Result<(), Failure>
 }
 
 // Writes the text to the output.
-fn write_text<W: Sink>(out: &mut W, text: &[u8]) -> Result<(), Failure>
+fn write_text<W: Sink>(out: &mut W, text: &[u8]) -> Result<(), CommandError>
     ensures written { OnOk result (Appends (W.accepted out.old) (W.accepted out.new) text.now) }
     ensures unfailed { OnOk result (W.failures out.new ≡ W.failures out.old) }
     ensures failed { OnErr result (W.failures out.new ≢ W.failures out.old) }
     ensures unwritten { IfErr result
-        (IsUnwritten (W.failures out.old) (W.failures out.new) (W.last out.new)) }
+        (IsOutputFailure (W.failures out.old) (W.failures out.new) (W.last out.new)) }
 {
     match write_all_to(out, text) {
         Ok(()) => Ok(()),
-        Err(kind) => Err(Failure::Write(kind)),
+        Err(kind) => Err(CommandError::Unwritten(kind)),
     }
 }
 
-/// Flushes the output of a command and returns the exit status. A failed flush is reported as a failed write.
+/// Flushes the output of a command and returns the exit status. A failed flush is reported as a failed write: at status
+/// 141, where the reader of the output has closed it, by no line.
 pub fn finish<W, E>(alloc: Global, out: &mut Out<W>, err: &mut E) -> u8
 where
     W: io::Write,
     E: Sink,
-    ensures status { result ≤ 1 }
+    ensures status { (result ≤ 1) ⊎ (result ≡ 141) }
     ensures flushed { (result ≡ 0) ↔ IsTrue out.new.flushed }
     ensures silent { result ≡ 0 → E.accepted err.new ≡ E.accepted err.old }
-    ensures reported { result ≢ 0 → IsReported None (E.accepted err.old) (E.accepted err.new)
+    ensures reported { result ≡ 1 → IsReported None (E.accepted err.old) (E.accepted err.new)
+        (E.failures err.old) (E.failures err.new) }
+    ensures stopped { result ≡ 141 → IsSilent (E.accepted err.old) (E.accepted err.new)
         (E.failures err.old) (E.failures err.new) }
 {
     match out.flush() {
         Ok(()) => 0,
-        Err(kind) => report(alloc, None, Failure::Write(kind), err),
+        Err(kind) => report_write(alloc, kind, err),
     }
 }

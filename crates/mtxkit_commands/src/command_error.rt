@@ -2,6 +2,7 @@
 
 use mtxkit_matrices::ScaleError;
 use mtxkit_texts::Failure;
+use std::io::ErrorKind;
 
 /// Why a command fails.
 #[derive(Clone, Copy, Debug)]
@@ -10,6 +11,8 @@ pub enum CommandError {
     Failed(Failure),
     /// The numbers of the file of `mtxkit integer` are not scaled.
     Unscaled(ScaleError),
+    /// A write to the output failed, with an error of this kind.
+    Unwritten(ErrorKind),
 }
 
 impl From<Failure> for CommandError {

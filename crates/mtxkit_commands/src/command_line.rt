@@ -112,8 +112,7 @@ pub(crate) fn command_line<'a>(alloc: Global) -> Result<clap::Command<'a>, Alloc
         .about("Describes, shows and rewrites Matrix Market files, and solves symmetric systems")
         .version(VERSION)
         .subcommand_required(true)
-        .arg_required_else_help(true)
-        .disable_help_subcommand(true);
+        .arg_required_else_help(true);
     for usage in USAGES.as_slice() {
         line = line.subcommand(command_used(alloc, usage)?)?;
     }
@@ -167,7 +166,8 @@ fn scale_word<'a>(alloc: Global) -> Arg<'a> {
     Arg::new(alloc, "scale")
         .long("scale")
         .value_name("K")
-        .value_parser(value_parser!(u32))
+        .value_parser(value_parser!(i64).range(0..=4294967295))
+        .allow_negative_numbers(true)
         .help("The power of ten; 0 unless given")
 }
 
@@ -175,7 +175,7 @@ fn output_word<'a>(alloc: Global) -> Result<Arg<'a>, AllocError> {
     Arg::new(alloc, "output")
         .short('o')
         .value_name("OUT.pbm")
-        .help("Write the portable bitmap to this file")
+        .help("Write the portable bitmap to this file, or to standard output if it is -")
         .conflicts_with("text")
 }
 

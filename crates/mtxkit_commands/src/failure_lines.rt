@@ -1,11 +1,14 @@
 //! Writes the lines of errors.
 
-ghost use Rattle.std.specs.Prelude.{◌≡◌, ◌++◌, IfOk, IfErr, OnOk, codes, string_bytes};
+ghost use Rattle.std.specs.Prelude.{◌≡◌, ◌⊎◌, ◌++◌, None, IfOk, IfErr, OnOk, codes};
+ghost use Rattle.std.specs.Prelude.{string_bytes};
 ghost use Rattle.std.specs.Fmt.{decimal};
 ghost use Rattle.std.specs.Option.{option_map};
 ghost use Rattle.mtxkit_texts.specs.Statuses.{status_of};
 ghost use Rattle.mtxkit_commands.specs.Names.{fault_line, with_line, name_text};
+ghost use Rattle.mtxkit_commands.specs.Commands.{write_status};
 ghost use Rattle.mtxkit_commands.specs.Names.{IsErrorLine, IsReported, IsWritten};
+ghost use Rattle.mtxkit_commands.specs.Names.{IsSilent, IsWriteReported};
 
 use mtxkit_texts::Failure;
 use sparse_io::{Sink, write_all_to};
@@ -14,6 +17,9 @@ use std::fmt::{self, Display, Formatter, Write};
 use std::io::ErrorKind;
 
 const OUT_OF_MEMORY: &str = "mtxkit: out of memory\n";
+
+// The status that a shell shows for a program that SIGPIPE stops: 128 and the number of the signal.
+const STOPPED: u8 = 141;
 
 /// Writes the line of a failure, which names this file, and returns the failure's exit status. An error in writing the
 /// line is ignored.
@@ -25,6 +31,24 @@ pub fn report<E: Sink>(alloc: Global, file: Option<&str>, failure: Failure, err:
 {
     write_line(failure_line(alloc, file, failure), err);
     failure.status()
+}
+
+/// Reports a failed write to the output, and returns the exit status. Where the reader of the output has closed it,
+/// nothing is written, and the status is that of a program which is stopped so.
+pub(crate) fn report_write<E: Sink>(alloc: Global, kind: ErrorKind, err: &mut E) -> u8
+    ensures status { result ≡ write_status kind }
+    ensures statuses { (result ≡ 1) ⊎ (result ≡ 141) }
+    ensures told { IsWriteReported kind (E.accepted err.old) (E.accepted err.new)
+        (E.failures err.old) (E.failures err.new) }
+    ensures reported { result ≡ 1 → IsReported None (E.accepted err.old) (E.accepted err.new)
+        (E.failures err.old) (E.failures err.new) }
+    ensures stopped { result ≡ 141 → IsSilent (E.accepted err.old) (E.accepted err.new)
+        (E.failures err.old) (E.failures err.new) }
+{
+    match kind {
+        ErrorKind::BrokenPipe => STOPPED,
+        _ => report(alloc, None, Failure::Write(kind), err),
+    }
 }
 
 /// Writes this line, or one that says that an allocation failed if there was no memory for it. An error in writing is
@@ -124,7 +148,6 @@ impl Display for Reason {
     // An output that is closed has the kind `Uncategorized`.
     fn fmt<W: Write>(&self, f: &mut Formatter<W>) -> fmt::Result {
         match self.0 {
-            ErrorKind::BrokenPipe => f.write_str("broken pipe; its reader has closed it"),
             ErrorKind::Uncategorized => f.write_str("the output is closed or cannot be written to"),
             kind => Display::fmt(&kind, f),
         }

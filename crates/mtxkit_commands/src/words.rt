@@ -8,7 +8,8 @@ ghost use Rattle.std.specs.Prelude.{◌≡◌, ◌<◌, IfOk, IfSome, Some, code
 ghost use Rattle.std.specs.Option.{option_map};
 ghost use Rattle.mtxkit_commands.specs.Commands.{IsSized};
 ghost use Rattle.mtxkit_commands.specs.Names.{target_file};
-ghost use Rattle.mtxkit_commands.specs.Words.{command_name, field_name, size_given, GivesCommand};
+ghost use Rattle.mtxkit_commands.specs.Words.{command_name, field_name, size_given};
+ghost use Rattle.mtxkit_commands.specs.Words.{GivesCommand, IsNamedFile};
 
 use crate::command_line::command_line;
 use crate::commands::{Command, Target, Values};
@@ -82,11 +83,14 @@ fn spy_of<'a>(words: &ArgMatches<'a>) -> Option<Command<'a>>
     Some(Command::Spy { file, size, target })
 }
 
-// Returns the target of a picture: the output file that is named, or else block characters, SVG or a bitmap.
+// Returns the target of a picture: the output file that is named, or else block characters, SVG or a bitmap. The name
+// `-` is that of the standard output.
 fn target_of<'a>(words: &ArgMatches<'a>) -> Target<'a>
-    ensures { target_file result ≡ first_value (found_of words.now) (codes "output") }
+    ensures { IsNamedFile (first_value (found_of words.now) (codes "output"))
+        (target_file result) }
 {
     match words.get_str("output") {
+        Some("-") => Target::Bitmap,
         Some(path) => Target::File(path),
         None if words.get_flag("text") => Target::Blocks,
         None if words.get_flag("svg") => Target::Svg,

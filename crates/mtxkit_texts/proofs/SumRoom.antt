@@ -71,7 +71,7 @@ module _ (list highs : Coo ℤ) (few : length list.triplets < 2 ^ 64) (vs : List
         minor_dim = ap (λ (a : Plain ring128). a.cols) sums_h
             ∙ ap (λ (a : Plain whole_ring). a.cols) plain
             ∙ sym (ap (λ (a : Plain ring128). a.cols) sums_m);
-        places = λ i j.
+        entries = λ i j.
             let has = ap (λ (a : Plain ring128). a.has i j) sums_h
             ∙ ap (λ (a : Plain whole_ring). a.has i j) plain
             ∙ sym (ap (λ (a : Plain ring128). a.has i j) sums_m) in (

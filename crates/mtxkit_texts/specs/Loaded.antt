@@ -88,7 +88,7 @@ pub record MeansOnes {T : Type 0} (R : CommRing) (f : T → R.Carrier) (text : L
   pub list : Coo (Unit {0})
   pub counted : entries ≡ length list.triplets
   pub means : Means pattern_scalar text (Ok list)
-  pub entries : HasEntriesOf list m.pattern
+  pub pattern : HasEntriesOf list m.pattern
   pub ones : All (λ v. f v ≡ R.one) m.values
 
 -- the one or the other, by whether the header names a pattern

@@ -40,6 +40,7 @@ pub const EMPTY_REAL: &str = "%%MatrixMarket matrix coordinate real general\n1 1
 pub const CASES: &[Case] = &[
     (&["spy", "-"], SYMMETRIC, "P1\n3 3\n110\n111\n010\n"),
     (&["spy", "-"], WIDE, "P1\n2 2\n11\n10\n"),
+    (&["spy", "-", "-o", "-"], WIDE, "P1\n2 2\n11\n10\n"),
     // The other side is scaled alike, to one cell at least.
     (&["spy", "--size", "4", "-"], LONG_ROW, "P1\n4 1\n1111\n"),
     (&["spy", "-"], PATTERN, "P1\n3 2\n101\n000\n"),

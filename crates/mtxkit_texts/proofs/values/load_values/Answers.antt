@@ -14,7 +14,7 @@ returns-in_ok-ones_of-clause-meant c =
         list = c.in_ok-places.places;
         counted = refl;
         means = c.in_ok-places.ensures.meant;
-        entries = c.in_ok-ones_of.ensures.entries;
+        pattern = c.in_ok-ones_of.ensures.entries;
         ones = c.in_ok-ones_of.ensures.ones;
       },
     )
