@@ -3,6 +3,7 @@
 //   amd make KIND SIZE FILE    writes a symmetric pattern (lower triangle) as a Matrix Market file
 //   amd order FILE [RUNS]      orders it by amd_order; prints the least time and the entries of the factor
 //   amd count FILE ORDER       counts the entries of the factor in the order that the file ORDER holds
+//   amd ldl FILE [RUNS]        factors it in doubles by SuiteSparse's LDL in that order; prints the least time of all
 //   amd csr FILE OUT           writes the offsets and the indices of the whole pattern
 //   amd natural FILE           the same in the order of the file
 //   amd rcm FILE [print]       a plain reverse Cuthill-McKee: its bandwidth and profile, or its order
@@ -11,6 +12,9 @@
 // KIND: grid2 (5-point, SIZE by SIZE), grid3 (7-point), geometric (random points, mean degree 12), power (preferential
 // attachment, 4 edges a vertex).
 #include <suitesparse/amd.h>
+extern "C" {
+#include <suitesparse/ldl.h>
+}
 #include <algorithm>
 #include <chrono>
 #include <cmath>
@@ -189,6 +193,21 @@ static std::vector<int> rcm(const Pattern &p) {
   std::reverse(order.begin(), order.end());
   return order;
 }
+// Orders, and factors P A P^T in doubles, with the symbolic phase: degrees on the diagonal, and -1 off it.
+static long factor_in_doubles(const Pattern &p, std::vector<int> &order) {
+  int n = p.n, *offsets = (int *)p.offsets.data(), *indices = (int *)p.indices.data();
+  if (amd_order(n, offsets, indices, order.data(), nullptr, nullptr) < 0) exit(1);
+  std::vector<double> values(p.indices.size()), d(n), y(n);
+  for (int j = 0; j < n; j++)
+    for (int q = offsets[j]; q < offsets[j + 1]; q++) values[q] = indices[q] == j ? offsets[j + 1] - offsets[j] - 0.9 : -1;
+  std::vector<int> starts(n + 1), parent(n), counts(n), flag(n), place(n), reach(n);
+  ldl_symbolic(n, offsets, indices, starts.data(), parent.data(), counts.data(), flag.data(), order.data(), place.data());
+  std::vector<int> rows(starts[n]);
+  std::vector<double> l(starts[n]);
+  if (ldl_numeric(n, offsets, indices, values.data(), starts.data(), parent.data(), counts.data(), rows.data(), l.data(), d.data(),
+                  y.data(), reach.data(), flag.data(), order.data(), place.data()) != n) exit(1);
+  return (long)starts[n] + n;
+}
 int main(int argc, char **argv) {
   std::string what = argc > 1 ? argv[1] : "";
   if (what == "make" && argc == 5) return make(argv[2], atoi(argv[3]), argv[4]);
@@ -204,6 +223,15 @@ int main(int argc, char **argv) {
       best = std::min(best, std::chrono::duration<double>(std::chrono::steady_clock::now() - t).count());
     }
     printf("%s n %d entries %zu amd %.1f ms factor %ld\n", argv[2], p.n, p.indices.size(), best * 1e3, factor_entries(p, order));
+  } else if (what == "ldl") {
+    double best = 1e9;
+    long entries = 0;
+    for (int r = 0; r < (argc > 3 ? atoi(argv[3]) : 1); r++) {
+      auto t = std::chrono::steady_clock::now();
+      entries = factor_in_doubles(p, order);
+      best = std::min(best, std::chrono::duration<double>(std::chrono::steady_clock::now() - t).count());
+    }
+    printf("%s n %d ldl %.1f ms factor %ld\n", argv[2], p.n, best * 1e3, entries);
   } else if (what == "rcm") {
     order = rcm(p);
     if (argc > 3) for (int v : order) printf("%d\n", v); else band(p, order);

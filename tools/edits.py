@@ -202,7 +202,9 @@ class Workshop:
     def check(self, name, folder, functions, *flags):
         """Checks these functions of a copy of a crate and those that they call, or all of it where none is given.
         Returns the status, what was said and the seconds of processor time."""
-        words = [*rt.rtlib.guarded(), rt.rtlib.RATTLE, "check", *self.crates[name].words(["--jobs", "1"], keeps=False)]
+        crate = self.crates[name]
+        own = crate.words(["--jobs", "1"], tests=crate.has_tests(), keeps=False)
+        words = [*rt.rtlib.guarded(), rt.rtlib.RATTLE, "check", *own]
         words += [word for it in functions for word in ("--only", it)]
         with tempfile.TemporaryFile("w+", errors="replace") as said:
             how = {"stdin": subprocess.DEVNULL, "stdout": said, "stderr": subprocess.STDOUT}

@@ -27,8 +27,8 @@
  * At TOO_SMALL the call tells the size that is needed: the last argument, out_places, out_triplets or out_length,
  * becomes the number that it would have at status 0. So after a call with short arrays, or with none, you can call
  * again with arrays of that size. The other sizes follow from the shape. At any status but 0 and TOO_SMALL that number
- * is unchanged. The calls that write a dense matrix have no such argument, and nalgebra_sparse_matrix_read leaves it
- * unchanged.
+ * is unchanged. The calls that write a dense matrix have no such argument, and nalgebra_sparse_matrix_read and
+ * nalgebra_sparse_matrix_read_32 leave it unchanged.
  *
  * The statuses of each call are listed in the order in which it tests for their causes, and it returns the first that
  * applies: first a number that chooses among cases, then the faults of the operands in their order, then SINGULAR, and
@@ -91,7 +91,7 @@ enum {
     NALGEBRA_SPARSE_INVALID_STRUCTURE = 2,
     /* A row or a column index is out of bounds. */
     NALGEBRA_SPARSE_INDEX_OUT_OF_BOUNDS = 3,
-    /* Two entries have the same row and column. */
+    /* Two entries have the same row and column, or a number occurs twice in an order. */
     NALGEBRA_SPARSE_DUPLICATE_ENTRY = 4,
     /* An array for the result is too small. The call writes the size that is needed: see above. */
     NALGEBRA_SPARSE_TOO_SMALL = 5,
@@ -571,6 +571,18 @@ int32_t nalgebra_sparse_factor_symmetric_pivot(
     const int64_t *values, size_t values_len,
     size_t *out_column);
 
+/* Writes that column for the factorisation modulo `modulus`.
+ *
+ * Statuses: UNKNOWN_CHOICE if the modulus is not listed; otherwise as for nalgebra_sparse_factor_symmetric_pivot.
+ */
+int32_t nalgebra_sparse_factor_symmetric_pivot_mod(
+    uint64_t modulus,
+    size_t size,
+    const size_t *offsets, size_t offsets_len,
+    const size_t *indices, size_t indices_len,
+    const int64_t *values, size_t values_len,
+    size_t *out_column);
+
 /* Reads the bytes of a text in Matrix Market format, with integers or as an array of integers, and writes the shape of
  * its matrix and the number of its triplets: the size for nalgebra_sparse_read.
  *
@@ -629,9 +641,9 @@ int32_t nalgebra_sparse_write(
  * A handle has a matrix that the library owns, over the integers modulo 2^64, or none: then it is {NULL}, like
  * NALGEBRA_SPARSE_NO_MATRIX. The calls below take handles instead of arrays, so a chain of them checks each array once.
  * Transposes, multiples, sums and products copy no operand; a solve with a triangle and a factorisation copy the
- * matrix, each solve copies its right-hand side, and a product with a dense matrix copies the dense matrix. Their contracts are equations between the plain matrices behind
- * handles (crates/sparse_c/src/handles.rt, handle_operations.rt, handle_systems.rt and handle_texts.rt). No call over
- * handles computes modulo another number.
+ * matrix, each solve copies its right-hand side, and a product with a dense matrix copies the dense matrix. Their
+ * contracts are equations between the plain matrices behind handles (crates/sparse_c/src/handles.rt and the files in
+ * crates/sparse_c/src/handles). No call over handles computes modulo another number.
  *
  *     nalgebra_sparse_matrix a = NALGEBRA_SPARSE_NO_MATRIX, copy = NALGEBRA_SPARSE_NO_MATRIX;
  *     nalgebra_sparse_matrix square = NALGEBRA_SPARSE_NO_MATRIX;
@@ -693,6 +705,17 @@ int32_t nalgebra_sparse_matrix_read(
     nalgebra_sparse_matrix *a,
     size_t *out_offsets, size_t out_offsets_len,
     size_t *out_indices, size_t out_indices_len,
+    int64_t *out_values, size_t out_values_len,
+    size_t *out_places);
+
+/* Writes the matrix behind `a` by rows as nalgebra_sparse_matrix_read does, with offsets and indices of 32 bits. They
+ * are below 2^31, so that they may be read as int32_t, too. Statuses: INDEX_OUT_OF_BOUNDS if an offset or an index is
+ * not below 2^31; TOO_SMALL.
+ */
+int32_t nalgebra_sparse_matrix_read_32(
+    nalgebra_sparse_matrix *a,
+    uint32_t *out_offsets, size_t out_offsets_len,
+    uint32_t *out_indices, size_t out_indices_len,
     int64_t *out_values, size_t out_values_len,
     size_t *out_places);
 
@@ -769,11 +792,13 @@ int32_t nalgebra_sparse_matrix_solve_upper(
 
 /* Handles of factors.
  *
- * Such a handle has the exact factors L D L^T of a symmetric matrix, as nalgebra_sparse_factor_symmetric writes them,
- * or none. What is said above about handles of matrices is true of these.
+ * Such a handle has the exact factors L D L^T of a symmetric matrix A, as nalgebra_sparse_factor_symmetric writes them;
+ * or those of P A P^T, with the permutation P, which takes the rows and columns of A in another order; or none. What is
+ * said above about handles of matrices is true of these.
  *
  *     nalgebra_sparse_factors f = NALGEBRA_SPARSE_NO_FACTORS;
- *     status = nalgebra_sparse_matrix_factor(&a, &f);
+ *     status = nalgebra_sparse_matrix_minimum_degree(&a, order, 2);
+ *     status = nalgebra_sparse_matrix_factor_in_order(&a, order, 2, &f);
  *     status = nalgebra_sparse_factors_solve(&f, 1, values, 2);
  *     nalgebra_sparse_factors_free(&f);
  */
@@ -792,8 +817,38 @@ typedef struct {
  */
 int32_t nalgebra_sparse_matrix_factor(nalgebra_sparse_matrix *a, nalgebra_sparse_factors *out);
 
-/* Solves L D L^T X = B with the factors behind `f`. `values` has B, column by column, and then X: values_len is the
- * number of rows of L times `cols`. In addition the call allocates a copy of B. Statuses: INVALID_STRUCTURE if B has
+/* Writes an order of the rows and columns of the square matrix behind `a` in which its factors have little fill: the
+ * approximate minimum degree order (Amestoy, Davis and Duff 1996). out_order[k] is the index, from 0, of the row and
+ * column that comes at k, so out_order needs a number for each row. The pattern is read as the union of itself and its
+ * transpose: an entry below the diagonal counts, too. It is proved that the order is a permutation, and tested how
+ * little fill it leaves. Statuses: SHAPE_MISMATCH if the matrix is not square; TOO_SMALL.
+ */
+int32_t nalgebra_sparse_matrix_minimum_degree(nalgebra_sparse_matrix *a, size_t *out_order, size_t out_order_len);
+
+/* Writes an order in which the entries are close to the diagonal: the reverse Cuthill-McKee order (Cuthill and McKee
+ * 1969, George 1971). Otherwise like nalgebra_sparse_matrix_minimum_degree.
+ */
+int32_t nalgebra_sparse_matrix_reverse_cuthill_mckee(nalgebra_sparse_matrix *a, size_t *out_order, size_t out_order_len);
+
+/* Puts the factors of P A P^T behind `out`, with P: A is the symmetric matrix of nalgebra_sparse_matrix_factor, and P
+ * takes its rows and columns in the given order, so that the entry (i, j) of P A P^T is that of A at (order[i],
+ * order[j]). Any permutation may be given. In addition the call allocates some copies of the matrix.
+ *
+ * Statuses: SHAPE_MISMATCH if the matrix is not square; INVALID_STRUCTURE if order_len is not the number of its rows;
+ * INDEX_OUT_OF_BOUNDS or DUPLICATE_ENTRY for the first number of the order that is too large, or that occurs before it;
+ * SINGULAR if P A P^T has no factorisation. In another order there may be one.
+ */
+int32_t nalgebra_sparse_matrix_factor_in_order(
+    nalgebra_sparse_matrix *a, const size_t *order, size_t order_len, nalgebra_sparse_factors *out);
+
+/* Writes the order of the factors behind `f`: 0, 1, 2 and so on for those of nalgebra_sparse_matrix_factor. out_order
+ * needs a number for each row of L. Statuses: TOO_SMALL.
+ */
+int32_t nalgebra_sparse_factors_order(nalgebra_sparse_factors *f, size_t *out_order, size_t out_order_len);
+
+/* Solves A X = B with the factors behind `f`, where A is the symmetric matrix itself, in whichever order it was
+ * factored. `values` has B, column by column, and then X: values_len is the number of rows of A times `cols`. In
+ * addition the call allocates a copy of B, and two for factors with an order. Statuses: INVALID_STRUCTURE if B has
  * another number of values; `values` is then unchanged.
  */
 int32_t nalgebra_sparse_factors_solve(nalgebra_sparse_factors *f, size_t cols, int64_t *values, size_t values_len);
@@ -804,7 +859,7 @@ int32_t nalgebra_sparse_factors_solve(nalgebra_sparse_factors *f, size_t cols, i
 int32_t nalgebra_sparse_factors_sizes(nalgebra_sparse_factors *f, size_t *out_size, size_t *out_places);
 
 /* Writes the factors behind `f` as nalgebra_sparse_factor_symmetric does: L by columns, and the diagonal of D to
- * out_diagonal. out_offsets needs one number more than L has columns, out_indices and out_values one for each entry of
+ * out_diagonal. Factors with an order are those of P A P^T. out_offsets needs one number more than L has columns, out_indices and out_values one for each entry of
  * L, and out_diagonal one for each row of L. *out_places becomes the number of entries of L. In addition the call
  * allocates a copy of the factors. Statuses: TOO_SMALL.
  */

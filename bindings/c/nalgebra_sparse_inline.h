@@ -393,6 +393,12 @@ static inline int32_t nalgebra_sparse_factor_symmetric_pivot_cols(nalgebra_spars
     return nalgebra_sparse_factor_symmetric_pivot(a.cols, NALGEBRA_SPARSE_LANES(a, a.cols), out_column);
 }
 
+static inline int32_t nalgebra_sparse_factor_symmetric_pivot_mod_cols(
+    uint64_t modulus, nalgebra_sparse_cols a, size_t *out_column) {
+    if (a.rows != a.cols) return NALGEBRA_SPARSE_SHAPE_MISMATCH;
+    return nalgebra_sparse_factor_symmetric_pivot_mod(modulus, a.cols, NALGEBRA_SPARSE_LANES(a, a.cols), out_column);
+}
+
 /* ---- handles */
 
 static inline int32_t nalgebra_sparse_matrix_from_text_bytes(const uint8_t *text, size_t text_len, nalgebra_sparse_matrix *out) {
@@ -422,6 +428,26 @@ static inline int32_t nalgebra_sparse_matrix_solve_lower_values(
 static inline int32_t nalgebra_sparse_matrix_solve_upper_values(
     nalgebra_sparse_matrix *a, bool transposed, size_t cols, int64_t *values, size_t values_len) {
     return nalgebra_sparse_matrix_solve_upper(a, transposed, cols, NALGEBRA_SPARSE_VALUES(values, values_len));
+}
+
+static inline int32_t nalgebra_sparse_matrix_minimum_degree_values(
+    nalgebra_sparse_matrix *a, size_t *out_order, size_t out_order_len) {
+    return nalgebra_sparse_matrix_minimum_degree(a, NALGEBRA_SPARSE_SIZES(out_order, out_order_len));
+}
+
+static inline int32_t nalgebra_sparse_matrix_reverse_cuthill_mckee_values(
+    nalgebra_sparse_matrix *a, size_t *out_order, size_t out_order_len) {
+    return nalgebra_sparse_matrix_reverse_cuthill_mckee(a, NALGEBRA_SPARSE_SIZES(out_order, out_order_len));
+}
+
+static inline int32_t nalgebra_sparse_matrix_factor_in_order_values(
+    nalgebra_sparse_matrix *a, const size_t *order, size_t order_len, nalgebra_sparse_factors *out) {
+    return nalgebra_sparse_matrix_factor_in_order(a, NALGEBRA_SPARSE_SIZES(order, order_len), out);
+}
+
+static inline int32_t nalgebra_sparse_factors_order_values(
+    nalgebra_sparse_factors *f, size_t *out_order, size_t out_order_len) {
+    return nalgebra_sparse_factors_order(f, NALGEBRA_SPARSE_SIZES(out_order, out_order_len));
 }
 
 static inline int32_t nalgebra_sparse_factors_solve_values(

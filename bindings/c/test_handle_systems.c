@@ -176,14 +176,72 @@ static void check_products(nalgebra_sparse_matrix *a, const plain *p) {
     CHECK(solves(p, cols, b, c) && c[count] == mark);
 }
 
+/* Writes an order of the rows of a matrix: one that a call computes, or a random one. */
+static void make_order(nalgebra_sparse_matrix *a, size_t size, size_t *order) {
+    size_t kind = below(3), seen = 0;
+    order[size] = 77;
+    if (kind == 0) {
+        CHECK(nalgebra_sparse_matrix_minimum_degree(a, order, size + 1) == 0);
+    } else if (kind == 1) {
+        CHECK(nalgebra_sparse_matrix_reverse_cuthill_mckee(a, order, size + 1) == 0);
+    } else {
+        EACH(k, size) {
+            size_t at = below(k + 1);
+            order[k] = order[at], order[at] = k;
+        }
+    }
+    EACH(k, size) seen |= (size_t)1 << order[k];
+    CHECK(seen == ((size_t)1 << size) - 1 && order[size] == 77);
+}
+
+/* Factors in an order other than that of the rows: they are those of the permuted matrix, and solve the system itself. */
+static void check_order(nalgebra_sparse_matrix *a, const plain *symmetric) {
+    size_t size = symmetric->size, cols = below(COLS + 1), count = size * cols, order[MOST + 1], found[MOST + 1];
+    int64_t b[MOST * COLS] = {0}, x[MOST * COLS];
+    nalgebra_sparse_factors f = NALGEBRA_SPARSE_NO_FACTORS, g = NALGEBRA_SPARSE_NO_FACTORS;
+    plain permuted = *symmetric;
+    make_order(a, size, order);
+    EACH(i, size) EACH(j, size) permuted.value[i][j] = symmetric->value[order[i]][order[j]];
+    plain eliminated = permuted;
+    int32_t status = nalgebra_sparse_matrix_factor_in_order(a, order, size, &f);
+    if (even_pivot(&eliminated) < size) {
+        CHECK(status == NALGEBRA_SPARSE_SINGULAR && f.factors == NULL);
+        return;
+    }
+    CHECK(status == 0 && nalgebra_sparse_factors_clone(&f, &g) == 0);
+    nalgebra_sparse_factors_free(&f);
+    check_read(&g, &permuted);
+    found[size] = 78;
+    CHECK(nalgebra_sparse_factors_order(&g, found, size + 1) == 0 && found[size] == 78);
+    CHECK(memcmp(found, order, size * sizeof(size_t)) == 0);
+    EACH(k, count) b[k] = random_value();
+    memcpy(x, b, sizeof b);
+    CHECK(nalgebra_sparse_factors_solve(&g, cols, x, count) == 0 && solves(symmetric, cols, x, b));
+    if (size > 1) {
+        order[1] = order[0];
+        CHECK(nalgebra_sparse_matrix_factor_in_order(a, order, size, &g) == NALGEBRA_SPARSE_DUPLICATE_ENTRY);
+        order[0] = size;
+        CHECK(nalgebra_sparse_matrix_factor_in_order(a, order, size, &g) == NALGEBRA_SPARSE_INDEX_OUT_OF_BOUNDS);
+        CHECK(nalgebra_sparse_matrix_factor_in_order(a, order, size - 1, &g) == NALGEBRA_SPARSE_INVALID_STRUCTURE);
+        CHECK(nalgebra_sparse_factors_order(&g, order, size - 1) == NALGEBRA_SPARSE_TOO_SMALL && order[0] == size);
+        CHECK(nalgebra_sparse_matrix_minimum_degree(a, order, size - 1) == NALGEBRA_SPARSE_TOO_SMALL && order[0] == size);
+        CHECK(nalgebra_sparse_matrix_reverse_cuthill_mckee(a, order, size - 1) == NALGEBRA_SPARSE_TOO_SMALL && order[0] == size);
+        /* The factors that were there are unchanged. */
+        memcpy(x, b, sizeof b);
+        CHECK(nalgebra_sparse_factors_solve(&g, cols, x, count) == 0 && solves(symmetric, cols, x, b));
+    }
+    nalgebra_sparse_factors_free(&g);
+}
+
 static void check_factors(nalgebra_sparse_matrix *a, const plain *p) {
     size_t cols = below(COLS + 1), count = p->size * cols;
     int64_t b[MOST * COLS] = {0}, x[MOST * COLS];
     nalgebra_sparse_factors f = NALGEBRA_SPARSE_NO_FACTORS, g = NALGEBRA_SPARSE_NO_FACTORS;
     plain symmetric = *p;
-    size_t stop = even_pivot(&symmetric);
+    size_t stop = even_pivot(&symmetric), order[MOST] = {77};
     int32_t status = nalgebra_sparse_matrix_factor(a, &f);
     check_pivot(a, stop);
+    check_order(a, &symmetric);
     if (stop < p->size) {
         CHECK(status == NALGEBRA_SPARSE_SINGULAR && f.factors == NULL);
         return;
@@ -191,6 +249,8 @@ static void check_factors(nalgebra_sparse_matrix *a, const plain *p) {
     CHECK(status == 0 && nalgebra_sparse_factors_clone(&f, &g) == 0);
     nalgebra_sparse_factors_free(&f);
     check_read(&g, &symmetric);
+    CHECK(nalgebra_sparse_factors_order(&g, order, p->size) == 0);
+    EACH(k, p->size) CHECK(order[k] == k);
     EACH(k, count) b[k] = random_value();
     EACH(again, 2) {
         memcpy(x, b, sizeof b);
@@ -260,6 +320,10 @@ static void refuse(void) {
     CHECK(nalgebra_sparse_matrix_factor(&none, &f) == NALGEBRA_SPARSE_EMPTY_HANDLE);
     CHECK(nalgebra_sparse_factors_solve(&f, 1, x, 1) == NALGEBRA_SPARSE_EMPTY_HANDLE);
     CHECK(nalgebra_sparse_factors_clone(&f, &g) == NALGEBRA_SPARSE_EMPTY_HANDLE);
+    CHECK(nalgebra_sparse_matrix_minimum_degree(&none, &size, 1) == NALGEBRA_SPARSE_EMPTY_HANDLE && size == 77);
+    CHECK(nalgebra_sparse_matrix_reverse_cuthill_mckee(&none, &size, 1) == NALGEBRA_SPARSE_EMPTY_HANDLE && size == 77);
+    CHECK(nalgebra_sparse_matrix_factor_in_order(&none, zero, 1, &f) == NALGEBRA_SPARSE_EMPTY_HANDLE);
+    CHECK(nalgebra_sparse_factors_order(&f, &size, 1) == NALGEBRA_SPARSE_EMPTY_HANDLE && size == 77);
     /* An empty handle is found before arrays of the wrong length. */
     CHECK(nalgebra_sparse_factors_sizes(&f, &size, &length) == NALGEBRA_SPARSE_EMPTY_HANDLE && size == 77 && length == 77);
     CHECK(nalgebra_sparse_factors_read(&f, zero, 0, zero, 0, x, 0, x, 0, &length) == NALGEBRA_SPARSE_EMPTY_HANDLE && length == 77);
@@ -270,6 +334,9 @@ static void refuse(void) {
     CHECK(nalgebra_sparse_matrix_solve_lower(&wide, true, 1, x, 1) == NALGEBRA_SPARSE_SHAPE_MISMATCH);
     CHECK(nalgebra_sparse_matrix_solve_upper(&wide, true, 1, x, 1) == NALGEBRA_SPARSE_SHAPE_MISMATCH);
     CHECK(nalgebra_sparse_matrix_factor(&wide, &f) == NALGEBRA_SPARSE_SHAPE_MISMATCH && f.factors == NULL);
+    CHECK(nalgebra_sparse_matrix_minimum_degree(&wide, &size, 1) == NALGEBRA_SPARSE_SHAPE_MISMATCH && size == 77);
+    CHECK(nalgebra_sparse_matrix_reverse_cuthill_mckee(&wide, &size, 1) == NALGEBRA_SPARSE_SHAPE_MISMATCH && size == 77);
+    CHECK(nalgebra_sparse_matrix_factor_in_order(&wide, zero, 1, &f) == NALGEBRA_SPARSE_SHAPE_MISMATCH && f.factors == NULL);
     CHECK(nalgebra_sparse_matrix_from_triplets(1, 1, zero, 1, zero, 1, five, 1, &one) == 0);
     CHECK(nalgebra_sparse_matrix_factor(&one, &f) == 0);
     CHECK(nalgebra_sparse_matrix_solve_lower(&one, false, 1, x, 2) == NALGEBRA_SPARSE_INVALID_STRUCTURE);
@@ -280,6 +347,10 @@ static void refuse(void) {
     CHECK(nalgebra_sparse_matrix_solve_lower_values(&one, false, 0, NULL, 0) == 0);
     CHECK(nalgebra_sparse_matrix_solve_upper_values(&one, false, 0, NULL, 9) == 0);
     CHECK(nalgebra_sparse_factors_solve_values(&f, 0, NULL, 0) == 0);
+    CHECK(nalgebra_sparse_factors_order_values(&f, NULL, 9) == NALGEBRA_SPARSE_TOO_SMALL);
+    CHECK(nalgebra_sparse_matrix_minimum_degree_values(&one, NULL, 9) == NALGEBRA_SPARSE_TOO_SMALL);
+    CHECK(nalgebra_sparse_matrix_reverse_cuthill_mckee_values(&one, NULL, 9) == NALGEBRA_SPARSE_TOO_SMALL);
+    CHECK(nalgebra_sparse_matrix_factor_in_order_values(&one, NULL, 9, &f) == NALGEBRA_SPARSE_INVALID_STRUCTURE);
     CHECK(nalgebra_sparse_matrix_multiply_dense_values(&one, 0, NULL, 0, NULL, 0) == 0);
     CHECK(nalgebra_sparse_matrix_multiply_dense_values(&one, 1, five, 1, NULL, 9) == NALGEBRA_SPARSE_TOO_SMALL);
     CHECK(nalgebra_sparse_matrix_from_text_bytes(NULL, 0, &one) == NALGEBRA_SPARSE_INVALID_TEXT && one.matrix != NULL);
@@ -300,6 +371,6 @@ int main(void) {
     nalgebra_sparse_matrix_free(&a);
     check_texts();
     refuse();
-    printf("c: %d random solves, factors, dense products and texts over handles equal plain matrices, and each error is returned\n", (int)CASES);
+    printf("c: %d random solves, factors in their order and in others, dense products and texts over handles equal plain matrices, and each error is returned\n", (int)CASES);
     return 0;
 }

@@ -92,6 +92,14 @@ static void compare(size_t at) {
     CHECK(count == MARK);
     CHECK(nalgebra_sparse_matrix_read(&handles[at], offsets, rows + 1, indices, places + 1 > ROOM ? ROOM : places + 1, values, ROOM, &count) == 0);
     CHECK(count == places && offsets[0] == 0 && offsets[rows] == places);
+    uint32_t narrow_offsets[MOST + 1], narrow_indices[ROOM];
+    int64_t again[ROOM];
+    count = MARK;
+    CHECK(nalgebra_sparse_matrix_read_32(&handles[at], narrow_offsets, rows, narrow_indices, ROOM, again, ROOM, &count) == NALGEBRA_SPARSE_TOO_SMALL);
+    CHECK(count == MARK);
+    CHECK(nalgebra_sparse_matrix_read_32(&handles[at], narrow_offsets, MOST + 1, narrow_indices, places, again, places, &count) == 0 && count == places);
+    EACH(i, rows + 1) CHECK(narrow_offsets[i] == offsets[i]);
+    EACH(k, places) CHECK(narrow_indices[k] == indices[k] && again[k] == values[k]);
     EACH(i, rows) EACH(j, cols) {
         if (!p->has[i][j]) continue;
         CHECK(seen >= offsets[i] && seen < offsets[i + 1] && indices[seen] == j && (uint64_t)values[seen] == p->value[i][j]);
@@ -199,6 +207,18 @@ static void refuse(void) {
     CHECK(a.matrix == NULL && nalgebra_sparse_matrix_sizes(&a, &rows, &cols, &places) == NALGEBRA_SPARSE_EMPTY_HANDLE);
     /* An empty handle is found before arrays that are too small. */
     CHECK(nalgebra_sparse_matrix_read(&a, offsets, 0, indices, 0, values, 0, &places) == NALGEBRA_SPARSE_EMPTY_HANDLE && places == 2);
+    /* The greatest index of 32 bits, and the next one. */
+    uint32_t narrow_offsets[2] = {MARK, MARK}, narrow_indices[1] = {MARK};
+    CHECK(nalgebra_sparse_matrix_read_32(&a, narrow_offsets, 2, narrow_indices, 1, values, 1, &places) == NALGEBRA_SPARSE_EMPTY_HANDLE);
+    size_t row = 0, col = (size_t)1 << 31;
+    CHECK(nalgebra_sparse_matrix_from_triplets(1, SIZE_MAX, &row, 1, &col, 1, values, 1, &a) == 0);
+    CHECK(nalgebra_sparse_matrix_read_32(&a, narrow_offsets, 2, narrow_indices, 1, values, 1, &places) == NALGEBRA_SPARSE_INDEX_OUT_OF_BOUNDS);
+    CHECK(places == 2 && narrow_offsets[0] == MARK && narrow_indices[0] == MARK);
+    col--;
+    CHECK(nalgebra_sparse_matrix_from_triplets(1, SIZE_MAX, &row, 1, &col, 1, values, 1, &a) == 0);
+    CHECK(nalgebra_sparse_matrix_read_32(&a, narrow_offsets, 2, narrow_indices, 1, values, 1, &places) == 0);
+    CHECK(places == 1 && narrow_offsets[0] == 0 && narrow_offsets[1] == 1 && narrow_indices[0] == col);
+    nalgebra_sparse_matrix_free(&a);
 }
 
 int main(void) {

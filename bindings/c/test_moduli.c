@@ -115,20 +115,20 @@ static int has_pivots(uint64_t m, const matrix *a) {
     return 1;
 }
 
-/* Computes the factors by columns; says whether there are any. */
-static int factor(uint64_t m, const matrix *a, uint64_t l[MOST][MOST], uint64_t d[MOST]) {
+/* Computes the factors by columns; returns the column whose pivot has no inverse, or the size if there is none. */
+static size_t stop(uint64_t m, const matrix *a, uint64_t l[MOST][MOST], uint64_t d[MOST]) {
     EACH(j, a->size) {
         for (size_t i = j; i < a->size; i++) {
             uint64_t left = entry(a, 2, i, j);
             EACH(k, j) left = sum(m, left, minus(m, times(m, times(m, l[i][k], d[k]), l[j][k])));
             if (i == j) {
-                if (!has_inverse(m, left)) return 0;
+                if (!has_inverse(m, left)) return j;
                 d[j] = left;
             }
             l[i][j] = times(m, left, inverse(m, d[j]));
         }
     }
-    return 1;
+    return a->size;
 }
 
 /* Checks that each number is reduced, and that `what` times the solution is b. */
@@ -150,7 +150,7 @@ static void check_solves(uint64_t m, const matrix *a) {
         EACH(k, ROOM) x[k] = 77;
         int32_t status = what == 2 ? nalgebra_sparse_solve_symmetric_mod(m, n, cols, IN(*a), b, n * cols, x, ROOM)
                                    : nalgebra_sparse_solve_lower_mod(m, n, cols, IN(*a), what == 1, b, n * cols, x, ROOM);
-        int solvable = what == 2 ? factor(m, a, l, d) : !cols || has_pivots(m, a);
+        int solvable = what == 2 ? stop(m, a, l, d) == n : !cols || has_pivots(m, a);
         CHECK(status == (solvable ? 0 : NALGEBRA_SPARSE_SINGULAR));
         if (status) EACH(k, ROOM) CHECK(x[k] == 77);
         else check_solution(m, a, (int)what, cols, x, b);
@@ -181,7 +181,10 @@ static void check_factors(uint64_t m, const matrix *a) {
     CHECK(nalgebra_sparse_fill(n, NALGEBRA_SPARSE_UPPER, a->offsets, n + 1, a->indices, a->places, fill_offsets, ROOM, fill, ROOM, &count) == 0);
     int32_t status = m == 0 ? nalgebra_sparse_factor_symmetric(n, IN(*a), offsets, ROOM, indices, count, values, count, diagonal, n, &places)
                             : nalgebra_sparse_factor_symmetric_mod(m, n, IN(*a), offsets, ROOM, indices, count, values, count, diagonal, n, &places);
-    int found = factor(m, a, l, d);
+    size_t stopped = stop(m, a, l, d), column = 78;
+    int found = stopped == n;
+    CHECK((m == 0 ? nalgebra_sparse_factor_symmetric_pivot(n, IN(*a), &column)
+                  : nalgebra_sparse_factor_symmetric_pivot_mod(m, n, IN(*a), &column)) == 0 && column == stopped);
     CHECK(status == (found ? 0 : NALGEBRA_SPARSE_SINGULAR) && places == (found ? count : 77));
     EACH(k, ROOM) {
         CHECK(offsets[k] == (found && k <= n ? fill_offsets[k] : 77));
@@ -210,14 +213,15 @@ static void check_errors(void) {
 #define SYMMETRIC(m, o, bn, n) nalgebra_sparse_solve_symmetric_mod(m, 2, 2, o, 3, x, 2, v, 2, b, bn, rv, n)
 #define DIVIDE(m, o, by, n) nalgebra_sparse_divide_mod(m, 2, 2, o, 3, x, 2, v, 2, by, ro, 4, rx, 4, rv, n, &places)
 #define FACTOR(m, o, n, dn) nalgebra_sparse_factor_symmetric_mod(m, 2, o, 3, x, 2, v, 2, ro, 4, rx, 4, rv, n, rd, dn, &places)
+#define PIVOT(m, o) nalgebra_sparse_factor_symmetric_pivot_mod(m, 2, o, 3, x, 2, v, 2, &places)
 #define FACTOR64(o, n, dn) nalgebra_sparse_factor_symmetric(2, o, 3, x, 2, v, 2, ro, 4, rx, 4, rv, n, rd, dn, &places)
     EACH(k, sizeof unlisted / sizeof *unlisted) {
         uint64_t m = unlisted[k];
         CHECK(LOWER(m, o, 4, 4) == unknown && SYMMETRIC(m, o, 4, 4) == unknown);
-        CHECK(DIVIDE(m, o, 3, 4) == unknown && FACTOR(m, o, 4, 4) == unknown);
+        CHECK(DIVIDE(m, o, 3, 4) == unknown && FACTOR(m, o, 4, 4) == unknown && PIVOT(m, falling) == unknown);
     }
     CHECK(LOWER(7, falling, 4, 4) == invalid && SYMMETRIC(7, falling, 4, 4) == invalid && DIVIDE(7, falling, 3, 4) == invalid);
-    CHECK(FACTOR(7, falling, 4, 4) == invalid && FACTOR64(falling, 4, 4) == invalid);
+    CHECK(FACTOR(7, falling, 4, 4) == invalid && FACTOR64(falling, 4, 4) == invalid && PIVOT(7, falling) == invalid);
     CHECK(LOWER(7, o, 3, 4) == invalid && SYMMETRIC(7, o, 3, 4) == invalid);
     CHECK(LOWER(2, o, 4, 4) == singular && SYMMETRIC(5, o, 4, 4) == singular && DIVIDE(7, o, -14, 4) == singular);
     CHECK(FACTOR(2, o, 4, 4) == singular && FACTOR64(o, 4, 4) == singular);

@@ -13,6 +13,7 @@ enum { ROOM = 32, TEXT = 256 };
 /* All that a call may write to. */
 typedef struct {
     size_t offsets[ROOM], indices[ROOM], rows, cols, count;
+    uint32_t narrow[2][ROOM];
     int64_t values[ROOM], diagonal[ROOM];
     uint8_t text[TEXT];
 } target;
@@ -50,6 +51,8 @@ static const size_t OFFSETS[] = {0, 2, 3, 5}, INDICES[] = {0, 2, 1, 0, 2}, ROWS[
 static const int64_t VALUES[] = {1, 2, 3, 4, 5}, SIDES[] = {1, -2, 3, 4, 5, 6};
 /* The values of a matrix whose second pivot has no inverse. */
 static const int64_t EVEN_VALUES[] = {1, 2, 6, 4, 5};
+/* An order of the rows and columns. */
+static const size_t ORDER[] = {2, 0, 1};
 static const char LINES[] = "%%MatrixMarket matrix coordinate integer symmetric\n3 3 2\n1 1 5\n3 1 -7\n";
 
 #define PATTERN OFFSETS, 4, INDICES, 5
@@ -60,6 +63,7 @@ static const char LINES[] = "%%MatrixMarket matrix coordinate integer symmetric\
 #define TO_PATTERN t->offsets, ROOM, t->indices, ROOM
 #define TO_VALUES t->values, ROOM
 #define TO_MATRIX TO_PATTERN, TO_VALUES, &t->count
+#define TO_NARROW t->narrow[0], ROOM, t->narrow[1], ROOM, t->values, ROOM, &t->count
 /* Room for the sum of MATRIX and itself, but not for the entries of both: then the sum is computed in memory first. */
 #define TO_SUM t->offsets, ROOM, t->indices, 5, t->values, 5, &t->count
 #define TO_FACTORS TO_PATTERN, TO_VALUES, t->diagonal, ROOM, &t->count
@@ -93,6 +97,7 @@ static const char LINES[] = "%%MatrixMarket matrix coordinate integer symmetric\
     CALL(factor_symmetric, 3, MATRIX, TO_FACTORS)                       \
     CALL(factor_symmetric_mod, 7, 3, MATRIX, TO_FACTORS)                \
     CALL(factor_symmetric_pivot, 3, EVEN, &t->count)                    \
+    CALL(factor_symmetric_pivot_mod, 3, 3, EVEN, &t->count)             \
     CALL(read_sizes, BYTES, &t->rows, &t->cols, &t->count)              \
     CALL(read, BYTES, TO_PATTERN, TO_VALUES, &t->count)                 \
     CALL(write_length, 3, 3, LISTS, &t->count)                          \
@@ -108,6 +113,7 @@ static nalgebra_sparse_factors f = NALGEBRA_SPARSE_NO_FACTORS, g = NALGEBRA_SPAR
     CALL(matrix_from_triplets, 3, 3, LISTS, &out)                \
     CALL(matrix_sizes, &a, &t->rows, &t->cols, &t->count)        \
     CALL(matrix_read, &a, TO_MATRIX)                             \
+    CALL(matrix_read_32, &a, TO_NARROW)                          \
     CALL(matrix_transpose, &a, &out)                             \
     CALL(matrix_scale, 5, &a, &out)                              \
     CALL(matrix_add, &a, &b, &out)                               \
@@ -121,6 +127,10 @@ static nalgebra_sparse_factors f = NALGEBRA_SPARSE_NO_FACTORS, g = NALGEBRA_SPAR
     CALL(matrix_solve_lower, &a, false, 2, t->values, 6)         \
     CALL(matrix_solve_upper, &a, true, 2, t->values, 6)          \
     CALL(matrix_factor, &a, &g)                                  \
+    CALL(matrix_minimum_degree, &a, t->offsets, ROOM)            \
+    CALL(matrix_reverse_cuthill_mckee, &a, t->offsets, ROOM)     \
+    CALL(matrix_factor_in_order, &a, ORDER, 3, &g)               \
+    CALL(factors_order, &f, t->offsets, ROOM)                    \
     CALL(factors_solve, &f, 2, t->values, 6)                     \
     CALL(factors_sizes, &f, &t->rows, &t->count)                 \
     CALL(factors_read, &f, TO_FACTORS)                           \
@@ -171,12 +181,13 @@ int main(void) {
     target blank, answer, t;
     refused = SIZE_MAX;
     if (nalgebra_sparse_matrix_from_rows(3, 3, MATRIX, &a) != 0 || nalgebra_sparse_matrix_transpose(&a, &b) != 0) return 1;
-    if (nalgebra_sparse_matrix_factor(&a, &f) != 0) return 1;
+    if (nalgebra_sparse_matrix_factor_in_order(&a, ORDER, 3, &f) != 0) return 1;
     memset(&blank, 77, sizeof blank);
     for (size_t call = 0; call < COUNT; call++) {
         int32_t status = run(call, SIZE_MAX, &answer);
         size_t count = requests;
-        int asks = TABLE[call].run != matrix_sizes_call && TABLE[call].run != matrix_read_call && TABLE[call].run != factors_sizes_call;
+        int asks = TABLE[call].run != matrix_sizes_call && TABLE[call].run != matrix_read_call &&
+                   TABLE[call].run != matrix_read_32_call && TABLE[call].run != factors_sizes_call;
         if (status != 0 || (count != 0) != asks || memcmp(&answer, &blank, sizeof blank) == 0) {
             fprintf(stderr, "%s: status %d after %zu requests\n", TABLE[call].name, (int)status, count);
             return 1;

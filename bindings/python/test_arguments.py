@@ -25,6 +25,7 @@ PLAIN = np.array([[5, 2, 0], [0, 7, 1]])
 NUMBERS = {"size": 0, "modulus": 7, "value": 1, "choice": 0, "flag": False, "text": b"", "out_size": ctypes.c_size_t()}
 HANDLES = {"handle": _calls.Handle(), "factors": _calls.FactorHandle()}
 ARRAYS = {"indices": NONE, "values": NONE, "out_indices": NONE, "out_values": NONE, "out_text": np.empty(0, np.uint8)}
+ARRAYS["out_narrow"] = np.empty(0, np.int32)
 SAMPLES = {**NUMBERS, **HANDLES, **ARRAYS}
 CLASSES = (sp.csr_matrix, sp.csc_matrix, sp.csr_array, sp.csc_array)
 

@@ -152,6 +152,57 @@ def check_systems():
         lower, diagonal = factors.L, factors.D
         assert type(lower) is sp.csc_array and lower.has_sorted_indices and lower.indices.dtype == np.int32
         assert np.array_equal(lower.toarray(), unit) and np.array_equal(diagonal, odd)
+        assert factors.order.tolist() == list(range(size))
+        check_orders(symmetric, b)
+
+
+def check_orders(symmetric, b):
+    """Factors in an order are those of the permuted matrix, and solve the system itself. In some orders there are none."""
+    matrix, size = Exact.from_scipy(sp.csr_array(symmetric)), len(b)
+    drawn = chance.sample(range(size), size)
+    for given in ("natural", "amd", "rcm", drawn, tuple(drawn), np.array(drawn, np.int64), np.array(drawn, np.uint8)):
+        order = matrix.order(given).tolist() if isinstance(given, str) else drawn
+        assert sorted(order) == list(range(size))
+        permuted = symmetric[np.ix_(order, order)]
+        try:
+            factors = matrix.factor(order=given)
+        except ns.Singular:
+            refused(ns.Singular, Exact.from_scipy(sp.csr_array(permuted)).factor)
+            continue
+        assert factors.order.tolist() == copy.copy(factors).order.tolist() == order
+        assert np.array_equal(times(symmetric, factors.solve(b)), b)
+        assert np.array_equal(matrix.solve(b, order=given), factors.solve(b))
+        lower = factors.L.toarray()
+        assert np.array_equal(times(times(lower, np.diag(factors.D)), lower.T), permuted)
+
+
+def check_refused_orders():
+    """Words, lists and matrices for which there is no order."""
+    matrix = Exact.from_scipy(sp.csr_array(np.array([[0, 1], [1, 1]])))
+    assert matrix.factor(order=[1, 0]).D.tolist() == [1, -1]
+    for given, kind, text in (
+        ("AMD", ns.Error, "'amd'"),
+        ([0, 1], ns.Singular, "in this order"),
+        ([0, 0], ns.DuplicateEntry, "more than once"),
+        ([0, 2], ns.IndexOutOfBounds, "out of bounds"),
+        ([0, -1], ns.IndexOutOfBounds, "out of bounds"),
+        ([2**64, 0], ns.IndexOutOfBounds, "out of bounds"),
+        ([0], ns.InvalidStructure, "each row"),
+        ([], ns.InvalidStructure, "each row"),
+        ([0.0, 1], TypeError, "integer"),
+        ([False, True], TypeError, "integer"),
+        (np.array([0.0, 1.0]), TypeError, "integer"),
+        (np.eye(2, dtype=np.int64), TypeError, "dimension"),
+        (b"amd", TypeError, "'rcm'"),
+        (7, TypeError, "'rcm'"),
+    ):
+        message = refused(kind, lambda given=given: matrix.factor(order=given))
+        assert text in message, message
+    for word in ("other", [0, 1], None):
+        refused(ns.Error, lambda word=word: matrix.order(word))
+    wide = Exact.from_scipy(sp.csr_array(np.array([[1, 2]])))
+    for call in (lambda: wide.order("rcm"), lambda: wide.factor(True, [0])):
+        assert "square" in refused(ns.Error, call)
 
 
 def check_dense():
@@ -326,6 +377,7 @@ def check_threads():
 check_chains()
 check_solve()
 check_systems()
+check_refused_orders()
 check_dense()
 check_symmetry()
 check_scipy_operands()

@@ -245,6 +245,7 @@ def check_modulus():
             assert np.all((plain.dot(whole(found)) - whole(b)) % modulus == 0)
         except ns.Singular:
             assert not solvable
+    assert ns.singular_column(a, assume_symmetric=True, modulus=modulus) == stopped(symmetric, modulus)
     check_symmetry(a, b, modulus)
     check_symmetry(ns.assemble_csc((2, 2), np.array([0, 1]), np.array([1, 0]), np.array([5, 5 - modulus])), np.array([1, 2]), modulus)
     divisor = int(random.integers(-(2**62), 2**62))

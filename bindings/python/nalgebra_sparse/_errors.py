@@ -19,7 +19,7 @@ class IndexOutOfBounds(Error):
 
 
 class DuplicateEntry(Error):
-    """Two entries have the same row and column."""
+    """Two entries have the same row and column, or a number occurs twice in an order."""
 
 
 class Singular(Error):
@@ -64,16 +64,23 @@ _REFUSALS: dict[int, tuple[type[Exception], str]] = {
     18: (Error, "the shapes of the operands do not fit"),
 }
 
+# The messages of errors of an order.
+_OF_ORDERS = {
+    2: "the order does not have a number for each row",
+    3: "a number of the order is out of bounds: it is not one of the rows, counted from 0",
+    4: "a number occurs more than once in the order",
+}
+
 
 def _singular(name: str, modulus: Optional[int]) -> str:
     """Returns the message of a `Singular`: what has no inverse, in which ring, and what else may solve the system."""
     ring = "2^64" if modulus is None else str(modulus)
     if "divide" in name:
         fault = f"the divisor has no inverse modulo {ring}"
+    elif name == "matrix_factor_in_order":
+        fault = f"the matrix has no factorisation L D L^T modulo {ring} in this order: a pivot has no inverse"
     elif "factor" in name or "symmetric" in name:
-        fault = f"the matrix has no factorisation L D L^T modulo {ring}: a pivot has no inverse"
-        if modulus is None:
-            fault += ", and singular_column tells which one"
+        fault = f"the matrix has no factorisation L D L^T modulo {ring}: a pivot has no inverse, and singular_column tells which one"
     else:
         fault = f"an entry of the diagonal is not stored, or has no inverse modulo {ring}"
     if modulus is None:
@@ -88,4 +95,6 @@ def error_of(status: int, name: str = "", modulus: Optional[int] = None) -> Exce
     arrays in them.
     """
     kind, message = _REFUSALS.get(status, (Error, f"the call ended with status {status}"))
+    if name == "matrix_factor_in_order":
+        message = _OF_ORDERS.get(status, message)
     return kind(_singular(name, modulus) if kind is Singular else message)

@@ -1,7 +1,7 @@
 """Matrices that the library owns: operators, entries and solves."""
 from __future__ import annotations
 
-from typing import Any
+from typing import Any, Sequence, Union
 
 import numpy as np
 import scipy.sparse as sp
@@ -10,9 +10,12 @@ from ._calls import call
 from ._errors import Error
 from ._factorisation import Factorisation, solved
 from ._matrices import _value
-from ._operands import Integers, check_symmetric, dense_of, flag, integer
+from ._operands import ORDERS, Integers, check_symmetric, dense_of, flag, integer, order_of
 from ._owned import Owned
 from ._results import empty
+
+# An order of rows and columns: a word, or a permutation.
+Order = Union[str, Integers, Sequence[int]]
 
 
 class Exact(Owned):
@@ -195,7 +198,31 @@ class Exact(Owned):
         with self._own() as a:
             return solved("matrix_solve_upper", b, self._square(), a, flag("transposed", transposed))
 
-    def factor(self, assume_symmetric: bool = False) -> Factorisation:
+    def order(self, word: str) -> Integers:
+        """Returns an order of the rows and columns of the matrix, as a NumPy array: the number at k, from 0, says which
+        row and column comes at k.
+
+        "amd" is the approximate minimum degree order, in which the factors have little fill; "rcm" is the reverse
+        Cuthill-McKee order, in which the entries are close to the diagonal; "natural" is the order of the matrix. The
+        pattern is read as the union of itself and its transpose.
+
+        >>> import numpy as np, scipy.sparse as sp
+        >>> arrow = Exact.from_scipy(sp.csr_array(np.array([[3, 2, 2], [2, 1, 0], [2, 0, 1]])))
+        >>> arrow.order("amd")[-1].item(), arrow.order("natural").tolist()
+        (0, [0, 1, 2])
+        """
+        size = self._square()
+        if not isinstance(word, str) or word not in ORDERS:
+            raise Error(f"the order must be one of {', '.join(map(repr, ORDERS))}, not {word!r}")
+        name = ORDERS[word]
+        if name is None:
+            return np.arange(size)
+        order = empty(size)
+        with self._own() as a:
+            call(name, a, order)
+        return order
+
+    def factor(self, assume_symmetric: bool = False, order: Order = "natural") -> Factorisation:
         """Returns the exact factors L D L^T of the matrix, which must be symmetric.
 
         If the matrix is not symmetric, an `Error` is raised; the test computes its transpose and a difference. With
@@ -205,6 +232,9 @@ class Exact(Owned):
         The factors exist if each pivot is odd, which is seldom so: `Singular` says that they do not. Modulo a prime
         `factor_symmetric` returns them, and `solve_rational` solves over the rational numbers.
 
+        With an `order`, which is a word of `Exact.order` or a permutation of the rows, the factors are those of the
+        matrix with its rows and columns in this order. It decides how much fill they have, and whether they exist.
+
         >>> import numpy as np, scipy.sparse as sp
         >>> factors = Exact.from_scipy(sp.csr_array(np.array([[1, 2], [2, 7]]))).factor()
         >>> factors.solve(np.array([3, 9])).tolist()
@@ -212,24 +242,29 @@ class Exact(Owned):
         >>> upper = Exact.from_scipy(sp.csr_array(np.array([[1, 2], [0, 7]])))
         >>> upper.factor(assume_symmetric=True).solve(np.array([3, 9])).tolist()
         [1, 1]
+        >>> even = Exact.from_scipy(sp.csr_array(np.array([[0, 1], [1, 1]])))
+        >>> even.factor(order=[1, 0]).solve(np.array([5, 7])).tolist()
+        [2, 5]
         """
         size = self._square()
         if not flag("assume_symmetric", assume_symmetric):
             check_symmetric((self - self.T).tocsr())
+        natural = isinstance(order, str) and order == "natural"
+        permutation = () if natural else (self.order(order) if isinstance(order, str) else order_of(order),)
         with self._own() as a:
-            return Factorisation._made("matrix_factor", a, size)
+            return Factorisation._made("matrix_factor" if natural else "matrix_factor_in_order", size, a, *permutation)
 
-    def solve(self, b: Integers, assume_symmetric: bool = False) -> Integers:
+    def solve(self, b: Integers, assume_symmetric: bool = False, order: Order = "natural") -> Integers:
         """Returns the X for which A X = b, where A is this matrix, which must be symmetric.
 
-        It is `factor(assume_symmetric).solve(b)`.
+        It is `factor(assume_symmetric, order).solve(b)`.
 
         >>> import numpy as np, scipy.sparse as sp
         >>> a = Exact.from_scipy(sp.csr_array(np.array([[1, 2], [2, 5]])))
         >>> a.solve(np.array([5, 12])).tolist()
         [1, 2]
         """
-        return self.factor(assume_symmetric).solve(b)
+        return self.factor(assume_symmetric, order).solve(b)
 
 
 def _inside(index: Any, size: int) -> int:

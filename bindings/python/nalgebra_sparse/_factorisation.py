@@ -43,7 +43,8 @@ def solved(name: str, b: Any, rows: int, *arguments: Any) -> Integers:
 
 class Factorisation:
     """The exact factors L D L^T of a symmetric matrix of integers modulo 2^64, which the library owns: `Exact.factor`
-    returns it.
+    returns it. With an order, L and D are the factors of P A P^T: the matrix whose rows and columns are in this order.
+    `solve` solves the system of A itself.
 
     The factors are freed with the object, and several threads may use them at once. Copies share the factors. They
     can't be pickled: pickle the matrix, and factor it again.
@@ -69,11 +70,11 @@ class Factorisation:
         raise TypeError("call Exact.factor")
 
     @classmethod
-    def _made(cls, name: str, operand: Any, size: int) -> Factorisation:
-        """Returns the factors that a call computes from a handle."""
+    def _made(cls, name: str, size: int, *operands: Any) -> Factorisation:
+        """Returns the factors that a call puts behind the handle which is its last argument."""
         self = object.__new__(cls)
         self._handle, self._lock, self._size = FactorHandle(), threading.RLock(), size
-        call(name, operand, self._handle)
+        call(name, *operands, self._handle)
         weakref.finalize(self, free, self._handle)
         return self
 
@@ -82,7 +83,7 @@ class Factorisation:
 
     def __copy__(self) -> Factorisation:
         with self._own() as factors:
-            return Factorisation._made("factors_clone", factors, self._size)
+            return Factorisation._made("factors_clone", self._size, factors)
 
     def __deepcopy__(self, memo: Any) -> Factorisation:
         return self.__copy__()
@@ -106,9 +107,9 @@ class Factorisation:
 
     @property
     def L(self) -> sp.csc_array:  # noqa: N802
-        """A copy of the unit lower triangular factor L, as a SciPy array by columns.
+        """A copy of the unit lower triangular factor L, as a SciPy array by columns. With an order it is that of P A P^T.
 
-        It has the entries of `fill` with "upper", also where a value is 0. Sums and products of SciPy's arrays wrap, as
+        It has the entries of `fill` with "upper", of this matrix, also where a value is 0. Sums and products of SciPy's arrays wrap, as
         those modulo 2^64 do.
 
         >>> import numpy as np, scipy.sparse as sp
@@ -120,7 +121,8 @@ class Factorisation:
 
     @property
     def D(self) -> Integers:  # noqa: N802
-        """A copy of the diagonal of the factor D, as a NumPy array. Each of its values is odd.
+        """A copy of the diagonal of the factor D, as a NumPy array. Each of its values is odd. With an order it is that
+        of P A P^T.
 
         >>> import numpy as np, scipy.sparse as sp
         >>> from nalgebra_sparse import Exact
@@ -129,11 +131,26 @@ class Factorisation:
         """
         return self._parts()[1]
 
+    @property
+    def order(self) -> Integers:
+        """A copy of the order of the rows and columns in which the matrix was factored, as a NumPy array.
+
+        >>> import numpy as np, scipy.sparse as sp
+        >>> from nalgebra_sparse import Exact
+        >>> factors = Exact.from_scipy(sp.csr_array(np.array([[7, 2], [2, 1]]))).factor(order=[1, 0])
+        >>> factors.order.tolist(), factors.D.tolist()
+        ([1, 0], [1, 3])
+        """
+        order = empty(self._size)
+        with self._own() as factors:
+            call("factors_order", factors, order)
+        return order
+
     def __repr__(self) -> str:
         return f"<Factorisation: {self._size} by {self._size}>"
 
     def solve(self, b: Integers) -> Integers:
-        """Returns the X for which L D L^T X = b. A vector is one column.
+        """Returns the X for which A X = b, where A is the matrix that was factored. A vector is one column.
 
         >>> import numpy as np, scipy.sparse as sp
         >>> from nalgebra_sparse import Exact

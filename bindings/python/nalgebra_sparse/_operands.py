@@ -14,6 +14,8 @@ Integers = npt.NDArray[Any]
 # A sparse matrix by rows or by columns.
 Matrix = Union[sp.csr_matrix, sp.csr_array, sp.csc_matrix, sp.csc_array]
 
+# The words for orders of rows and columns, and the call that computes each.
+ORDERS = {"natural": None, "amd": "matrix_minimum_degree", "rcm": "matrix_reverse_cuthill_mckee"}
 _CLASSES = {"csr": (sp.csr_array, sp.csr_matrix), "csc": (sp.csc_array, sp.csc_matrix)}
 
 
@@ -91,6 +93,17 @@ def indices_of(name: str, array: Any) -> Integers:
         raise TypeError(f"{name} must have a dtype of integers, not {array.dtype}")
     wide = array.dtype.kind == "u" and array.dtype.itemsize == 8
     return np.require(array, np.uint64 if wide else np.int64, ["C", "A"])
+
+
+def order_of(order: Any) -> Integers:
+    """Returns a contiguous array of the numbers of an order, which is a NumPy array or another sequence of integers. A
+    number that is out of bounds may become another one that is."""
+    if isinstance(order, np.ndarray):
+        return indices_of("order", order)
+    if isinstance(order, (str, bytes)) or not hasattr(order, "__iter__"):
+        raise TypeError(f"order must be one of {', '.join(map(repr, ORDERS))} or a sequence of integers, not {order!r}")
+    numbers = (integer("a number of the order", number) for number in order)
+    return np.array([number if 0 <= number < 2**63 else -1 for number in numbers], np.int64)
 
 
 def _check_values(name: str, dtype: Any) -> None:

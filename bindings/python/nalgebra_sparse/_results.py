@@ -46,12 +46,17 @@ def filled(lanes: int, room: int, name: str, *arguments: Any) -> tuple[Integers,
     return values, indices, offsets
 
 
+def is_narrow(shape: tuple[int, int], places: int) -> bool:
+    """Says whether the indices and offsets of a matrix with this shape and number of entries fit in 32 bits."""
+    return max(*shape, places) <= _MOST_OF_32_BITS
+
+
 def matrix_of(kind: Any, parts: tuple[Integers, Integers, Integers], shape: tuple[int, int], wide: bool = False) -> Any:
     """Returns the matrix of arrays that the library wrote, without a check. Unless `wide` is set, its indices and
     offsets have 32 bits if the sizes fit, which SciPy's graph functions require."""
     values, indices, offsets = parts
-    if not wide and max(*shape, values.size) <= _MOST_OF_32_BITS:
-        indices, offsets = indices.astype(np.int32), offsets.astype(np.int32)
+    if not wide and is_narrow(shape, values.size):
+        indices, offsets = indices.astype(np.int32, copy=False), offsets.astype(np.int32, copy=False)
     # With the arrays SciPy's constructor would read all indices, to choose their type.
     matrix = kind(shape, dtype=np.int64)
     matrix.data, matrix.indices, matrix.indptr = values, indices, offsets

@@ -117,10 +117,10 @@ def factor_symmetric(matrix: Matrix, modulus: Optional[int] = None, assume_symme
     return matrix_of(lanes.kind, (values, indices, offsets), (size, size), lanes.wide), diagonal
 
 
-def singular_column(matrix: Matrix, assume_symmetric: bool = False) -> Optional[int]:
-    """Returns the column at which the factorisation L D L^T of a symmetric matrix by columns stops modulo 2^64, since
-    its pivot is even, or None if the matrix has factors: the rows and columns before it have factors, and together with
-    it they have none.
+def singular_column(matrix: Matrix, assume_symmetric: bool = False, modulus: Optional[int] = None) -> Optional[int]:
+    """Returns the column at which the factorisation L D L^T of a symmetric matrix by columns stops, modulo 2^64 or modulo
+    `modulus`, since its pivot has no inverse, or None if the matrix has factors: the rows and columns before it have
+    factors, and together with it they have none.
 
     The symmetry is tested as in `factor_symmetric`. The column is found by bisection: it takes about as many
     factorisations as the number of columns has binary digits.
@@ -129,8 +129,9 @@ def singular_column(matrix: Matrix, assume_symmetric: bool = False) -> Optional[
     >>> singular_column(sp.csc_array(np.array([[1, 1, 0], [1, 3, 0], [0, 0, 5]])))
     1
     """
-    require_symmetric(matrix, None, assume_symmetric)
+    require_symmetric(matrix, modulus, assume_symmetric)
+    name, *start = modular("factor_symmetric_pivot", modulus)
     size, lanes = square_of("matrix", matrix)
     column = ctypes.c_size_t()
-    call("factor_symmetric_pivot", size, *lanes.arrays, column)
+    call(name, *start, size, *lanes.arrays, column)
     return column.value if column.value < size else None

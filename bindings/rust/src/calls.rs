@@ -303,6 +303,14 @@ extern "C" {
         out_places: *mut usize,
     ) -> i32;
 
+    pub fn nalgebra_sparse_factor_symmetric_pivot_mod(
+        modulus: u64, size: usize,
+        offsets: *const usize, offsets_len: usize,
+        indices: *const usize, indices_len: usize,
+        values: *const i64, values_len: usize,
+        out_column: *mut usize,
+    ) -> i32;
+
     pub fn nalgebra_sparse_factor_symmetric_pivot(
         size: usize,
         offsets: *const usize, offsets_len: usize,
@@ -407,6 +415,16 @@ extern "C" {
     ) -> i32;
 
     pub fn nalgebra_sparse_matrix_factor(a: *mut Handle, out: *mut FactorHandle) -> i32;
+
+    pub fn nalgebra_sparse_matrix_minimum_degree(a: *mut Handle, out_order: *mut usize, out_order_len: usize) -> i32;
+
+    pub fn nalgebra_sparse_matrix_reverse_cuthill_mckee(a: *mut Handle, out_order: *mut usize, out_order_len: usize) -> i32;
+
+    pub fn nalgebra_sparse_matrix_factor_in_order(
+        a: *mut Handle, order: *const usize, order_len: usize, out: *mut FactorHandle,
+    ) -> i32;
+
+    pub fn nalgebra_sparse_factors_order(f: *mut FactorHandle, out_order: *mut usize, out_order_len: usize) -> i32;
 
     pub fn nalgebra_sparse_factors_solve(f: *mut FactorHandle, cols: usize, values: *mut i64, values_len: usize) -> i32;
 

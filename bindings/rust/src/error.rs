@@ -12,7 +12,7 @@ pub enum Error {
     InvalidStructure,
     /// A row or a column index is out of bounds.
     IndexOutOfBounds,
-    /// Two entries have the same row and column.
+    /// Two entries have the same row and column, or a number occurs twice in an order.
     DuplicateEntry,
     /// A value that must have an inverse has none.
     Singular,

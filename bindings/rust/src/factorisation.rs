@@ -78,7 +78,8 @@ impl Matrix {
     }
 }
 
-/// The exact factors `L D L^T` of a symmetric matrix over the integers modulo 2^64, which the library owns.
+/// The exact factors `L D L^T` of a symmetric matrix A over the integers modulo 2^64, which the library owns. Those of
+/// [`Matrix::factor_in_order`] are the factors of `P A P^T`, with the permutation P.
 ///
 /// Clones share the factors. Several threads may solve with them at the same time.
 ///
@@ -94,11 +95,11 @@ impl Matrix {
 /// ```
 pub struct Factorisation {
     // It is never empty.
-    handle: Shared<FactorHandle>,
+    pub(crate) handle: Shared<FactorHandle>,
 }
 
 impl Factorisation {
-    /// Replaces B by the X for which `L D L^T X = B`. B and X have `cols` columns and are stored column by column.
+    /// Replaces B by the X for which `A X = B`, in whichever order A was factored. B and X have `cols` columns and are stored column by column.
     ///
     /// # Errors
     ///

@@ -84,16 +84,37 @@ pub fn factor_symmetric_mod(modulus: u64, a: Columns<'_>) -> Result<Factors, Err
 /// # Ok::<(), nalgebra_sparse_exact::Error>(())
 /// ```
 pub fn singular_column(a: Columns<'_>) -> Result<Option<usize>, Error> {
-    check_square(a)?;
-    let mut column = 0;
     // SAFETY: each pointer is that of a slice, with the slice's length after it, or of a number.
-    answer(unsafe {
+    into_column(a, |column| unsafe {
         calls::nalgebra_sparse_factor_symmetric_pivot(
             a.rows,
             a.offsets.as_ptr(), a.offsets.len(), a.indices.as_ptr(), a.indices.len(), a.values.as_ptr(), a.values.len(),
-            &mut column,
+            column,
         )
-    })?;
+    })
+}
+
+/// Returns that column for the factorisation modulo one of [`MODULI`](crate::MODULI).
+///
+/// # Errors
+///
+/// [`Error::UnknownModulus`]; otherwise those of [`singular_column`].
+pub fn singular_column_mod(modulus: u64, a: Columns<'_>) -> Result<Option<usize>, Error> {
+    // SAFETY: each pointer is that of a slice, with the slice's length after it, or of a number.
+    into_column(a, |column| unsafe {
+        calls::nalgebra_sparse_factor_symmetric_pivot_mod(
+            modulus, a.rows,
+            a.offsets.as_ptr(), a.offsets.len(), a.indices.as_ptr(), a.indices.len(), a.values.as_ptr(), a.values.len(),
+            column,
+        )
+    })
+}
+
+/// Makes a call that writes a column of a square matrix by columns, or the number of its columns.
+fn into_column(a: Columns<'_>, call: impl FnOnce(&mut usize) -> i32) -> Result<Option<usize>, Error> {
+    check_square(a)?;
+    let mut column = 0;
+    answer(call(&mut column))?;
     Ok((column < a.rows).then_some(column))
 }
 

@@ -9,6 +9,7 @@ mod matrices;
 mod moduli;
 mod operations;
 mod operators;
+mod orders;
 mod room;
 mod shared;
 mod symmetric;
@@ -17,7 +18,7 @@ mod texts;
 
 pub use error::Error;
 pub use factorisation::Factorisation;
-pub use factors::{factor_symmetric, factor_symmetric_mod, singular_column, Factors};
+pub use factors::{factor_symmetric, factor_symmetric_mod, singular_column, singular_column_mod, Factors};
 pub use handles::Matrix;
 pub use matrices::{Arrays, ColumnArrays, Columns, Rows};
 pub use moduli::{
@@ -25,6 +26,7 @@ pub use moduli::{
     solve_symmetric_mod, subtract_mod, MODULI,
 };
 pub use operations::{add, add_scaled, assemble_csc, assemble_csr, divide, multiply, multiply_dense, subtract, transpose};
+pub use orders::Order;
 pub use symmetric::{factor_symmetric_checked, factor_symmetric_mod_checked, solve_symmetric_checked, solve_symmetric_mod_checked};
 pub use systems::{fill, solve_lower, solve_symmetric, System, Triangle};
 pub use texts::{read, write, Triplets};

@@ -3,7 +3,7 @@
 use std::thread;
 
 use nalgebra_sparse_exact::{
-    add_scaled, assemble_csr, multiply, multiply_dense, subtract, transpose, Arrays, Error, Matrix, Rows, System,
+    add_scaled, assemble_csr, multiply, multiply_dense, subtract, transpose, Arrays, Error, Matrix, Order, Rows, System,
 };
 
 /// Random numbers (xorshift).
@@ -152,7 +152,7 @@ fn times(a: &Matrix, x: &[i64]) -> Vec<i64> {
 
 #[test]
 fn solutions_solve() {
-    let mut random = Random(0x2545_f491_4f6c_dd1d);
+    let (mut random, mut solved) = (Random(0x2545_f491_4f6c_dd1d), 0);
     for _ in 0..300 {
         let size = usize::try_from(random.below(6)).unwrap();
         let (a, l) = with_unit_diagonal(&mut random, size);
@@ -177,6 +177,19 @@ fn solutions_solve() {
         let rows = Matrix::from_rows(copied.l.as_columns().transposed()).unwrap();
         assert!(rows.subtract(&turned).unwrap().to_arrays().unwrap().values.iter().all(|value| *value == 0));
         assert_eq!((copied.l.shape(), copied.d), ((size, size), vec![1; size]));
+        let given: Vec<usize> = (0..size).rev().collect();
+        for order in [Order::Natural, Order::MinimumDegree, Order::ReverseCuthillMckee, Order::Given(&given)] {
+            // In some orders a pivot has no inverse.
+            let Ok(ordered) = symmetric.factor_in_order(order) else { continue };
+            let (list, mut x) = (ordered.order().unwrap(), b.clone());
+            assert_eq!(list, symmetric.order(order).unwrap());
+            ordered.clone().solve_mut(2, &mut x).unwrap();
+            assert_eq!(times(&symmetric, &x), b);
+            solved += usize::from(order != Order::Natural);
+            let units = Matrix::from_triplets((size, size), &(0..size).collect::<Vec<_>>(), &list, &vec![1; size]).unwrap();
+            let permuted = units.multiply(&symmetric).unwrap().multiply(&units.transpose().unwrap()).unwrap();
+            assert_eq!(permuted.factor().unwrap().to_factors().unwrap().d, ordered.to_factors().unwrap().d);
+        }
         let (clone, mut x) = (factors.clone(), b.clone());
         drop(factors);
         let solving = thread::spawn(move || {
@@ -185,6 +198,7 @@ fn solutions_solve() {
         });
         assert_eq!(times(&symmetric, &solving.join().unwrap()), b);
     }
+    assert!(solved > 300);
 }
 
 #[test]
@@ -207,6 +221,14 @@ fn systems_are_refused() {
     mirrored.factor_checked().unwrap().solve_mut(1, &mut y).unwrap();
     upper.factor().unwrap().solve_mut(1, &mut z).unwrap();
     assert_eq!((y, z), ([1, 1], [1, 1]));
+    for order in [Order::MinimumDegree, Order::ReverseCuthillMckee, Order::Natural, Order::Given(&[0])] {
+        assert_eq!(wide.order(order).unwrap_err(), Error::ShapeMismatch);
+        assert_eq!(wide.factor_in_order(order).unwrap_err(), Error::ShapeMismatch);
+        assert_eq!(even.factor_in_order(order).unwrap_err(), Error::Singular);
+    }
+    assert_eq!(upper.factor_in_order(Order::Given(&[1, 1])).unwrap_err(), Error::DuplicateEntry);
+    assert_eq!(upper.factor_in_order(Order::Given(&[2, 0])).unwrap_err(), Error::IndexOutOfBounds);
+    assert_eq!(upper.factor_in_order(Order::Given(&[0])).unwrap_err(), Error::InvalidStructure);
     let factors = even.add(&Matrix::from_triplets((1, 1), &[0], &[0], &[1]).unwrap()).unwrap().factor().unwrap();
     assert_eq!(factors.solve_mut(2, &mut x), Err(Error::InvalidStructure));
     assert_eq!(x, [7]);

@@ -6,9 +6,9 @@
 #![allow(clippy::cast_possible_truncation, clippy::cast_possible_wrap, clippy::cast_sign_loss)]
 
 use nalgebra_sparse_exact::{
-    divide_mod, factor_symmetric, factor_symmetric_checked, factor_symmetric_mod, factor_symmetric_mod_checked, fill, solve_lower_mod,
-    solve_symmetric, solve_symmetric_checked, solve_symmetric_mod, solve_symmetric_mod_checked, ColumnArrays, Columns, Error, System,
-    Triangle, MODULI,
+    divide_mod, factor_symmetric, factor_symmetric_checked, factor_symmetric_mod, factor_symmetric_mod_checked, fill, singular_column,
+    singular_column_mod, solve_lower_mod, solve_symmetric, solve_symmetric_checked, solve_symmetric_mod, solve_symmetric_mod_checked,
+    ColumnArrays, Columns, Error, System, Triangle, MODULI,
 };
 
 /// A generator of random numbers (xorshift).
@@ -62,12 +62,12 @@ fn inverse(m: u64, x: i128) -> i128 {
     residue(m, at_high)
 }
 
-/// Says whether each pivot of the elimination has an inverse.
-fn has_factors(m: u64, n: usize, entry: impl Fn(usize, usize) -> i64) -> bool {
+/// Returns the column of the first pivot of the elimination that has no inverse.
+fn stopped(m: u64, n: usize, entry: impl Fn(usize, usize) -> i64) -> Option<usize> {
     let mut s: Vec<Vec<i128>> = (0..n).map(|i| (0..n).map(|j| residue(m, entry(i, j).into())).collect()).collect();
     for k in 0..n {
         if !has_inverse(m, s[k][k]) {
-            return false;
+            return Some(k);
         }
         for i in k + 1..n {
             let multiple = times(m, s[i][k], inverse(m, s[k][k]));
@@ -76,7 +76,12 @@ fn has_factors(m: u64, n: usize, entry: impl Fn(usize, usize) -> i64) -> bool {
             }
         }
     }
-    true
+    None
+}
+
+/// Says whether each pivot of the elimination has an inverse.
+fn has_factors(m: u64, n: usize, entry: impl Fn(usize, usize) -> i64) -> bool {
+    stopped(m, n, entry).is_none()
 }
 
 /// A square matrix, as its arrays by columns and as the value at each row and column.
@@ -185,6 +190,8 @@ fn factors_multiply_to_their_matrix() {
         let (columns, dense) = square(&mut random, m);
         let (n, a) = (dense.len(), columns.as_columns());
         let symmetric = |i: usize, k: usize| dense[i.min(k)][i.max(k)];
+        let column = if m == 0 { singular_column(a) } else { singular_column_mod(m, a) };
+        assert_eq!(column.unwrap(), stopped(m, n, symmetric));
         let answer = if m == 0 { factor_symmetric(a) } else { factor_symmetric_mod(m, a) };
         assert_eq!(answer.clone().err(), if has_factors(m, n, symmetric) { None } else { Some(Error::Singular) });
         let Ok(factors) = answer else { continue };
@@ -217,6 +224,7 @@ fn each_fault_is_an_error() {
         assert_eq!(solve_lower_mod(m, sound, System::NotTransposed, 1, &[1, 2]), Err(Error::UnknownModulus));
         assert_eq!(solve_symmetric_mod(m, sound, 1, &[1, 2]), Err(Error::UnknownModulus));
         assert_eq!(factor_symmetric_mod(m, sound), Err(Error::UnknownModulus));
+        assert_eq!(singular_column_mod(m, out), Err(Error::UnknownModulus));
     }
     assert_eq!(divide_mod(7, sound.transposed(), 14), Err(Error::Singular));
     assert_eq!(solve_lower_mod(2, sound, System::Transposed, 1, &[1, 2]), Err(Error::Singular));
@@ -227,6 +235,7 @@ fn each_fault_is_an_error() {
     assert_eq!(solve_lower_mod(7, out, System::NotTransposed, 1, &[1, 2]), Err(Error::IndexOutOfBounds));
     assert_eq!(solve_symmetric_mod(7, out, 1, &[1, 2]), Err(Error::IndexOutOfBounds));
     assert_eq!(factor_symmetric_mod(7, out), Err(Error::IndexOutOfBounds));
+    assert_eq!(singular_column_mod(7, out), Err(Error::IndexOutOfBounds));
     assert_eq!(factor_symmetric(out), Err(Error::IndexOutOfBounds));
     assert_eq!(solve_lower_mod(7, sound, System::NotTransposed, 1, &[1]), Err(Error::InvalidStructure));
     assert_eq!(solve_symmetric_mod(7, sound, 1, &[1]), Err(Error::InvalidStructure));

@@ -5,6 +5,8 @@
 use nalgebra_sparse::dense::DMatrix;
 use nalgebra_sparse::factorization::CscSymbolicCholesky;
 use nalgebra_sparse::ldl::Ldl;
+use nalgebra_sparse::ordered::OrderedLdl;
+use nalgebra_sparse::ordering::Permutation;
 use nalgebra_sparse::scalar::W64;
 use nalgebra_sparse::{CooMatrix, CsrMatrix};
 
@@ -73,6 +75,32 @@ impl Answer for Ldl<W64> {
 
     fn places(&self) -> usize {
         self.l().nnz()
+    }
+}
+
+/// Those of the factors of the permuted matrix.
+impl Answer for OrderedLdl<W64> {
+    fn checksum(&self) -> u64 {
+        self.factors().checksum()
+    }
+
+    fn places(&self) -> usize {
+        self.factors().places()
+    }
+}
+
+/// The order is a column of values.
+impl Answer for Permutation {
+    fn checksum(&self) -> u64 {
+        let mut sum: u64 = 0;
+        for (row, index) in self.order().iter().enumerate() {
+            sum = sum.wrapping_add(mixed(row, *index, W64::new(1)));
+        }
+        sum
+    }
+
+    fn places(&self) -> usize {
+        self.len()
     }
 }
 

@@ -15,7 +15,7 @@ use std::test::Fail;
 use std::{env, fs};
 
 const USAGE: &str =
-    "usage: bench coo2csr|transpose|spgemm|spadd|spmmd|solve|fill|ldl|read FILE REPS";
+    "usage: bench coo2csr|transpose|spgemm|spadd|spmmd|solve|fill|ldl|order|ldlo|read FILE REPS";
 
 // glibc takes the memory of a large block from the system, and gives it back when the block is freed. What is large
 // grows to the largest block that was given back, but never past 32 MiB; up to twice as much is then kept for the next
@@ -74,6 +74,8 @@ fn best_run(rt: &HostRuntime, task: &str, path: &str, reps: usize) -> Result<Bes
         "solve" => task::solve(rt, list, reps),
         "fill" => task::fill(rt, list, reps),
         "ldl" => task::factor(rt, list, reps),
+        "order" => task::order(rt, list, reps),
+        "ldlo" => task::factor_ordered(rt, list, reps),
         _ => Err(Fail::from("no such task")),
     }
 }

@@ -13,6 +13,8 @@ use nalgebra_sparse::ops::Op;
 use nalgebra_sparse::ops::serial::{
     add_csc, add_csr, mul_csr, spmm_csr_dense, spsolve_csc_lower_triangular,
 };
+use nalgebra_sparse::ordered::OrderedLdl;
+use nalgebra_sparse::ordering::{Permutation, minimum_degree};
 use nalgebra_sparse::pattern::SparsityPattern;
 use nalgebra_sparse::scalar::W64;
 use nalgebra_sparse::{CooMatrix, CscMatrix, CsrMatrix};
@@ -166,6 +168,32 @@ fn factors(alloc: Global, matrix: &CscMatrix<W64>) -> Result<Ldl<W64>, Fail> {
         return Err(Fail::from(MISFIT));
     }
     Ok(Ldl::factor(alloc, matrix)?)
+}
+
+/// Times the order of least fill for a symmetric pattern.
+pub fn order(rt: &HostRuntime, list: CooMatrix<W64>, reps: usize) -> Result<Best, Fail> {
+    let matrix = columns_of(rt.alloc(), list)?;
+    best_of(rt, reps, |alloc| minimum_degree_of(alloc, matrix.pattern()))
+}
+
+fn minimum_degree_of(alloc: Global, pattern: &SparsityPattern) -> Result<Permutation, Fail> {
+    if pattern.major_dim() != pattern.minor_dim() {
+        return Err(Fail::from(MISFIT));
+    }
+    Ok(minimum_degree(alloc, pattern)?)
+}
+
+/// Times the exact factors of a symmetric matrix in an order of little fill, with the order and their pattern.
+pub fn factor_ordered(rt: &HostRuntime, list: CooMatrix<W64>, reps: usize) -> Result<Best, Fail> {
+    let matrix = with_odd_pivots(columns_of(rt.alloc(), list)?);
+    best_of(rt, reps, |alloc| ordered_factors(alloc, &matrix))
+}
+
+fn ordered_factors(alloc: Global, matrix: &CscMatrix<W64>) -> Result<OrderedLdl<W64>, Fail> {
+    if matrix.nrows() != matrix.ncols() {
+        return Err(Fail::from(MISFIT));
+    }
+    Ok(Ldl::factor_ordered(alloc, matrix)?)
 }
 
 /// Times the reading of a pattern's text.

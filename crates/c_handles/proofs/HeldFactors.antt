@@ -18,8 +18,11 @@ use Rattle.sparse_compressed.specs.PlainOfLanes.{plain_of_cols, plain_of_rows}
 use Rattle.c_handles.proofs.Done.{plain_of_rows-held, held}
 use Rattle.c_handles.proofs.Triangles.{SolvesInPlace-dense}
 use Rattle.c_handles.specs.Held.{plain_held}
-use Rattle.c_handles.specs.Factored.{d_held, l_held, product_held, zero64, HoldsFactors}
+use Rattle.c_handles.specs.Factored.{d_held, factors_in, l_held, product_held, product_in}
+use Rattle.c_handles.specs.Factored.{size_held, size_in, zero64, HoldsFactors}
 use Rattle.c_handles.specs.Solved.{SolvesInPlace}
+use Rattle.c_handles.specs.declared.held_factors.HeldFactors.{HeldFactors}
+use Rattle.c_handles.specs.declared.held_factors.HeldFactors.TheVariants.{Natural}
 use Rattle.sparse_factor.specs.Factorisations.{plain_symmetric, IsFactorisation, IsUnitLower}
 use Rattle.sparse_factor.specs.Factors.{diagonal, plain_of_factors, symmetric_of}
 use Rattle.sparse_factor.specs.Factors.{Factors, HavePivots}
@@ -45,8 +48,8 @@ IsFactorisation-plain a m s plain rows count lower pivots equation =
     })
 
 pub OnOk-HoldsFactors : (handle : Option (Compressed W64)) (m a : Compressed W64) → handle ≡ Some m → a ≡ m
-    → (answer : Result (Unit {0}) Refusal) (factors : Option (Factors W64)) (s : Factors W64)
-    → OnOk answer (factors ≡ Some s)
+    → (answer : Result (Unit {0}) Refusal) (factors : Option HeldFactors) (s : Factors W64)
+    → OnOk answer (factors ≡ Some (Natural s))
     → IsFactorisation ring64 w64_value (plain_symmetric ring64 (plain_of_rows ring64 w64_value a))
     (plain_of_cols ring64 w64_value s.l) (diagonal ring64 w64_value zero64 s.d)
     → OnOk answer (HoldsFactors factors (plain_held handle))
@@ -59,27 +62,27 @@ OnOk-HoldsFactors handle m a is same (Ok u) factors s put equation = (
 )
 OnOk-HoldsFactors handle m a is same (Err e) factors s put equation = tt
 
-pub SolvesInPlace-factors : (handle : Option (Factors W64)) (f s : Factors W64) → handle ≡ Some f → s ≡ f
-    → (b x : Dense W64) (n cols : ℕ) (old new : List ℤ) → n ≡ s.l.pattern.minor_dim
+pub SolvesInPlace-factors : (handle : Option HeldFactors) (f s : HeldFactors) → handle ≡ Some f → s ≡ f
+    → (b x : Dense W64) (n cols : ℕ) (old new : List ℤ) → n ≡ size_in s
     → b.nrows ≡ n → b.ncols ≡ cols → length old ≡ n * cols
     → plain_of_dense ring64 w64_value b ≡ plain_by_values ring64 n cols old
     → x.nrows ≡ b.nrows → x.ncols ≡ b.ncols
-    → IsSolution ring64 (plain_of_factors ring64 w64_value zero64 s)
+    → IsSolution ring64 (product_in s)
     (plain_of_dense ring64 w64_value x) (plain_of_dense ring64 w64_value b)
     → plain_by_values ring64 x.nrows x.ncols new ≡ plain_of_dense ring64 w64_value x
-    → SolvesInPlace (product_held handle) (product_held handle).rows cols old new
+    → SolvesInPlace (product_held handle) (size_held handle) cols old new
 SolvesInPlace-factors handle f s is same b x n cols old new size rows columns sized side xrows xcolumns solved
-    written = subst (λ (h : Option (Factors W64)). SolvesInPlace (product_held h)
-    (product_held h).rows cols old new) (held handle f s is same)
-    (subst (λ (k : ℕ). SolvesInPlace (plain_of_factors ring64 w64_value zero64 s) k cols old new)
-    size (SolvesInPlace-dense (plain_of_factors ring64 w64_value zero64 s)
+    written = subst (λ (h : Option HeldFactors). SolvesInPlace (product_held h)
+    (size_held h) cols old new) (held handle f s is same)
+    (subst (λ (k : ℕ). SolvesInPlace (product_in s) k cols old new)
+    size (SolvesInPlace-dense (product_in s)
     (plain_of_dense ring64 w64_value b) x n cols old new (xrows ∙ rows) (xcolumns ∙ columns) sized
     solved side written))
 
-pub l-held : (handle : Option (Factors W64)) (f s : Factors W64) → handle ≡ Some f → s ≡ f
-    → plain_of_cols ring64 w64_value s.l ≡ l_held handle
+pub l-held : (handle : Option HeldFactors) (f s : HeldFactors) → handle ≡ Some f → s ≡ f
+    → plain_of_cols ring64 w64_value (factors_in s).l ≡ l_held handle
 l-held handle f s is same = ap l_held (held handle f s is same)
 
-pub d-held : (handle : Option (Factors W64)) (f s : Factors W64) → handle ≡ Some f → s ≡ f
-    → diagonal ring64 w64_value zero64 s.d ≡ d_held handle
+pub d-held : (handle : Option HeldFactors) (f s : HeldFactors) → handle ≡ Some f → s ≡ f
+    → diagonal ring64 w64_value zero64 (factors_in s).d ≡ d_held handle
 d-held handle f s is same = ap d_held (held handle f s is same)

@@ -3,5 +3,7 @@ mod HandleSteps
 mod HeapBox
 mod HeldPointers
 mod HeldFactors
+mod HeldOrders
+mod NarrowRows
 mod PlainTexts
 mod Triangles

@@ -24,8 +24,10 @@ use Rattle.c_arrays.specs.declared.refusal.Refusal.{Refusal}
 use Rattle.sparse_compressed.specs.Compressed.{Compressed, IsSound, lane_triplets}
 use Rattle.sparse_compressed.specs.PlainOfLanes.{plain_of_rows}
 use Rattle.sparse_compressed.proofs.RowOrder.{row_order-rows}
-use Rattle.sparse_io.specs.Written.{text_of, written_text, written_text_with, heading, size_line}
-use Rattle.sparse_io.specs.Written.{triplet_line}
+use Rattle.sparse_io.specs.Written.{heading_with, size_line, text_with, triplet_line}
+use Rattle.sparse_io.specs.Written.{written_text_with}
+use Rattle.sparse_io.specs.declared.banner.Banner.{Banner}
+use Rattle.sparse_io.specs.declared.banner.Banner.TheVariants.{MixedCase}
 use Rattle.sparse_market_scalar.specs.ScalarTypes.{wrapping_scalar}
 use Rattle.sparse_parser.specs.Meaning.{value_triplet, values_of, Means}
 use Rattle.c_handles.specs.Texts.{residue_text, text_of_plain, HoldsMeaning}
@@ -59,15 +61,15 @@ module _ {T V : Type 0} (h : T → V) where
     lines [] = refl
     lines (t ∷ ts) = ap (λ l. triplet_line (λ x. text (h x)) t ++ l) (lines ts)
 
-    written : (name : List ℕ) (rows cols : ℕ) (ts : List (ℕ × ℕ × T))
-        → written_text name text rows cols (map (λ t. (t.0, t.1, h t.2)) ts)
-        ≡ written_text name (λ x. text (h x)) rows cols ts
+    written : (banner : Banner) (name : List ℕ) (rows cols : ℕ) (ts : List (ℕ × ℕ × T))
+        → written_text_with banner name text rows cols (map (λ t. (t.0, t.1, h t.2)) ts)
+        ≡ written_text_with banner name (λ x. text (h x)) rows cols ts
     unfolding written_text_with
-    written name rows cols ts =
-        ap (λ n. heading name ++ (size_line rows cols n
+    written banner name rows cols ts =
+        ap (λ n. heading_with banner name ++ (size_line rows cols n
         ++ flat_map (triplet_line text) (map (λ t. (t.0, t.1, h t.2)) ts)))
         (length-map ts (λ t. (t.0, t.1, h t.2)))
-        ∙ ap (λ l. heading name ++ (size_line rows cols (length ts) ++ l)) (lines ts)
+        ∙ ap (λ l. heading_with banner name ++ (size_line rows cols (length ts) ++ l)) (lines ts)
 
 pub OnOk-HoldsMeaning : (answer : Result (Unit {0}) Refusal) (handle : Option (Compressed W64))
     (m : Compressed W64) (list : Coo ℤ) (text : List ℕ) → OnOk answer (handle ≡ Some m)
@@ -81,13 +83,14 @@ shown : (x : W64) → residue_text (w64_value x) ≡ signed_decimal (w64_number 
 shown x = ap signed_decimal (number_of-class w64 x.number x.in_range)
 
 pub text-rows : (m : Compressed W64) → IsSound m
-    → text_of (codes "integer") (λ x. signed_decimal (w64_number x))
+    → text_with MixedCase (codes "integer") (λ x. signed_decimal (w64_number x))
     (coo_of m.pattern.major_dim m.pattern.minor_dim (lane_triplets m))
     ≡ text_of_plain (plain_of_rows ring64 w64_value m)
 text-rows m sound =
     let ts = lane_triplets m in
-    sym (ap (written_text (codes "integer") residue_text m.pattern.major_dim m.pattern.minor_dim)
+    let rows = m.pattern.major_dim in
+    let cols = m.pattern.minor_dim in
+    sym (ap (written_text_with MixedCase (codes "integer") residue_text rows cols)
     (row_order-rows ring64 w64_value m sound)
-    ∙ written w64_value residue_text (codes "integer") m.pattern.major_dim m.pattern.minor_dim ts
-    ∙ (λ k. written_text (codes "integer") (λ x. shown x k) m.pattern.major_dim m.pattern.minor_dim
-    ts))
+    ∙ written w64_value residue_text MixedCase (codes "integer") rows cols ts
+    ∙ (λ k. written_text_with MixedCase (codes "integer") (λ x. shown x k) rows cols ts))

@@ -18,7 +18,8 @@ use Rattle.c_arrays.specs.declared.refusal.Refusal.{Refusal}
 use Rattle.c_arrays.specs.declared.refusal.Refusal.TheVariants.{TooSmall, Unreadable}
 use Rattle.sparse_compressed.specs.Compressed.{Compressed}
 use Rattle.c_handles.specs.Held.{plain_held, Holds, IsEmpty}
-use Rattle.sparse_io.specs.Written.{written_text}
+use Rattle.sparse_io.specs.Written.{written_text_with}
+use Rattle.sparse_io.specs.declared.banner.Banner.TheVariants.{MixedCase}
 use Rattle.sparse_market_scalar.specs.ScalarTypes.{wrapping_scalar}
 use Rattle.sparse_parser.specs.Meaning.{Means}
 use Rattle.sparse_parser.specs.declared.error.MatrixMarketErrorKind.{MatrixMarketErrorKind}
@@ -41,9 +42,10 @@ IsTextFault text refusal = ((refusal ≡ Unreadable) × (IsUtf8 text → ⊥)) �
 abbrev pub residue_text : ring64.Carrier → List ℕ
 residue_text c = signed_decimal (number_of w64 c)
 
--- the Matrix Market text of a plain matrix: a line for each place, row by row
+-- the Matrix Market text of a plain matrix, which begins `%%MatrixMarket`: a line for each place, row by row
 abbrev pub text_of_plain : Plain ring64 → List ℕ
-text_of_plain a = written_text (codes "integer") residue_text a.rows a.cols (row_order ring64 a)
+text_of_plain a =
+    written_text_with MixedCase (codes "integer") residue_text a.rows a.cols (row_order ring64 a)
 
 -- the error of a call that writes a text: the handle is empty, or the buffer is shorter than the text of its matrix
 abbrev pub IsTextUnwritten : Option (Compressed W64) → List ℕ → Refusal → Type 0

@@ -6,11 +6,11 @@ ghost use Rattle.sparse_compressed.specs.Compressed.{Compressed};
 ghost use Rattle.c_handles.specs.Owned.{held_code, in_block, owns_at, value_of};
 ghost use Rattle.c_handles.specs.contracts.handle.SharedFactors.{the_row as factors_row};
 ghost use Rattle.c_handles.specs.contracts.handle.SharedMatrix.{the_row as matrix_row};
-ghost use Rattle.sparse_factor.specs.Factors.{Factors};
+ghost use Rattle.c_handles.specs.declared.held_factors.HeldFactors.{HeldFactors as HeldFactorsValue};
 
+use crate::held_factors::HeldFactors;
 use sparse_algebra::scalar::W64;
 use sparse_csr_csc::csr::CsrMatrix;
-use sparse_factor::ldl::Ldl;
 use std::alloc::Global;
 use std::marker::{Model, Send};
 use std::ptr;
@@ -122,18 +122,17 @@ impl MatrixHandle {
 /// Factors L and D over the integers modulo 2^64, which several handles may share.
 #[derive(Drop)]
 pub struct SharedFactors {
-    pub(crate) factors: Arc<Ldl<W64>>,
+    pub(crate) factors: Arc<HeldFactors>,
 }
 
 impl Model for SharedFactors {
-    ghost use Rattle.sparse_algebra.specs.contracts.scalar.wrapping.W64.{the_row as w64_row};
-    ghost use Rattle.sparse_algebra.specs.declared.scalar.wrapping.W64.{W64 as W64Value};
-    ghost use Rattle.sparse_factor.specs.Factors.{Factors, factors_code};
+    ghost use Rattle.c_handles.specs.contracts.held_factors.HeldFactors.{the_row as held_row};
+    ghost use Rattle.c_handles.specs.declared.held_factors.HeldFactors.{HeldFactors as HeldFactorsValue};
     ghost use Rattle.std.specs.Arc.{arc_value};
 
-    ghost Value = { Factors W64Value };
+    ghost Value = { HeldFactorsValue };
 
-    ghost coded = { factors_code w64_row.coded };
+    ghost coded = { held_row.coded };
 
     ghost view = { λ s. arc_value s.factors };
 }
@@ -142,7 +141,7 @@ impl Model for SharedFactors {
 #[repr(C)]
 pub struct FactorHandle {
     at: *mut (),
-    pub ghost value: { Option (Factors W64Value) } by { held_code factors_row },
+    pub ghost value: { Option HeldFactorsValue } by { held_code factors_row },
 }
 
 impl Model for FactorHandle {

@@ -90,7 +90,8 @@ pub fn factor_sizes(alloc: Global, handle: &mut FactorHandle) -> Result<(usize, 
     ensures fault { IfErr result (IsOutOfMemoryOr (HasNoFactors handle.old.value)) }
 {
     let factors = shared_factors(alloc, handle)?;
-    Ok((factors.l().nrows(), factors.l().nnz()))
+    let l = factors.ldl().l();
+    Ok((l.nrows(), l.nnz()))
 }
 
 /// Returns a copy of the factors that a handle holds: the CSR matrix whose rows are the columns of L, and the diagonal
@@ -113,7 +114,8 @@ pub fn copied_factors(
     ensures fault { IfErr result (IsOutOfMemoryOr (HasNoFactors handle.old.value)) }
 {
     let factors = shared_factors(alloc, handle)?;
-    let l = factors.l().clone(alloc)?;
-    let d = Vec::from_slice(alloc, factors.d())?;
+    let ldl = factors.ldl();
+    let l = ldl.l().clone(alloc)?;
+    let d = Vec::from_slice(alloc, ldl.d())?;
     Ok((l.transpose_as_csr(), d))
 }

@@ -22,7 +22,7 @@ use sparse_algebra::scalar::W64;
 use sparse_convert::serial::convert_coo_csr;
 use sparse_coo_dense::coo::CooMatrix;
 use sparse_csr_csc::csr::CsrMatrix;
-use sparse_io::{load_coo_from_matrix_market_str, save_to_matrix_market_str};
+use sparse_io::{Banner, load_coo_from_matrix_market_str, save_to_matrix_market_str_with};
 use std::alloc::{AllocError, Global};
 use std::str;
 
@@ -106,5 +106,5 @@ fn text_of_rows(alloc: Global, a: &CsrMatrix<W64>) -> Result<String, AllocError>
         (λ text. string_bytes text ≡ text_of_plain (plain_of_rows ring64 w64_value a.now)) }
 {
     recall(a.values());
-    Ok(save_to_matrix_market_str(alloc, a)?)
+    Ok(save_to_matrix_market_str_with(alloc, a, Banner::MixedCase)?)
 }

@@ -24,7 +24,7 @@ use nalgebra_sparse::{CscMatrix, CsrMatrix};
 use std::alloc::Global;
 
 /// A format of a matrix, with all calls on it.
-pub trait Form<T: Scalar>: Compressed<T>
+pub trait CompressedFormat<T: Scalar>: Compressed<T>
     + Constructors<T>
     + Conversions<T>
     + Entries<T>
@@ -34,13 +34,16 @@ pub trait Form<T: Scalar>: Compressed<T>
     + Shapes<T>
     + Triplets<T> {}
 
-impl<T: Scalar> Form<T> for CsrMatrix<T> {}
+impl<T: Scalar> CompressedFormat<T> for CsrMatrix<T> {}
 
-impl<T: Scalar> Form<T> for CscMatrix<T> {}
+impl<T: Scalar> CompressedFormat<T> for CscMatrix<T> {}
 
 /// Returns what a call answers over the scalars `T` in the format `F`. After `display` an error of an operation is
 /// displayed.
-pub fn answer<T: Scalar, F: Form<T>>(turn: &mut Turn, call: &str) -> Result<String, Failure> {
+pub fn answer<T: Scalar, F: CompressedFormat<T>>(
+    turn: &mut Turn,
+    call: &str,
+) -> Result<String, Failure> {
     match call.strip_prefix("display ") {
         Some(call) => displayed(turn.alloc(), answer_plain::<T, F>(turn, call)),
         None => answer_plain::<T, F>(turn, call),
@@ -55,7 +58,10 @@ fn displayed(alloc: Global, answer: Result<String, Failure>) -> Result<String, F
     }
 }
 
-fn answer_plain<T: Scalar, F: Form<T>>(turn: &mut Turn, call: &str) -> Result<String, Failure> {
+fn answer_plain<T: Scalar, F: CompressedFormat<T>>(
+    turn: &mut Turn,
+    call: &str,
+) -> Result<String, Failure> {
     match call.split_once(' ') {
         Some((keyword, text)) if is_constructor(keyword) => {
             constructed::<T, F>(turn, keyword, text)
@@ -65,7 +71,10 @@ fn answer_plain<T: Scalar, F: Form<T>>(turn: &mut Turn, call: &str) -> Result<St
 }
 
 // The answer of a call with these words: of one that makes, reads or compares matrices of the format, or of another.
-fn of_words<T: Scalar, F: Form<T>>(turn: &mut Turn, words: &[Word<'_>]) -> Result<String, Failure> {
+fn of_words<T: Scalar, F: CompressedFormat<T>>(
+    turn: &mut Turn,
+    words: &[Word<'_>],
+) -> Result<String, Failure> {
     if let [Word::Matrix(a)] = *words {
         return read::<T, F>(turn, a);
     }
@@ -88,7 +97,7 @@ fn of_words<T: Scalar, F: Form<T>>(turn: &mut Turn, words: &[Word<'_>]) -> Resul
 }
 
 // The answer of a call of a list, of a dense matrix, of a pattern or of the parts of a matrix, or of an operation.
-fn of_object<T: Scalar, F: Form<T>>(
+fn of_object<T: Scalar, F: CompressedFormat<T>>(
     turn: &mut Turn,
     words: &[Word<'_>],
 ) -> Result<String, Failure> {
@@ -108,7 +117,10 @@ fn of_object<T: Scalar, F: Form<T>>(
 }
 
 // The answer of a call of a permutation, of a permuted matrix or of its factors, or of an operation.
-fn of_order<T: Scalar, F: Form<T>>(turn: &mut Turn, words: &[Word<'_>]) -> Result<String, Failure> {
+fn of_order<T: Scalar, F: CompressedFormat<T>>(
+    turn: &mut Turn,
+    words: &[Word<'_>],
+) -> Result<String, Failure> {
     if let Some((call, given)) = call_of(ORDER_CALLS, words) {
         return order_call(turn, call, given);
     }

@@ -14,7 +14,7 @@ use Rattle.nalgebra_sparse.specs.DensePlain.{is_inside, plain_of_dense}
 use Rattle.nalgebra_sparse.specs.Plain.{is_at, plain_of_triplets}
 use Rattle.nalgebra_sparse.specs.RingLemmas.{zero_add}
 use Rattle.nalgebra_sparse.specs.Sums.{sum_by, where_true}
-use Rattle.examples_theorems.specs.declared.assembly.Block.{Block}
+use Rattle.examples_theorems.specs.declared.parts.Block.{Block}
 use Rattle.examples_theorems.specs.Assembly.{placed_block}
 use Rattle.examples_theorems.proofs.FoldedBlocks.{fold_by, fold_block-within, fold_block-outside}
 

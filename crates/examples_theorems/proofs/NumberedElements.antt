@@ -18,7 +18,7 @@ use Rattle.nalgebra_sparse.specs.DensePlain.{is_inside, plain_of_dense}
 use Rattle.nalgebra_sparse.specs.Plain.{any_below, below, is_at, plain_of_triplets}
 use Rattle.nalgebra_sparse.specs.SumLemmas.{sum_by-append}
 use Rattle.nalgebra_sparse.specs.Sums.{sum_below, sum_by, where_true}
-use Rattle.examples_theorems.specs.declared.elements.Element.{Element}
+use Rattle.examples_theorems.specs.declared.parts.Element.{Element}
 use Rattle.examples_theorems.specs.Elements.{IsNumbered, is_numbered_at, numbered_element}
 use Rattle.examples_theorems.specs.InnerElements.{element_triplet, row_triplets, element_triplets}
 

@@ -5,7 +5,7 @@ use Rattle.nalgebra_sparse.specs.Algebra.{CommRing}
 use Rattle.nalgebra_sparse.specs.DensePlain.{plain_of_dense}
 use Rattle.nalgebra_sparse.specs.Plain.{Plain}
 use Rattle.nalgebra_sparse.specs.Sums.{sum_by, where_true}
-use Rattle.examples_theorems.specs.declared.assembly.Block.{Block}
+use Rattle.examples_theorems.specs.declared.parts.Block.{Block}
 
 -- the block lies within a matrix of this shape
 abbrev pub LiesWithin : {T : Type 0} → ℕ → ℕ → Block T → Type 0

@@ -4,7 +4,7 @@ use Rattle.nalgebra_sparse.specs.Algebra.{CommRing}
 use Rattle.nalgebra_sparse.specs.DensePlain.{plain_of_dense}
 use Rattle.nalgebra_sparse.specs.Plain.{Plain, any_below}
 use Rattle.nalgebra_sparse.specs.Sums.{sum_below, where_true}
-use Rattle.examples_theorems.specs.declared.elements.Element.{Element}
+use Rattle.examples_theorems.specs.declared.parts.Element.{Element}
 use Rattle.examples_theorems.specs.Assembly.{plain_total}
 
 module _ {T : Type 0} where

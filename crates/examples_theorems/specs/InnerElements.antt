@@ -3,7 +3,7 @@ use Rattle.std.specs.Prelude.{ℕ, List, [], ◌∷◌, slice_index}
 use Rattle.std.specs.List.{flat_map}
 use Rattle.nalgebra_sparse.specs.Dense.{value_at}
 use Rattle.nalgebra_sparse.specs.Plain.{below}
-use Rattle.examples_theorems.specs.declared.elements.Element.{Element}
+use Rattle.examples_theorems.specs.declared.parts.Element.{Element}
 
 module _ {T : Type 0} (z : T) (e : Element T) where
   -- the triplet of row k and column l, at their numbers (z is the value outside the shape)

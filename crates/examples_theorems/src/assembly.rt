@@ -5,26 +5,15 @@ ghost use Rattle.nalgebra_sparse.specs.Compressed.{IsSound};
 ghost use Rattle.nalgebra_sparse.specs.PlainOfLanes.{plain_of_rows};
 ghost use Rattle.examples_theorems.specs.Assembly.{LiesWithin, assembled};
 
-#[cfg(test)]
 use crate::example::holds;
+use crate::parts::Block;
 use nalgebra_sparse::CooMatrix;
 use nalgebra_sparse::convert::serial::convert_coo_csr;
 use nalgebra_sparse::csr::CsrMatrix;
 use nalgebra_sparse::dense::DMatrix;
-use nalgebra_sparse::scalar::Ring;
-#[cfg(test)]
-use nalgebra_sparse::scalar::W64;
+use nalgebra_sparse::scalar::{Ring, W64};
 use std::alloc::{AllocError, Global};
-#[cfg(test)]
 use std::test::Fail;
-
-// A dense block, whose first value is at this row and column of a larger matrix.
-#[derive(Drop)]
-struct Block<T> {
-    row: usize,
-    col: usize,
-    matrix: DMatrix<T>,
-}
 
 // Whether the block lies within a matrix of this shape.
 fn lies_within<T>(nrows: usize, ncols: usize, block: &Block<T>) -> bool
@@ -65,47 +54,29 @@ fn assemble<T: Ring>(
     Ok(matrix)
 }
 
-// Whether the stiffness matrices of two elements, at (0, 0) and (1, 1), have the rows 1 -1 0, -1 2 -1 and 0 -1 1.
-#[cfg(test)]
+// The stiffness matrix of an element, at this row and column.
+fn element(alloc: Global, row: usize, col: usize) -> Result<Block<W64>, AllocError> {
+    let matrix = DMatrix::from_row_slice(alloc, 2, 2, &[1, -1, -1, 1].map(W64::new))?;
+    Ok(Block { row, col, matrix })
+}
+
+// Whether two elements, at (0, 0) and (1, 1), have the rows 1 -1 0, -1 2 -1 and 0 -1 1.
 fn two_elements(alloc: Global) -> Result<bool, Fail> {
-    let (one, minus) = (W64::new(1), W64::new(-1));
-    let first = DMatrix::from_row_slice(alloc, 2, 2, &[one, minus, minus, one])?;
-    let second = first.clone(alloc)?;
-    let blocks = vec![in alloc;
-        Block {
-            row: 0,
-            col: 0,
-            matrix: first
-        },
-        Block {
-            row: 1,
-            col: 1,
-            matrix: second
-        },
-    ]?;
+    let blocks = [element(alloc, 0, 0)?, element(alloc, 1, 1)?];
     if !all_within(3, 3, &blocks) {
         return Ok(false);
     }
     let matrix = assemble(alloc, 3, 3, &blocks)?;
-    Ok(
-        matrix.row_offsets() == [0, 2, 5, 7].as_slice()
-            && matrix.col_indices() == [0, 1, 0, 1, 2, 1, 2].as_slice()
-            && matrix.values() == [one, minus, minus, W64::new(2), minus, minus, one].as_slice(),
-    )
+    let offsets = [0, 2, 5, 7].as_slice();
+    let columns = [0, 1, 0, 1, 2, 1, 2].as_slice();
+    let values = [1, -1, -1, 2, -1, -1, 1].map(W64::new);
+    Ok(matrix.csr_data() == (offsets, columns, values.as_slice()))
 }
 
 // Whether a block that ends past the last column does not lie within the matrix.
-#[cfg(test)]
 fn a_block_is_outside(alloc: Global) -> Result<bool, Fail> {
-    let matrix = DMatrix::repeat(alloc, 1, 2, W64::new(1))?;
-    let blocks = vec![in alloc;
-        Block {
-            row: 0,
-            col: 2,
-            matrix
-        },
-    ]?;
-    Ok(!all_within(1, 3, &blocks) && all_within(1, 4, &blocks))
+    let blocks = [element(alloc, 0, 2)?];
+    Ok(!all_within(2, 3, &blocks) && all_within(2, 4, &blocks))
 }
 
 #[test]

@@ -9,18 +9,14 @@ ghost use Rattle.examples_theorems.specs.OnlySolutions.{Solves};
 ghost use Rattle.examples_theorems.specs.RowBlocks.{col_block, row_block, row_blocks, stacked};
 ghost use Rattle.examples_theorems.specs.RowBlocks.{total_size};
 
-#[cfg(test)]
-use crate::example::holds;
+use crate::example::{holds, three_rows};
 use nalgebra_sparse::CooMatrix;
 use nalgebra_sparse::convert::serial::convert_coo_csr;
 use nalgebra_sparse::csr::CsrMatrix;
 use nalgebra_sparse::laws::compressed::stands_law;
 use nalgebra_sparse::ops::serial::mul_csr;
-use nalgebra_sparse::scalar::Ring;
-#[cfg(test)]
-use nalgebra_sparse::scalar::W64;
+use nalgebra_sparse::scalar::{Ring, W64};
 use std::alloc::{AllocError, Global};
-#[cfg(test)]
 use std::test::Fail;
 
 // A block of rows of a product is the product of these rows of the left operand with the right one. A block of columns
@@ -113,24 +109,13 @@ fn multiply_rows<T: Ring>(
 }
 
 // Whether the last two rows of the square of `1 2 0`, `0 3 4` and `5 0 6` are `20 9 36` and `35 10 36`.
-#[cfg(test)]
 fn two_rows_of_a_square(alloc: Global) -> Result<bool, Fail> {
-    let offsets = vec![in alloc; 0, 2, 4, 6]?;
-    let columns = vec![in alloc; 0, 1, 1, 2, 0, 2]?;
-    let numbers = [1, 2, 3, 4, 5, 6].map(|number| W64::new(number));
-    let values = Vec::from_array(alloc, numbers)?;
-    let a = CsrMatrix::try_from_csr_data(3, 3, offsets, columns, values)?;
-    if a.ncols() != a.nrows() {
-        return Ok(false);
-    }
+    let a = three_rows(alloc, &[1, 2, 0, 0, 3, 4, 5, 0, 6])?;
     let rows = multiply_rows(alloc, &a, &a, 1, 2)?;
-    let want = [20, 9, 36, 35, 10, 36].map(|number| W64::new(number));
-    Ok(
-        rows.nrows() == 2
-            && rows.row_offsets() == [0, 3, 6].as_slice()
-            && rows.col_indices() == [0, 1, 2, 0, 1, 2].as_slice()
-            && rows.values() == want.as_slice(),
-    )
+    let offsets = [0, 3, 6].as_slice();
+    let columns = [0, 1, 2, 0, 1, 2].as_slice();
+    let values = [20, 9, 36, 35, 10, 36].map(W64::new);
+    Ok(rows.nrows() == 2 && rows.csr_data() == (offsets, columns, values.as_slice()))
 }
 
 #[test]

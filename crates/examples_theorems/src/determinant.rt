@@ -4,16 +4,12 @@ ghost use Rattle.std.specs.Prelude.{◌≡◌, IfOk, IfErr, length, slice_index_
 ghost use Rattle.nalgebra_sparse.specs.Factors.{HasNoFactors, diagonal};
 ghost use Rattle.examples_theorems.specs.Pivots.{product_below, HasFactors, IsPivotProduct};
 
-#[cfg(test)]
-use crate::example::holds;
+use crate::example::{holds, two_rows};
 use nalgebra_sparse::csc::CscMatrix;
 use nalgebra_sparse::ldl::Ldl;
 use nalgebra_sparse::ops::serial::{OperationError, OperationErrorKind};
-#[cfg(test)]
-use nalgebra_sparse::scalar::Mod;
-use nalgebra_sparse::scalar::{Ring, Units};
+use nalgebra_sparse::scalar::{Mod, Ring, Units};
 use std::alloc::Global;
-#[cfg(test)]
 use std::test::Fail;
 
 // Returns the product of the values.
@@ -43,17 +39,9 @@ fn determinant<T: Units>(alloc: Global, a: &CscMatrix<T>) -> Result<T, Operation
 }
 
 // Whether the matrix with rows `2 1` and `1 1` has the determinant 1 modulo 7.
-#[cfg(test)]
 fn a_determinant_is_one(alloc: Global) -> Result<bool, Fail> {
-    let offsets = vec![in alloc; 0, 2, 4]?;
-    let rows = vec![in alloc; 0, 1, 0, 1]?;
-    let one = Mod::<7>::one();
-    let values = vec![in alloc; Mod::new(2), one, one, one]?;
-    let matrix = CscMatrix::try_from_csc_data(2, 2, offsets, rows, values)?;
-    if matrix.nrows() != matrix.ncols() {
-        return Ok(false);
-    }
-    Ok(determinant(alloc, &matrix)? == one)
+    let matrix = two_rows(alloc, &[2, 1, 1, 1])?;
+    Ok(determinant(alloc, &matrix)? == Mod::one())
 }
 
 #[test]

@@ -7,26 +7,15 @@ ghost use Rattle.nalgebra_sparse.specs.PlainOfLanes.{plain_of_rows};
 ghost use Rattle.examples_theorems.specs.Elements.{IsNumbered, elements_sum};
 ghost use Rattle.examples_theorems.specs.InnerElements.{element_triplets, row_triplets};
 
-#[cfg(test)]
 use crate::example::holds;
+use crate::parts::Element;
 use nalgebra_sparse::CooMatrix;
 use nalgebra_sparse::convert::serial::convert_coo_csr;
 use nalgebra_sparse::csr::CsrMatrix;
 use nalgebra_sparse::dense::DMatrix;
-use nalgebra_sparse::scalar::Ring;
-#[cfg(test)]
-use nalgebra_sparse::scalar::W64;
+use nalgebra_sparse::scalar::{Ring, W64};
 use std::alloc::{AllocError, Global};
-#[cfg(test)]
 use std::test::Fail;
-
-// The matrix of an element: row k belongs to row `rows[k]` of the larger matrix, and column l to column `cols[l]`.
-#[derive(Drop)]
-struct Element<T> {
-    rows: Vec<usize>,
-    cols: Vec<usize>,
-    matrix: DMatrix<T>,
-}
 
 // Whether each row and column of the element has a number, and the numbers lie within this shape.
 fn is_numbered<T>(nrows: usize, ncols: usize, element: &Element<T>) -> bool
@@ -99,31 +88,25 @@ fn assemble_elements<T: Ring>(
 }
 
 // The stiffness matrix of a bar between two nodes of a mesh.
-#[cfg(test)]
-fn bar(alloc: Global, from: usize, to: usize) -> Result<Element<W64>, Fail> {
-    let (one, minus) = (W64::new(1), W64::new(-1));
+fn bar(alloc: Global, from: usize, to: usize) -> Result<Element<W64>, AllocError> {
     Ok(Element {
-        rows: vec![in alloc; from, to]?,
-        cols: vec![in alloc; from, to]?,
-        matrix: DMatrix::from_row_slice(alloc, 2, 2, &[one, minus, minus, one])?,
+        rows: Vec::from_slice(alloc, &[from, to])?,
+        cols: Vec::from_slice(alloc, &[from, to])?,
+        matrix: DMatrix::from_row_slice(alloc, 2, 2, &[1, -1, -1, 1].map(W64::new))?,
     })
 }
 
 // Whether two bars that meet at the node 2 have the rows 1 0 -1, 0 1 -1 and -1 -1 2, and do not fit two nodes.
-#[cfg(test)]
 fn two_bars(alloc: Global) -> Result<bool, Fail> {
-    let bars = vec![in alloc; bar(alloc, 0, 2)?, bar(alloc, 2, 1)?]?;
-    if !all_numbered(3, 3, &bars) {
+    let bars = [bar(alloc, 0, 2)?, bar(alloc, 2, 1)?];
+    if all_numbered(2, 3, &bars) || !all_numbered(3, 3, &bars) {
         return Ok(false);
     }
     let matrix = assemble_elements(alloc, 3, 3, &bars)?;
-    let want = [1, -1, 1, -1, -1, -1, 2].map(|number| W64::new(number));
-    Ok(
-        matrix.row_offsets() == [0, 2, 4, 7].as_slice()
-            && matrix.col_indices() == [0, 2, 1, 2, 0, 1, 2].as_slice()
-            && matrix.values() == want.as_slice()
-            && !all_numbered(2, 3, &bars),
-    )
+    let offsets = [0, 2, 4, 7].as_slice();
+    let columns = [0, 2, 1, 2, 0, 1, 2].as_slice();
+    let values = [1, -1, 1, -1, -1, -1, 2].map(W64::new);
+    Ok(matrix.csr_data() == (offsets, columns, values.as_slice()))
 }
 
 #[test]

@@ -4,15 +4,13 @@ ghost use Rattle.std.specs.Prelude.{◌≡◌, IfOk};
 ghost use Rattle.examples_theorems.specs.Walking.{IsDiagonal, HoldsReachable};
 ghost use Rattle.examples_theorems.specs.Walking.{HoldsWalks, TakesSteps};
 
-#[cfg(test)]
-use crate::example::holds;
+use crate::example::{holds, three_rows};
 use nalgebra_sparse::csr::CsrMatrix;
 use nalgebra_sparse::laws::compressed::stands_law;
 use nalgebra_sparse::ops::serial::{spadd_pattern, spmm_csr_pattern};
 use nalgebra_sparse::pattern::SparsityPattern;
 use nalgebra_sparse::scalar::W64;
 use std::alloc::{AllocError, Global};
-#[cfg(test)]
 use std::test::Fail;
 
 // Returns the diagonal of order n.
@@ -76,40 +74,29 @@ fn closure(alloc: Global, pattern: &SparsityPattern) -> Result<SparsityPattern, 
     Ok(reached)
 }
 
-// Whether walks of at most `steps` steps on the cycle 0 -> 1 -> 2 -> 0 join the pairs with these indices.
-#[cfg(test)]
+// Steps on the cycle 0 -> 1 -> 2 -> 0, and the indices that walks of at most so many steps reach from each.
+const WALKS: &[(usize, &[usize])] = &[
+    (0, &[0, 1, 2]),
+    (1, &[0, 1, 1, 2, 0, 2]),
+    (2, &[0, 1, 2, 0, 1, 2, 0, 1, 2]),
+];
+
+// Whether walks of at most `steps` steps on the cycle reach these indices.
 fn joins(alloc: Global, steps: usize, indices: &[usize]) -> Result<bool, Fail> {
-    let offsets = vec![in alloc; 0, 1, 2, 3]?;
-    let next = vec![in alloc; 1, 2, 0]?;
-    let cycle = SparsityPattern::try_from_offsets_and_indices(3, 3, offsets, next)?;
-    if cycle.major_dim() != cycle.minor_dim() {
-        return Ok(false);
-    }
-    Ok(reach(alloc, &cycle, steps)?.minor_indices() == indices)
+    let cycle = three_rows(alloc, &[0, 1, 0, 0, 0, 1, 1, 0, 0])?;
+    Ok(reach(alloc, cycle.pattern(), steps)?.minor_indices() == indices)
 }
 
-// Whether the closure of the path 0 -> 1 -> 2 -> 3 joins each index with those from it on.
-#[cfg(test)]
+// Whether the closure of the path 0 -> 1 -> 2 joins each index with those from it on.
 fn joins_all(alloc: Global) -> Result<bool, Fail> {
-    let offsets = vec![in alloc; 0, 1, 2, 3, 3]?;
-    let next = vec![in alloc; 1, 2, 3]?;
-    let path = SparsityPattern::try_from_offsets_and_indices(4, 4, offsets, next)?;
-    if path.major_dim() != path.minor_dim() {
-        return Ok(false);
+    let path = three_rows(alloc, &[0, 1, 0, 0, 0, 1, 0, 0, 0])?;
+    Ok(closure(alloc, path.pattern())?.minor_indices() == [0, 1, 2, 1, 2, 2].as_slice())
+}
+
+#[test]
+fn walks(rt: HostRuntime) {
+    for &(steps, indices) in WALKS {
+        assert!(rt; holds(&rt, joins(rt.alloc(), steps, indices)), "{steps}");
     }
-    let reached = closure(alloc, &path)?;
-    Ok(reached.minor_indices() == [0, 1, 2, 3, 1, 2, 3, 2, 3, 3].as_slice())
-}
-
-#[test]
-fn walks_on_a_path(rt: HostRuntime) {
     assert!(rt; holds(&rt, joins_all(rt.alloc())));
-}
-
-#[test]
-fn walks_on_a_cycle(rt: HostRuntime) {
-    let alloc = rt.alloc();
-    assert!(rt; holds(&rt, joins(alloc, 0, &[0, 1, 2])));
-    assert!(rt; holds(&rt, joins(alloc, 1, &[0, 1, 1, 2, 0, 2])));
-    assert!(rt; holds(&rt, joins(alloc, 2, &[0, 1, 2, 0, 1, 2, 0, 1, 2])));
 }

@@ -5,18 +5,14 @@ ghost use Rattle.nalgebra_sparse.specs.DensePlain.{plain_of_dense};
 ghost use Rattle.nalgebra_sparse.specs.Factors.{HasNoFactors, symmetric_of};
 ghost use Rattle.examples_theorems.specs.OnlySolutions.{IsOnlySolution};
 
-#[cfg(test)]
-use crate::example::holds;
+use crate::example::{holds, two_rows};
 use nalgebra_sparse::csc::CscMatrix;
 use nalgebra_sparse::dense::DMatrix;
 use nalgebra_sparse::laws::plain::product_associative_law;
 use nalgebra_sparse::ldl::Ldl;
 use nalgebra_sparse::ops::serial::{OperationError, OperationErrorKind};
-#[cfg(test)]
-use nalgebra_sparse::scalar::Mod;
-use nalgebra_sparse::scalar::Units;
+use nalgebra_sparse::scalar::{Mod, Units};
 use std::alloc::Global;
-#[cfg(test)]
 use std::test::Fail;
 
 // Returns the solution X of A X = B, where A is the symmetric matrix with the entries of `a` on and above the diagonal.
@@ -48,19 +44,10 @@ fn solve_symmetric<T: Units>(
 }
 
 // Whether the system with rows `2 1` and `1 1` and the right side `3 2` has the solution `1 1` modulo 7.
-#[cfg(test)]
 fn a_solution_is_one_one(alloc: Global) -> Result<bool, Fail> {
-    let one = Mod::<7>::new(1);
-    let offsets = vec![in alloc; 0, 2, 4]?;
-    let rows = vec![in alloc; 0, 1, 0, 1]?;
-    let values = vec![in alloc; Mod::new(2), one, one, one]?;
-    let a = CscMatrix::try_from_csc_data(2, 2, offsets, rows, values)?;
-    let b = DMatrix::from_column_slice(alloc, 2, 1, &[Mod::new(3), Mod::new(2)])?;
-    if a.nrows() != a.ncols() || b.nrows() != a.nrows() {
-        return Ok(false);
-    }
-    let x = solve_symmetric(alloc, &a, &b)?;
-    Ok(x.as_slice() == [one, one].as_slice())
+    let a = two_rows(alloc, &[2, 1, 1, 1])?;
+    let b = DMatrix::from_column_slice(alloc, 2, 1, &[3, 2].map(Mod::new))?;
+    Ok(solve_symmetric(alloc, &a, &b)?.as_slice() == [1, 1].map(Mod::new).as_slice())
 }
 
 #[test]

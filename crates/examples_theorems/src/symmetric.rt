@@ -10,9 +10,8 @@ ghost use Rattle.nalgebra_sparse.specs.Plain.{Plain, plain_transpose};
 ghost use Rattle.nalgebra_sparse.specs.PlainOfLanes.{plain_of_cols};
 ghost use Rattle.nalgebra_sparse.specs.Solutions.{HasSameValues};
 
-use crate::example::holds;
+use crate::example::{holds, two_rows};
 use nalgebra_sparse::CscMatrix;
-use nalgebra_sparse::convert::serial::convert_dense_csc;
 use nalgebra_sparse::dense::DMatrix;
 use nalgebra_sparse::laws::compressed::{equal_law, transpose_law};
 use nalgebra_sparse::ldl::Ldl;
@@ -73,15 +72,6 @@ fn has_factors<const P: u64>(alloc: Global, a: &CscMatrix<Mod<P>>) -> Result<boo
             }
         }
     }
-}
-
-// The matrix with these two rows.
-fn two_rows(alloc: Global, rows: &[u64; 4]) -> Result<CscMatrix<Mod<7>>, AllocError>
-    ensures rows { IfOk result (λ m. m.pattern.minor_dim ≡ 2) }
-    ensures cols { IfOk result (λ m. m.pattern.major_dim ≡ 2) }
-{
-    let dense = DMatrix::from_row_slice(alloc, 2, 2, &rows.map(Mod::new))?;
-    convert_dense_csc(alloc, &dense)
 }
 
 fn the_matrix_times_the_solution_is_the_right_side(alloc: Global) -> Result<bool, Fail> {

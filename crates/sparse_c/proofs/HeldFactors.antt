@@ -11,8 +11,9 @@ use Rattle.sparse_algebra.specs.WrappingValues.{w64_value}
 use Rattle.sparse_algebra.specs.declared.scalar.wrapping.W64.{W64}
 use Rattle.sparse_compressed.specs.Compressed.{Compressed}
 use Rattle.sparse_compressed.specs.PlainOfLanes.{plain_of_cols, plain_of_rows}
-use Rattle.sparse_factor.specs.Factors.{diagonal, Factors}
+use Rattle.sparse_factor.specs.Factors.{diagonal}
 use Rattle.c_handles.specs.Factored.{d_held, l_held, zero64, HasNoFactors}
+use Rattle.c_handles.specs.declared.held_factors.HeldFactors.{HeldFactors}
 use Rattle.sparse_c.proofs.Factoring.{same_elements}
 use Rattle.sparse_c.specs.Factors.{first_elements, HoldsFactors, WritesHeldFactors}
 use Rattle.c_arrays.proofs.Answering.{size_kept, size_needed}
@@ -24,7 +25,7 @@ use Rattle.c_arrays.specs.Statuses.{number_of}
 use Rattle.c_arrays.specs.declared.refusal.Refusal.{Refusal}
 use Rattle.c_arrays.specs.declared.refusal.Refusal.TheVariants.{EmptyHandle, TooSmall}
 
-empty-not_too_small : (handle : Option (Factors W64)) (e : Refusal) → HasNoFactors handle e
+empty-not_too_small : (handle : Option HeldFactors) (e : Refusal) → HasNoFactors handle e
     → number_of e ≢ number_of TooSmall
 empty-not_too_small handle e fault same =
     let other : 17 ≢ 5 = omega arith in
@@ -40,7 +41,7 @@ held_missing P Q answer e status is written refused =
     subst (λ r. MatchResult r Q (λ e. status ≡ number_of e)) is
     (refused (λ zero. subst (λ r. MatchResult r P (λ _. ⊥)) is (written zero)))
 
-module _ {V : Type 0} (items : V → List W64) (handle : Option (Factors W64))
+module _ {V : Type 0} (items : V → List W64) (handle : Option HeldFactors)
     (answer : Result (Compressed W64 × V) Refusal)
     (columns : IfOk answer (λ s. plain_of_cols ring64 w64_value s.0 ≡ l_held handle))
     (pivots : IfOk answer (λ s. diagonal ring64 w64_value zero64 (items s.1) ≡ d_held handle))

@@ -4,13 +4,12 @@ use Rattle.std.specs.Prelude.{◌≡◌, ◌≢◌, ◌≤◌, ◌<◌, ◌↔�
 use Rattle.std.specs.Prelude.{slice_index_or, take, Option}
 use Rattle.sparse_algebra.specs.Algebra.{CommRing}
 use Rattle.sparse_algebra.specs.Plain.{Plain, plain_transpose}
-use Rattle.sparse_algebra.specs.declared.scalar.wrapping.W64.{W64}
 use Rattle.sparse_compressed.specs.Compressed.{Compressed, IsSound}
 use Rattle.sparse_compressed.specs.PlainOfLanes.{plain_of_rows}
 use Rattle.sparse_factor.specs.Fill.{InFill, UpperBase}
 use Rattle.sparse_factor.specs.Factorisations.{IsFactorisation}
-use Rattle.sparse_factor.specs.Factors.{Factors}
 use Rattle.c_handles.specs.Factored.{d_held, l_held, HasNoFactors as IsEmptyHandle}
+use Rattle.c_handles.specs.declared.held_factors.HeldFactors.{HeldFactors}
 use Rattle.sparse_c.specs.Rooms.{Shows}
 use Rattle.sparse_c.specs.Scalars.{Scalars}
 use Rattle.sparse_c.specs.Symmetric.{symmetric_by_cols, HasNoFactors}
@@ -91,13 +90,13 @@ pub record FactorisesIn (S : Scalars) (s : Factored) (before after : FactorOutpu
   pub places : after.places.ghost_name ≡ before.places.ghost_name
 
 -- an array is too short for the factors that the handle holds
-abbrev pub AreHeldFactorsTooLong : Option (Factors W64) → OutputArrays → List ℤ → Type 0
+abbrev pub AreHeldFactorsTooLong : Option HeldFactors → OutputArrays → List ℤ → Type 0
 AreHeldFactorsTooLong handle room diagonal = let l = l_held handle in
     IsTooSmall (plain_transpose ring64 l) room ⊎ (length diagonal < l.rows)
 
 -- the contract of a call that writes the factors that the handle holds, with the arrays for L and the array for the
 -- diagonal before and after the call, and its status
-pub record WritesHeldFactors (handle : Option (Factors W64)) (before after : OutputArrays)
+pub record WritesHeldFactors (handle : Option HeldFactors) (before after : OutputArrays)
     (old new : List ℤ) (status : ℤ) : Type 0 where
   -- at status 0 the arrays start with the columns of L, and the array for the diagonal with that of D
   pub columns : status ≡ pos 0 → HoldsCols (l_held handle) after

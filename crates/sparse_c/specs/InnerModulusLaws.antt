@@ -10,6 +10,7 @@ use Rattle.sparse_algebra.specs.Plain.{Plain}
 use Rattle.sparse_c.specs.Dense.{WritesNumbers}
 use Rattle.sparse_c.specs.Factors.{FactorisesIn}
 use Rattle.sparse_c.specs.Moduli.{moduli, IsFaultModulo, IsNoneOf}
+use Rattle.sparse_c.specs.Pivots.{FindsPivot}
 use Rattle.sparse_c.specs.Rooms.{held_in, AnswersIn, AreSameArrays, Shows, WritesIn}
 use Rattle.sparse_c.specs.Scalars.{modulo, residues_of}
 use Rattle.sparse_c.specs.Solved.{Divides, DividesIn, IsFaultOfQuotient}
@@ -182,6 +183,27 @@ factors_unlisted m s r none = record {
   values = refl;
   diagonal = refl;
   places = refl;
+}
+
+-- ---- the column at which a factorisation stops
+
+pub pivot_listed : (m : ℕ) (s : Factored) (before after : ℕ) (status : ℤ)
+    → m ≤ 9223372036854775808 → FindsPivot (residues_of m) s before after status
+    → FindsPivot (modulo m) s before after status
+pivot_listed m s before after status short ensured = record {
+  found = ensured.found;
+  sound = ensured.sound;
+  untouched = ensured.untouched;
+  refused = λ h. refused_modulo m (ensured.refused h);
+}
+
+pub pivot_unlisted : (m : ℕ) (s : Factored) (before : ℕ) → IsNoneOf moduli m
+    → FindsPivot (modulo m) s before before (number_of UnknownChoice)
+pivot_unlisted m s before none = record {
+  found = not_done;
+  sound = not_done;
+  untouched = λ _. refl;
+  refused = λ _. unlisted_refused m none;
 }
 
 -- ---- calls that write a dense matrix

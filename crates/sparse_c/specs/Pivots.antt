@@ -1,11 +1,16 @@
 -- The column at which the factorisation of a symmetric matrix stops.
-use Rattle.std.specs.Prelude.{◌≡◌, ◌≤◌, ◌<◌, ◌&&◌, ℕ, Bool, nat_lt, if◌then◌else◌, List, [], ◌∷◌}
-use Rattle.std.specs.Prelude.{◌++◌}
+use Rattle.std.specs.Prelude.{◌≡◌, ◌≢◌, ◌≤◌, ◌<◌, ◌&&◌, ℕ, ℤ, pos, Bool, nat_lt}
+use Rattle.std.specs.Prelude.{if◌then◌else◌, List, [], ◌∷◌, ◌++◌}
 use Rattle.std.specs.List.{flat_map}
 use Rattle.sparse_algebra.specs.Algebra.{CommRing}
 use Rattle.sparse_algebra.specs.Plain.{Plain}
 use Rattle.sparse_coo_dense.specs.Coo.{Coo}
+use Rattle.sparse_compressed.specs.Compressed.{IsSound}
 use Rattle.sparse_factor.specs.Factorisations.{IsFactorisation}
+use Rattle.sparse_c.specs.Scalars.{Scalars}
+use Rattle.sparse_c.specs.Symmetric.{symmetric_by_cols}
+use Rattle.sparse_c.specs.declared.arguments.Factored.{Factored}
+use Rattle.c_arrays.specs.Refused.{IsFaultOf, IsRefusedFor}
 
 module _ (R : CommRing) where
   -- the first n rows and columns of a, of which nothing but the values in these rows and columns has an effect on a
@@ -30,6 +35,14 @@ module _ (R : CommRing) where
       pub within : high ≤ a.rows
       pub factors : HasFactorisation (leading low a)
       pub none : HasFactorisation (leading high a) → ⊥
+
+-- the contract of a call over a ring that writes at which column the factorisation stops: the variable for the column
+-- before the call and after it, and its status
+pub record FindsPivot (S : Scalars) (s : Factored) (before after : ℕ) (status : ℤ) : Type 0 where
+  pub found : status ≡ pos 0 → StopsAt S.ring S.value (symmetric_by_cols S.ring s.a) after
+  pub sound : status ≡ pos 0 → IsSound s.a
+  pub untouched : status ≢ pos 0 → after ≡ before
+  pub refused : status ≢ pos 0 → IsRefusedFor (S.IsFault (IsFaultOf s.a)) ⊥ status
 
 module _ {T : Type 0} (n : ℕ) where
   -- whether a triplet lies in the first n rows and columns

@@ -3,7 +3,8 @@ use Rattle.std.specs.Prelude.{◌≡◌, ◌⊎◌, ℕ, ℤ, Ok, Err, List, cod
 use Rattle.std.specs.Fmt.{signed_decimal}
 use Rattle.std.specs.Int.{w64}
 use Rattle.sparse_coo_dense.specs.Coo.{Coo, coo_of, zip_triplets}
-use Rattle.sparse_io.specs.Written.{text_of}
+use Rattle.sparse_io.specs.Written.{text_with}
+use Rattle.sparse_io.specs.declared.banner.Banner.TheVariants.{MixedCase}
 use Rattle.sparse_market_scalar.specs.ScalarTypes.{wrapping_scalar}
 use Rattle.sparse_parser.specs.Meaning.{Means}
 use Rattle.sparse_parser.specs.declared.error.MatrixMarketErrorKind.{MatrixMarketErrorKind}
@@ -49,7 +50,8 @@ IsErrorOfText text refusal = (kind : MatrixMarketErrorKind)
 abbrev pub IsFaultOfText : List ℕ → Refusal → Type 0
 IsFaultOfText text refusal = IsUnreadable text refusal ⊎ IsErrorOfText text refusal
 
--- the text that is written for a list of triplets, given as lists of rows, columns and values
+-- the text that is written for a list of triplets, given as lists of rows, columns and values: it begins
+-- `%%MatrixMarket`
 abbrev pub text_of_lists : ℕ → ℕ → List ℕ → List ℕ → List ℤ → List ℕ
-text_of_lists rows cols is js vs =
-    text_of (codes "integer") signed_decimal (coo_of rows cols (zip_triplets is js vs))
+text_of_lists rows cols is js vs = text_with MixedCase (codes "integer") signed_decimal
+    (coo_of rows cols (zip_triplets is js vs))

@@ -10,8 +10,10 @@ ghost use Rattle.c_arrays.specs.Rests.{KeepsRest};
 ghost use Rattle.c_arrays.specs.Statuses.{number_of};
 ghost use Rattle.c_arrays.specs.declared.refusal.Refusal.TheVariants.{EmptyHandle};
 ghost use Rattle.c_handles.specs.Held.{plain_held, Answers, Holds, IsEmpty, IsUnwritten};
+ghost use Rattle.c_handles.specs.Narrow.{IsUnwrittenNarrow};
 
 pub(crate) mod operations;
+pub(crate) mod orders;
 pub(crate) mod systems;
 pub(crate) mod texts;
 
@@ -21,6 +23,7 @@ use c_arrays::lanes::Lanes;
 use c_handles::from_arrays::{put_rows, put_triplets};
 use c_handles::handle::MatrixHandle;
 use c_handles::held_matrix::clear;
+use c_handles::narrow::read_narrow;
 use c_handles::operations::share;
 use c_handles::reading::{read, sizes};
 use std::alloc::Global;
@@ -114,6 +117,28 @@ pub extern "C" fn nalgebra_sparse_matrix_read(
         × KeepsRest (plain_held a.old.value).rows before after) }
 {
     status!(read(alloc, a, out_offsets, out_indices, out_values, out_places))
+}
+
+/// Writes those arrays, with offsets and indices below 2^31 in 32 bits, and the number of entries.
+#[unsafe(no_mangle)]
+pub extern "C" fn nalgebra_sparse_matrix_read_32(
+    alloc: Global,
+    a: &mut MatrixHandle,
+    out_offsets: &mut [u32],
+    out_indices: &mut [u32],
+    out_values: &mut [i64],
+    out_places: &mut usize,
+) -> i32
+    ensures kept { a.new.value ≡ a.old.value }
+    ensures missing { a.old.value ≡ None → result ≡ number_of EmptyHandle }
+    ensures answer { let before =
+        output_arrays out_offsets.old out_indices.old out_values.old out_places.old in
+        let after = output_arrays out_offsets.new out_indices.new out_values.new out_places.new in
+        Answers result (IsUnwrittenNarrow a.old.value before) (after ≡ before)
+        (HoldsRows (plain_held a.old.value) after
+        × KeepsRest (plain_held a.old.value).rows before after) }
+{
+    status!(read_narrow(alloc, a, out_offsets, out_indices, out_values, out_places))
 }
 
 /// Stores in `out` the matrix that `a` holds: both handles share it.

@@ -4,6 +4,7 @@ ghost use Rattle.std.specs.Prelude.{◌%◌, nat_eq, refl};
 ghost use Rattle.std.proofs.Common.{rules};
 ghost use Rattle.std.specs.Cmp.Rules.{comparing};
 
+#[cfg(test)]
 use nalgebra_sparse::scalar::{Ring, Zero};
 
 /// A residue modulo 7 whose number need not be reduced, with a tag that `==` ignores.
@@ -13,12 +14,14 @@ pub struct Residue7 {
     tag: u8,
 }
 
+#[cfg(test)]
 impl Residue7 {
     pub fn new(number: u64, tag: u8) -> Residue7 {
         Residue7 { number, tag }
     }
 }
 
+#[cfg(test)]
 impl PartialEq for Residue7 {
     ghost eq = { λ a b. nat_eq (a.number % 7) (b.number % 7) };
 
@@ -29,6 +32,7 @@ impl PartialEq for Residue7 {
     }
 }
 
+#[cfg(test)]
 impl Zero for Residue7 {
     ghost zero_value = { record { number = 0; tag = 0 } };
 
@@ -37,6 +41,7 @@ impl Zero for Residue7 {
     }
 }
 
+#[cfg(test)]
 impl Ring for Residue7 {
     ghost use Rattle.nalgebra_sparse.specs.Classes.{class_ring, class, class_decides};
     ghost use Rattle.tests_acceptance.specs.Residue7.{residue7_laws};

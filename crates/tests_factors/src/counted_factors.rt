@@ -7,7 +7,6 @@ use sparse_coo_dense::steps::Steps;
 use sparse_factor::factorization::CscSymbolicCholesky;
 use sparse_pattern::pattern::SparsityPattern;
 use std::alloc::{AllocError, Global};
-use std::test::Fail;
 
 // The entries of a square pattern and of its factor. The steps are counted: they are at most as many as both have
 // entries.
@@ -43,53 +42,39 @@ pub fn has_places(
     Ok(read == places.0 && found == places.1)
 }
 
-// Two columns that share the rows 2 and 4.
-fn is_bounded_by_23_steps(alloc: Global, steps: &mut Steps) -> Result<bool, AllocError>
-    ensures { IfOk result (λ same. IsTrue same → steps.new ≤ steps.old + 23) }
-{
-    let indices = &[0, 2, 4, 1, 2, 4, 0, 1, 2, 3, 0, 1, 4];
-    let columns = Columns::from_slices(alloc, &[0, 3, 6, 9, 10, 13], indices)?;
-    has_places(alloc, columns, 5, (13, 10), steps)
-}
+/// Columns of a square pattern: their offsets and indices, and the numbers of entries of the pattern and of its factor.
+type Case = (&'static [usize], &'static [usize], (usize, usize));
 
-// A diagonal that is not stored, and two empty columns.
-fn is_bounded_by_5_steps(alloc: Global, steps: &mut Steps) -> Result<bool, AllocError>
-    ensures { IfOk result (λ same. IsTrue same → steps.new ≤ steps.old + 5) }
-{
-    let columns = Columns::from_slices(alloc, &[0, 0, 0, 2], &[0, 1])?;
-    has_places(alloc, columns, 3, (2, 3), steps)
-}
+const CASES: &[Case] = &[
+    // Two columns that share the rows 2 and 4.
+    (
+        &[0, 3, 6, 9, 10, 13],
+        &[0, 2, 4, 1, 2, 4, 0, 1, 2, 3, 0, 1, 4],
+        (13, 10),
+    ),
+    // A diagonal that is not stored, and two empty columns.
+    (&[0, 0, 0, 2], &[0, 1], (2, 3)),
+    // Entries below the diagonal beside the diagonal.
+    (&[0, 3, 4, 5], &[0, 1, 2, 1, 2], (5, 3)),
+    // The first row full.
+    (&[0, 1, 3, 5, 7], &[0, 0, 1, 0, 2, 0, 3], (7, 10)),
+    // The last row full.
+    (&[0, 1, 2, 3, 7], &[0, 1, 2, 0, 1, 2, 3], (7, 7)),
+];
 
-// Entries below the diagonal beside the diagonal.
-fn is_bounded_by_8_steps(alloc: Global, steps: &mut Steps) -> Result<bool, AllocError>
-    ensures { IfOk result (λ same. IsTrue same → steps.new ≤ steps.old + 8) }
-{
-    let columns = Columns::from_slices(alloc, &[0, 3, 4, 5], &[0, 1, 2, 1, 2])?;
-    has_places(alloc, columns, 3, (5, 3), steps)
-}
-
-// The first row full.
-fn is_bounded_by_17_steps(alloc: Global, steps: &mut Steps) -> Result<bool, AllocError>
-    ensures { IfOk result (λ same. IsTrue same → steps.new ≤ steps.old + 17) }
-{
-    let columns = Columns::from_slices(alloc, &[0, 1, 3, 5, 7], &[0, 0, 1, 0, 2, 0, 3])?;
-    has_places(alloc, columns, 4, (7, 10), steps)
-}
-
-// The last row full.
-fn is_bounded_by_14_steps(alloc: Global, steps: &mut Steps) -> Result<bool, AllocError>
-    ensures { IfOk result (λ same. IsTrue same → steps.new ≤ steps.old + 14) }
-{
-    let columns = Columns::from_slices(alloc, &[0, 1, 2, 3, 7], &[0, 1, 2, 0, 1, 2, 3])?;
-    has_places(alloc, columns, 4, (7, 7), steps)
+// Whether the factor of a case is computed in counted steps, and has as many entries.
+fn is_counted(alloc: Global, &(offsets, indices, places): &Case) -> Result<bool, AllocError> {
+    let columns = Columns::from_slices(alloc, offsets, indices)?;
+    let size = offsets.len().saturating_sub(1);
+    has_places(alloc, columns, size, places, &mut Steps::new())
 }
 
 #[test]
-fn steps_are_bounded(rt: HostRuntime) -> Result<(), Fail> {
-    assert!(rt; is_bounded_by_23_steps(rt.alloc(), &mut Steps::new())?);
-    assert!(rt; is_bounded_by_5_steps(rt.alloc(), &mut Steps::new())?);
-    assert!(rt; is_bounded_by_8_steps(rt.alloc(), &mut Steps::new())?);
-    assert!(rt; is_bounded_by_17_steps(rt.alloc(), &mut Steps::new())?);
-    assert!(rt; is_bounded_by_14_steps(rt.alloc(), &mut Steps::new())?);
-    Ok(())
+fn steps_are_bounded(rt: HostRuntime) {
+    for (row, case) in CASES.iter().enumerate() {
+        assert!(rt;
+            matches!(is_counted(rt.alloc(), case), Ok(true)),
+            "row {row}"
+        );
+    }
 }

@@ -1,13 +1,12 @@
 //! Large patterns: work that is not counted, or counted twice, would not come to an end.
 
-ghost use Rattle.std.specs.Prelude.{◌+◌, ◌<◌, ◌≤◌, IfOk, IsTrue};
+ghost use Rattle.std.specs.Prelude.{◌<◌};
 
 use crate::counted_factors::has_places;
 use crate::square_patterns::Columns;
 use sparse_coo_dense::steps::Steps;
 use sparse_factor::factorization::CscSymbolicCholesky;
 use std::alloc::{AllocError, Global};
-use std::test::Fail;
 
 // Adds a column of the cycle: the diagonal and the entries beside it, and in the last column the corner.
 fn push_on_cycle(columns: &mut Columns, size: usize, column: usize) -> Result<(), AllocError>
@@ -50,63 +49,57 @@ fn arrow(alloc: Global, size: usize) -> Result<Columns, AllocError> {
     Ok(columns)
 }
 
-// The entries of a square pattern and of its factor, or `None` where the columns are not those of one.
-fn places(
+// Whether the columns are those of a square pattern with `places.0` entries whose factor has `places.1`.
+fn has_factor(
     alloc: Global,
     columns: Columns,
     size: usize,
-) -> Result<Option<(usize, usize)>, AllocError> {
+    places: (usize, usize),
+) -> Result<bool, AllocError> {
     let Ok(pattern) = columns.square(size) else {
-        return Ok(None);
+        return Ok(false);
     };
-    let nnz = pattern.nnz();
+    let read = pattern.nnz();
     let factor = CscSymbolicCholesky::factor(alloc, pattern)?;
-    Ok(Some((nnz, factor.l_pattern().nnz())))
+    Ok(read == places.0 && factor.l_pattern().nnz() == places.1)
 }
 
-#[test]
-fn a_cycle_comes_to_its_end(rt: HostRuntime) -> Result<(), Fail> {
-    let columns = cycle(rt.alloc(), 200_000)?;
-    assert!(rt; places(rt.alloc(), columns, 200_000)? == Some((400_000, 599_997)));
-    Ok(())
+const CYCLE: (usize, usize) = (400_000, 599_997);
+
+fn a_cycle_is_factored(alloc: Global) -> Result<bool, AllocError> {
+    has_factor(alloc, cycle(alloc, 200_000)?, 200_000, CYCLE)
 }
 
-#[test]
-fn an_arrow_comes_to_its_end(rt: HostRuntime) -> Result<(), Fail> {
-    let columns = arrow(rt.alloc(), 3_000)?;
-    assert!(rt; places(rt.alloc(), columns, 3_000)? == Some((5_999, 4_501_500)));
-    Ok(())
-}
-
-// The cycle.
-fn is_bounded_by_999_997_steps(alloc: Global, steps: &mut Steps) -> Result<bool, AllocError>
-    ensures { IfOk result (λ same. IsTrue same → steps.new ≤ steps.old + 999_997) }
-{
+// The same in at most as many steps as both have entries, which is proved of `has_places`.
+fn a_cycle_is_factored_in_steps(alloc: Global) -> Result<bool, AllocError> {
     has_places(
         alloc,
         cycle(alloc, 200_000)?,
         200_000,
-        (400_000, 599_997),
-        steps,
-    )
-}
-
-// The arrow.
-fn is_bounded_by_4_507_499_steps(alloc: Global, steps: &mut Steps) -> Result<bool, AllocError>
-    ensures { IfOk result (λ same. IsTrue same → steps.new ≤ steps.old + 4_507_499) }
-{
-    has_places(
-        alloc,
-        arrow(alloc, 3_000)?,
-        3_000,
-        (5_999, 4_501_500),
-        steps,
+        CYCLE,
+        &mut Steps::new(),
     )
 }
 
 #[test]
-fn steps_are_bounded(rt: HostRuntime) -> Result<(), Fail> {
-    assert!(rt; is_bounded_by_999_997_steps(rt.alloc(), &mut Steps::new())?);
-    assert!(rt; is_bounded_by_4_507_499_steps(rt.alloc(), &mut Steps::new())?);
-    Ok(())
+fn a_cycle_comes_to_its_end(rt: HostRuntime) {
+    assert!(rt; matches!(a_cycle_is_factored(rt.alloc()), Ok(true)));
+    assert!(rt; matches!(a_cycle_is_factored_in_steps(rt.alloc()), Ok(true)));
+}
+
+const ARROW: (usize, usize) = (5_999, 4_501_500);
+
+fn an_arrow_is_factored(alloc: Global) -> Result<bool, AllocError> {
+    has_factor(alloc, arrow(alloc, 3_000)?, 3_000, ARROW)
+}
+
+// The same in at most as many steps as both have entries.
+fn an_arrow_is_factored_in_steps(alloc: Global) -> Result<bool, AllocError> {
+    has_places(alloc, arrow(alloc, 3_000)?, 3_000, ARROW, &mut Steps::new())
+}
+
+#[test]
+fn an_arrow_comes_to_its_end(rt: HostRuntime) {
+    assert!(rt; matches!(an_arrow_is_factored(rt.alloc()), Ok(true)));
+    assert!(rt; matches!(an_arrow_is_factored_in_steps(rt.alloc()), Ok(true)));
 }

@@ -5,8 +5,6 @@
 #[cfg(test)]
 mod compared_factors;
 #[cfg(test)]
-mod compared_triangles;
-#[cfg(test)]
 mod counted_factors;
 #[cfg(test)]
 mod generated;

@@ -20,51 +20,32 @@ const REFUSED: &[Refused] = &[
     (1, &[0, 2], &[0, 1], 3),
 ];
 
-// Whether arrays of rows of length 4 are refused with these values.
-fn refuses_rows(
+// Whether arrays of lanes of length 4 are refused with these values, by rows or by columns.
+fn refuses(
     alloc: Global,
-    &(nrows, offsets, indices, _): &Refused,
+    &(lanes, offsets, indices, _): &Refused,
+    by_rows: bool,
     values: Vec<Rc<i32>>,
 ) -> Result<bool, AllocError> {
     let (offsets, indices) = (offsets.to_vec(alloc)?, indices.to_vec(alloc)?);
-    Ok(CsrMatrix::try_from_csr_data(nrows, 4, offsets, indices, values).is_err())
+    if by_rows {
+        return Ok(CsrMatrix::try_from_csr_data(lanes, 4, offsets, indices, values).is_err());
+    }
+    Ok(CscMatrix::try_from_csc_data(4, lanes, offsets, indices, values).is_err())
 }
 
-// The same of columns of length 4.
-fn refuses_columns(
-    alloc: Global,
-    &(ncols, offsets, indices, _): &Refused,
-    values: Vec<Rc<i32>>,
-) -> Result<bool, AllocError> {
-    let (offsets, indices) = (offsets.to_vec(alloc)?, indices.to_vec(alloc)?);
-    Ok(CscMatrix::try_from_csc_data(4, ncols, offsets, indices, values).is_err())
-}
-
-// Whether arrays of rows are refused with copies of one value.
-fn refuses_rows_of_copies(alloc: Global, arrays: &Refused, one: &Rc<i32>) -> bool {
+// Whether arrays are refused with copies of one value.
+fn refuses_copies(alloc: Global, arrays: &Refused, by_rows: bool, one: &Rc<i32>) -> bool {
     match copies(alloc, one, arrays.3) {
-        Ok(values) => matches!(refuses_rows(alloc, arrays, values), Ok(true)),
+        Ok(values) => matches!(refuses(alloc, arrays, by_rows, values), Ok(true)),
         Err(_error) => false,
     }
 }
 
-// The same of columns.
-fn refuses_columns_of_copies(alloc: Global, arrays: &Refused, one: &Rc<i32>) -> bool {
-    match copies(alloc, one, arrays.3) {
-        Ok(values) => matches!(refuses_columns(alloc, arrays, values), Ok(true)),
-        Err(_error) => false,
-    }
-}
-
-// Whether arrays by rows and by columns are refused, and after each none of their values is left.
-fn drops_values_of_arrays(alloc: Global, arrays: &Refused) -> bool {
+// Whether arrays are refused, and none of their values is left.
+fn drops_values(alloc: Global, arrays: &Refused, by_rows: bool) -> bool {
     match Rc::new(alloc, 7) {
-        Ok(one) => {
-            refuses_rows_of_copies(alloc, arrays, &one)
-                && Rc::strong_count(&one) == 1
-                && refuses_columns_of_copies(alloc, arrays, &one)
-                && Rc::strong_count(&one) == 1
-        }
+        Ok(one) => { refuses_copies(alloc, arrays, by_rows, &one) && Rc::strong_count(&one) == 1 }
         Err(_error) => false,
     }
 }
@@ -72,55 +53,46 @@ fn drops_values_of_arrays(alloc: Global, arrays: &Refused) -> bool {
 #[test]
 fn refused_arrays_drop_their_values(rt: HostRuntime) {
     for (row, arrays) in REFUSED.iter().enumerate() {
-        assert!(rt; drops_values_of_arrays(rt.alloc(), arrays), "row {row}");
-    }
-}
-
-// Whether a pattern without entries refuses these values by rows.
-fn refuses_values_by_rows(alloc: Global, values: Vec<Rc<i32>>) -> bool {
-    match SparsityPattern::zeros(alloc, 1, 1) {
-        Ok(pattern) => CsrMatrix::try_from_pattern_and_values(pattern, values).is_err(),
-        Err(_error) => false,
-    }
-}
-
-// The same by columns.
-fn refuses_values_by_columns(alloc: Global, values: Vec<Rc<i32>>) -> bool {
-    match SparsityPattern::zeros(alloc, 1, 1) {
-        Ok(pattern) => CscMatrix::try_from_pattern_and_values(pattern, values).is_err(),
-        Err(_error) => false,
-    }
-}
-
-// Whether a pattern without entries refuses copies of one value by rows.
-fn refuses_copies_by_rows(alloc: Global, one: &Rc<i32>, count: usize) -> bool {
-    match copies(alloc, one, count) {
-        Ok(values) => refuses_values_by_rows(alloc, values),
-        Err(_error) => false,
-    }
-}
-
-// The same by columns.
-fn refuses_copies_by_columns(alloc: Global, one: &Rc<i32>, count: usize) -> bool {
-    match copies(alloc, one, count) {
-        Ok(values) => refuses_values_by_columns(alloc, values),
-        Err(_error) => false,
-    }
-}
-
-// Whether a pattern without entries refuses values by rows and by columns, and none of them is left.
-fn drops_values(alloc: Global, count: usize) -> bool {
-    match Rc::new(alloc, 7) {
-        Ok(one) => {
-            refuses_copies_by_rows(alloc, &one, count)
-                && refuses_copies_by_columns(alloc, &one, count)
-                && Rc::strong_count(&one) == 1
+        for by_rows in [true, false] {
+            assert!(rt; drops_values(rt.alloc(), arrays, by_rows), "row {row}");
         }
+    }
+}
+
+// Whether a pattern refuses these values, by rows or by columns.
+fn refuses_values(pattern: SparsityPattern, by_rows: bool, values: Vec<Rc<i32>>) -> bool {
+    if by_rows {
+        return CsrMatrix::try_from_pattern_and_values(pattern, values).is_err();
+    }
+    CscMatrix::try_from_pattern_and_values(pattern, values).is_err()
+}
+
+// Whether a pattern without entries refuses these values.
+fn pattern_refuses(alloc: Global, by_rows: bool, values: Vec<Rc<i32>>) -> bool {
+    match SparsityPattern::zeros(alloc, 1, 1) {
+        Ok(pattern) => refuses_values(pattern, by_rows, values),
+        Err(_error) => false,
+    }
+}
+
+// Whether a pattern without entries refuses three copies of one value.
+fn pattern_refuses_copies(alloc: Global, by_rows: bool, one: &Rc<i32>) -> bool {
+    match copies(alloc, one, 3) {
+        Ok(values) => pattern_refuses(alloc, by_rows, values),
+        Err(_error) => false,
+    }
+}
+
+// Whether a pattern without entries refuses values, and none of them is left.
+fn pattern_drops_values(alloc: Global, by_rows: bool) -> bool {
+    match Rc::new(alloc, 7) {
+        Ok(one) => pattern_refuses_copies(alloc, by_rows, &one) && Rc::strong_count(&one) == 1,
         Err(_error) => false,
     }
 }
 
 #[test]
 fn refused_values_of_a_pattern_are_dropped(rt: HostRuntime) {
-    assert!(rt; drops_values(rt.alloc(), 3));
+    assert!(rt; pattern_drops_values(rt.alloc(), true));
+    assert!(rt; pattern_drops_values(rt.alloc(), false));
 }

@@ -46,10 +46,25 @@ fn equal_keys_keep_their_order(alloc: Global) -> bool {
     }
 }
 
+// Only a list of 2^32 triplets is counted by `usize`, which is too long for a test.
+fn wide_counts_keep_the_order_of_equal_keys(alloc: Global) -> bool {
+    let keys = [1, 0, 1];
+    match key_offsets::<usize>(alloc, &keys, 2) {
+        Ok((_, mut cursors)) => {
+            let first = next_destination(&keys, 0, &mut cursors);
+            let second = next_destination(&keys, 1, &mut cursors);
+            let third = next_destination(&keys, 2, &mut cursors);
+            first == 1 && second == 0 && third == 2
+        }
+        Err(_error) => false,
+    }
+}
+
 #[test]
 fn keys_are_counted_and_placed(rt: HostRuntime) {
     assert!(rt; counts_of_32_bits(rt.alloc()));
     assert!(rt; counts_of_any_size(rt.alloc()));
     assert!(rt; counts_become_offsets(rt.alloc()));
     assert!(rt; equal_keys_keep_their_order(rt.alloc()));
+    assert!(rt; wide_counts_keep_the_order_of_equal_keys(rt.alloc()));
 }

@@ -37,11 +37,3 @@ pub fn matrices(rt: &HostRuntime, texts: &[&str]) -> io::Result<Vec<String>> {
     }
     Ok(paths)
 }
-
-/// Removes the files.
-pub fn remove_all(rt: &HostRuntime, paths: &[String]) -> io::Result<()> {
-    for path in paths {
-        fs::remove_file(rt, path.as_str())?;
-    }
-    Ok(())
-}

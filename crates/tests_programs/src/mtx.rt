@@ -5,17 +5,17 @@ mod fill_cases;
 mod refusals;
 mod short;
 
-use crate::files::{file, files, matrices, matrix, remove_all};
+use crate::files::{file, files, matrices, matrix};
 use crate::mtx::cases::{CASES, COLUMN_CASES, Case};
 use crate::mtx::fill_cases::{FILL_CASES, FillCase};
 use crate::mtx::refusals::{REFUSALS, Refusal, USAGE};
 use crate::mtx::short::with_room;
-use mtx_commands::{answer, command, finish};
+use mtx_commands::{answer, command};
 use sparse_io::Out;
 use std::alloc::{AllocError, Global};
+use std::env::Args;
 use std::io::{self, ErrorKind};
 use std::process::ExitCode;
-use std::test::Fail;
 
 const FAILED: &[u8] = b"mtx: write failed\n";
 
@@ -33,15 +33,15 @@ struct Answer {
     err: Vec<u8>,
 }
 
-// What a command answers over an output that takes this many bytes and then fails.
-fn answered(rt: &HostRuntime, words: &[&str], room: usize) -> Answer {
+// What a command answers over an output, and with a standard error, that take this many bytes and then fail.
+fn answered(rt: &HostRuntime, words: &[&str], room: usize, err_room: usize) -> Answer {
     let mut out = Out::new(with_room(rt.alloc(), room));
-    let mut err = Out::new(Vec::new(rt.alloc()));
+    let mut err = Out::new(with_room(rt.alloc(), err_room));
     let status = command(rt, words, &mut out, &mut err);
     Answer {
         status,
         out: out.into_inner().bytes,
-        err: err.into_inner(),
+        err: err.into_inner().bytes,
     }
 }
 
@@ -67,11 +67,9 @@ fn answered_on(
     first: &[&str],
     paths: &[String],
     room: usize,
-) -> io::Result<Answer> {
+) -> Result<Answer, AllocError> {
     let words = words_of(rt.alloc(), first, paths)?;
-    let answer = answered(rt, &words, room);
-    remove_all(rt, paths)?;
-    Ok(answer)
+    Ok(answered(rt, &words, room, usize::MAX))
 }
 
 // Whether a command wrote a text of this heading and these lines, and nothing else, with status 0.
@@ -96,47 +94,25 @@ fn is_wanted(answer: Answer, heading: &str, wanted: Result<&str, &str>) -> bool 
     }
 }
 
-// What `mtx rows` or `mtx cols` answers on files with these lines.
-fn calculated(
+// Whether `mtx rows` or `mtx cols` answers a case as it is wanted.
+fn is_calculated(
     rt: &HostRuntime,
     order: &str,
-    expression: &str,
-    lines: &[&str],
-) -> io::Result<Answer> {
+    &(expression, lines, wanted): &Case,
+) -> io::Result<bool> {
     let paths = matrices(rt, lines)?;
-    answered_on(rt, &[order, expression], &paths, usize::MAX)
-}
-
-// Whether `mtx rows` or `mtx cols` answers a case as it is wanted.
-fn is_calculated(rt: &HostRuntime, order: &str, case: &Case) -> io::Result<bool> {
-    let answer = calculated(rt, order, case.0, case.1)?;
-    Ok(is_wanted(answer, HEADING, case.2))
+    let answer = answered_on(rt, &[order, expression], &paths, usize::MAX)?;
+    Ok(is_wanted(answer, HEADING, wanted))
 }
 
 #[test]
-fn rows_of_files(rt: HostRuntime) -> Result<(), Fail> {
-    for case in CASES {
-        assert!(rt;
-            is_calculated(&rt, "rows", case)?,
-            "{} of {:?}",
-            case.0,
-            case.1
-        );
+fn rows_and_columns_of_files(rt: HostRuntime) {
+    for (order, cases) in [("rows", CASES), ("cols", COLUMN_CASES)] {
+        for (row, case) in cases.iter().enumerate() {
+            let is_calculated = is_calculated(&rt, order, case);
+            assert!(rt; matches!(is_calculated, Ok(true)), "{order} {row}");
+        }
     }
-    Ok(())
-}
-
-#[test]
-fn columns_of_files(rt: HostRuntime) -> Result<(), Fail> {
-    for case in COLUMN_CASES {
-        assert!(rt;
-            is_calculated(&rt, "cols", case)?,
-            "{} of {:?}",
-            case.0,
-            case.1
-        );
-    }
-    Ok(())
 }
 
 // Whether `mtx fill` answers a case as it is wanted.
@@ -147,11 +123,10 @@ fn is_filled(rt: &HostRuntime, &(words, text, wanted): &FillCase) -> io::Result<
 }
 
 #[test]
-fn fills_of_patterns(rt: HostRuntime) -> Result<(), Fail> {
-    for case in FILL_CASES {
-        assert!(rt; is_filled(&rt, case)?, "{:?} of {}", case.0, case.1);
+fn fills_of_patterns(rt: HostRuntime) {
+    for (row, case) in FILL_CASES.iter().enumerate() {
+        assert!(rt; matches!(is_filled(&rt, case), Ok(true)), "row {row}");
     }
-    Ok(())
 }
 
 // Whether a command is refused as it is wanted over an output that takes nothing.
@@ -162,41 +137,37 @@ fn is_refused(rt: &HostRuntime, &(words, texts, line, status): &Refusal) -> io::
 }
 
 #[test]
-fn each_refusal_has_its_line(rt: HostRuntime) -> Result<(), Fail> {
+fn each_refusal_has_its_line(rt: HostRuntime) {
     for case in REFUSALS {
-        assert!(rt; is_refused(&rt, case)?, "{:?}: {}", case.0, case.2);
+        assert!(rt; matches!(is_refused(&rt, case), Ok(true)), "{}", case.2);
     }
-    Ok(())
+}
+
+// Whether the text of a matrix ends where its output fails.
+fn is_cut(rt: &HostRuntime) -> io::Result<bool> {
+    let paths = matrices(rt, &["1 1 1\n1 1 5\n"])?;
+    let answer = answered_on(rt, &["rows", "1"], &paths, 3)?;
+    Ok(has_ended(answer, b"%%m", FAILED, 1))
 }
 
 #[test]
-fn a_failed_write_ends_the_text(rt: HostRuntime) -> Result<(), Fail> {
-    let paths = matrices(&rt, &["1 1 1\n1 1 5\n"])?;
-    let answer = answered_on(&rt, &["rows", "1"], &paths, 3)?;
-    assert!(rt; has_ended(answer, b"%%m", FAILED, 1));
-    Ok(())
+fn a_failed_write_ends_the_text(rt: HostRuntime) {
+    assert!(rt; matches!(is_cut(&rt), Ok(true)));
 }
 
-// Whether a fault in flushing is reported as a failed write.
-fn is_flush_reported(rt: &HostRuntime) -> bool {
+// Wrong usage whose line can't be written.
+#[test]
+fn a_failed_line_is_passed_over(rt: HostRuntime) {
+    assert!(rt; has_ended(answered(&rt, &[], usize::MAX, 0), &[], &[], 2));
+}
+
+// Whether the program ends with this status and this line, over an output that takes this many bytes and can't be
+// flushed.
+fn ends(rt: &HostRuntime, given: io::Result<Args>, room: usize, status: u8, line: &[u8]) -> bool {
+    let mut out = Out::new(with_room(rt.alloc(), room));
     let mut err = Out::new(Vec::new(rt.alloc()));
-    let mut out = Out::new(with_room(rt.alloc(), 0));
-    let status = finish(rt.alloc(), &mut out, &mut err);
-    status == 1 && err.into_inner().as_slice() == FAILED
-}
-
-// The status of wrong usage whose line can't be written.
-fn status_without_line(rt: &HostRuntime) -> u8 {
-    let mut out = Out::new(Vec::new(rt.alloc()));
-    let mut silent = Out::new(with_room(rt.alloc(), 0));
-    command(rt, &[], &mut out, &mut silent)
-}
-
-// A fault in flushing is a failed write too, and one in writing the line is passed over.
-#[test]
-fn failed_flushes_and_lines(rt: HostRuntime) {
-    assert!(rt; is_flush_reported(&rt));
-    assert!(rt; status_without_line(&rt) == 2);
+    let code = answer(rt, given, &mut out, &mut err);
+    code == ExitCode::from(status) && err.into_inner().as_slice() == line
 }
 
 // The status and the line of an error where the arguments can't be read.
@@ -205,19 +176,11 @@ const UNREAD: [(ErrorKind, u8, &str); 2] = [
     (ErrorKind::OutOfMemory, 1, "mtx: out of memory\n"),
 ];
 
-// Whether arguments that can't be read for this reason are answered with this status and this line.
-fn is_answered(rt: &HostRuntime, &(kind, status, line): &(ErrorKind, u8, &str)) -> bool {
-    let mut out = Out::new(Vec::new(rt.alloc()));
-    let mut err = Out::new(Vec::new(rt.alloc()));
-    let given = Err(io::Error::from(kind));
-    let code = answer(rt, given, &mut out, &mut err);
-    code == ExitCode::from(status) && err.into_inner().as_slice() == line.as_bytes()
-}
-
 #[test]
 fn arguments_that_are_no_text_or_fit_no_memory(rt: HostRuntime) {
-    for case in &UNREAD {
-        assert!(rt; is_answered(&rt, case), "{}", case.2);
+    for &(kind, status, line) in &UNREAD {
+        let given = Err(io::Error::from(kind));
+        assert!(rt; ends(&rt, given, 0, status, line.as_bytes()), "{line}");
     }
 }
 
@@ -230,27 +193,23 @@ fn arguments(alloc: Global, path: &str) -> Result<Vec<String>, AllocError> {
     Ok(arguments)
 }
 
-// Whether `mtx rows 1` of this file fails on a stream that takes this many bytes and can't be flushed.
-fn fails_on_short(rt: &HostRuntime, path: &str, room: usize) -> Result<bool, AllocError> {
-    let given = arguments(rt.alloc(), path)?;
-    let mut out = Out::new(with_room(rt.alloc(), room));
-    let mut err = Out::new(Vec::new(rt.alloc()));
-    let status = answer(rt, Ok(given.into_iter()), &mut out, &mut err);
-    Ok(status == ExitCode::FAILURE && err.into_inner().as_slice() == FAILED)
+// Whether `mtx rows 1` of a file fails on a stream that takes this many bytes and can't be flushed.
+fn fails_on_short(rt: &HostRuntime, room: usize) -> io::Result<bool> {
+    let path = matrix(rt, 0, "0 0 0\n")?;
+    let given = arguments(rt.alloc(), path.as_str())?;
+    Ok(ends(rt, Ok(given.into_iter()), room, 1, FAILED))
 }
 
 #[test]
-fn a_failed_flush_is_a_failed_write(rt: HostRuntime) -> Result<(), Fail> {
-    let path = matrix(&rt, 0, "0 0 0\n")?;
+fn a_failed_flush_is_a_failed_write(rt: HostRuntime) {
     for room in [9, 999] {
-        assert!(rt; fails_on_short(&rt, path.as_str(), room)?, "{room}");
+        assert!(rt; matches!(fails_on_short(&rt, room), Ok(true)), "{room}");
     }
-    Ok(())
 }
 
 // Whether `mtx rows 1` of two files ends with status 1 and this line on standard error, and writes nothing else.
 fn refuses(rt: &HostRuntime, first: &str, second: &str, line: &[u8]) -> bool {
-    let answer = answered(rt, &["rows", "1", first, second], usize::MAX);
+    let answer = answered(rt, &["rows", "1", first, second], usize::MAX, usize::MAX);
     has_ended(answer, &[], line, 1)
 }
 
@@ -260,13 +219,18 @@ fn is_named(rt: &HostRuntime, path: &str, readable: &str) -> bool {
         && refuses(rt, readable, path, b"mtx: input 2: IOError\n")
 }
 
-// A missing file, a folder, and a file that is not UTF-8.
+// Whether a missing file, a folder, and a file that is not UTF-8 are named.
+fn are_named(rt: &HostRuntime) -> io::Result<bool> {
+    let readable = matrix(rt, 0, "1 1 1\n1 1 5\n")?;
+    let bytes = file(rt, 1, &[0x25, 0xff, 0xfe])?;
+    Ok(
+        is_named(rt, "/no/such/file.mtx", readable.as_str())
+            && is_named(rt, "/tmp", readable.as_str())
+            && is_named(rt, bytes.as_str(), readable.as_str()),
+    )
+}
+
 #[test]
-fn files_that_cannot_be_read(rt: HostRuntime) -> Result<(), Fail> {
-    let readable = matrix(&rt, 0, "1 1 1\n1 1 5\n")?;
-    let bytes = file(&rt, 1, &[0x25, 0xff, 0xfe])?;
-    for path in ["/no/such/file.mtx", "/tmp", bytes.as_str()] {
-        assert!(rt; is_named(&rt, path, readable.as_str()), "{path}");
-    }
-    Ok(())
+fn files_that_cannot_be_read(rt: HostRuntime) {
+    assert!(rt; matches!(are_named(&rt), Ok(true)));
 }

@@ -2,12 +2,13 @@
 //!
 //! A test runs in a folder of its own that it may write to, so a file is named without a folder.
 
+use crate::matrices::list;
+use sparse_algebra::scalar::W64;
 use sparse_coo_dense::coo::CooMatrix;
 use sparse_io::{
     Banner, MatrixMarketErrorKind, load_coo_from_matrix_market_file, save_to_matrix_market_file,
     save_to_matrix_market_file_with,
 };
-use std::alloc::{AllocError, Global};
 use std::fs::{self, remove_file};
 use std::io::ErrorKind;
 
@@ -19,25 +20,9 @@ pub fn refusal(rt: &HostRuntime, path: &str) -> Option<MatrixMarketErrorKind> {
     }
 }
 
-// The list of these triplets; those outside the shape are left out.
-fn matrix(
-    alloc: Global,
-    nrows: usize,
-    ncols: usize,
-    triplets: &[(usize, usize, i32)],
-) -> Result<CooMatrix<i32>, AllocError> {
-    let mut matrix = CooMatrix::new(alloc, nrows, ncols);
-    for (row, col, value) in triplets {
-        if *row < matrix.nrows() && *col < matrix.ncols() {
-            matrix.push(*row, *col, *value)?;
-        }
-    }
-    Ok(matrix)
-}
-
 // Whether a file means this list.
-fn is_read(rt: &HostRuntime, path: &str, matrix: &CooMatrix<i32>) -> bool {
-    match load_coo_from_matrix_market_file::<i32>(rt, path) {
+fn is_read(rt: &HostRuntime, path: &str, matrix: &CooMatrix<W64>) -> bool {
+    match load_coo_from_matrix_market_file::<W64>(rt, path) {
         Ok(again) => again == *matrix,
         Err(_) => false,
     }
@@ -45,7 +30,7 @@ fn is_read(rt: &HostRuntime, path: &str, matrix: &CooMatrix<i32>) -> bool {
 
 // Whether a list that is written to a file is read from it again.
 fn is_kept(rt: &HostRuntime, path: &str) -> bool {
-    match matrix(rt.alloc(), 2, 3, &[(1, 2, -5), (0, 0, 7)]) {
+    match list(rt.alloc(), 2, 3, &[(1, 2, -5), (0, 0, 7)]) {
         Ok(matrix) => {
             save_to_matrix_market_file(rt, &matrix, path).is_ok() && is_read(rt, path, &matrix)
         }
@@ -69,7 +54,7 @@ fn begins(rt: &HostRuntime, path: &str, start: &str) -> bool {
 
 // Whether the file of a list begins with the word of this banner, and with `%%matrixmarket` if there is none.
 fn begins_as_asked(rt: &HostRuntime, path: &str) -> bool {
-    let Ok(matrix) = matrix(rt.alloc(), 1, 1, &[(0, 0, 1)]) else {
+    let Ok(matrix) = list(rt.alloc(), 1, 1, &[(0, 0, 1)]) else {
         return false;
     };
     save_to_matrix_market_file_with(rt, &matrix, path, Banner::MixedCase).is_ok()
@@ -109,7 +94,7 @@ fn refuses_files_that_cannot_be_read(rt: HostRuntime) {
 
 // Whether a list of one triplet is refused by a file for this reason.
 fn is_refused(rt: &HostRuntime, path: &str, kind: MatrixMarketErrorKind) -> bool {
-    let Ok(matrix) = matrix(rt.alloc(), 1, 1, &[(0, 0, 1)]) else {
+    let Ok(matrix) = list(rt.alloc(), 1, 1, &[(0, 0, 1)]) else {
         return false;
     };
     match save_to_matrix_market_file(rt, &matrix, path) {

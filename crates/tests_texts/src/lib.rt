@@ -1,5 +1,4 @@
-//! Tests of hostile and of long Matrix Market texts, of files, of a user's scalar type, of byte sinks, and of
-//! expressions beside slow programs.
+//! Tests of hostile and of long Matrix Market texts, of files, of byte sinks, and of expressions beside slow programs.
 #![tactic(auto)]
 
 #[cfg(test)]
@@ -10,8 +9,6 @@ mod failing_writers;
 mod files;
 #[cfg(test)]
 mod hostile;
-#[cfg(test)]
-mod label;
 #[cfg(test)]
 mod matrices;
 #[cfg(test)]

@@ -6,8 +6,8 @@ ghost use Rattle.c_arrays.specs.Arrays.{place_count, ring64, output_arrays};
 ghost use Rattle.c_arrays.specs.Statuses.{number_of};
 ghost use Rattle.c_arrays.specs.declared.refusal.Refusal.TheVariants.{EmptyHandle};
 ghost use Rattle.c_handles.specs.Held.{plain_held, Answers};
-ghost use Rattle.c_handles.specs.Factored.{l_held, product_held, HasNoFactors, HasNoSystem};
-ghost use Rattle.c_handles.specs.Factored.{HoldsFactors, IsUnfactored};
+ghost use Rattle.c_handles.specs.Factored.{l_held, product_held, size_held, HasNoFactors};
+ghost use Rattle.c_handles.specs.Factored.{HasNoSystem, HoldsFactors, IsUnfactored};
 ghost use Rattle.c_handles.specs.Solved.{triangle_of, IsUnsolved, SolvesInPlace};
 ghost use Rattle.c_handles.specs.declared.solving.Triangle.TheVariants.{Lower, Upper};
 ghost use Rattle.sparse_c.specs.Factors.{WritesHeldFactors};
@@ -79,8 +79,8 @@ pub extern "C" fn nalgebra_sparse_matrix_factor(
     status!(factor(alloc, a, out))
 }
 
-/// Replaces B by the X for which `L D Lᵀ X = B`, with the factors that a handle holds. B and X are dense matrices with
-/// `cols` columns, stored column by column.
+/// Replaces B by the X for which `A X = B`, with the factors that a handle holds: A is `L D Lᵀ`, or `Pᵀ L D Lᵀ P` for
+/// factors with a permutation P. B and X are dense matrices with `cols` columns, stored column by column.
 #[unsafe(no_mangle)]
 pub extern "C" fn nalgebra_sparse_factors_solve(
     alloc: Global,
@@ -90,9 +90,9 @@ pub extern "C" fn nalgebra_sparse_factors_solve(
 ) -> i32
     ensures kept { factors.new.value ≡ factors.old.value }
     ensures missing { factors.old.value ≡ None → result ≡ number_of EmptyHandle }
-    ensures answer { let m = product_held factors.old.value in
-        Answers result (HasNoSystem factors.old.value cols values.old) (values.new ≡ values.old)
-        (SolvesInPlace m m.rows cols values.old values.new) }
+    ensures answer { Answers result (HasNoSystem factors.old.value cols values.old)
+        (values.new ≡ values.old) (SolvesInPlace (product_held factors.old.value)
+        (size_held factors.old.value) cols values.old values.new) }
 {
     status!(solve_factored(alloc, factors, cols, values))
 }

@@ -13,7 +13,7 @@ ghost use Rattle.c_arrays.specs.declared.refusal.Refusal.TheVariants.{TooSmall};
 use c_arrays::refusal::Refusal;
 use c_arrays::texts::finish_text;
 use sparse_coo_dense::coo::CooMatrix;
-use sparse_io::save_to_matrix_market_str;
+use sparse_io::{Banner, save_to_matrix_market_str_with};
 use std::alloc::Global;
 
 /// Writes the length of the text of a list of triplets in Matrix Market format.
@@ -95,5 +95,5 @@ fn text_of_list(
     let col_indices = col_indices.to_vec(alloc)?;
     let values = values.to_vec(alloc)?;
     let list = CooMatrix::try_from_triplets(rows, cols, row_indices, col_indices, values)?;
-    Ok(save_to_matrix_market_str(alloc, &list)?)
+    Ok(save_to_matrix_market_str_with(alloc, &list, Banner::MixedCase)?)
 }

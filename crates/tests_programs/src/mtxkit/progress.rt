@@ -5,9 +5,9 @@ use crate::mtxkit::{BROKEN_PIPE, Closed, arguments};
 use mtxkit_commands::answer;
 use mtxkit_texts::{Screen, Terminal, progress_line, read_shown};
 use sparse_io::Out;
+use std::alloc::{AllocError, Global};
 use std::io::{self, ErrorKind, Read, Write};
 use std::process::ExitCode;
-use std::test::Fail;
 
 const MEGABYTE: u64 = 1_000_000;
 
@@ -61,13 +61,19 @@ const LINES: [(u64, u64, &str); 3] = [
     ),
 ];
 
-#[test]
-fn a_line_names_the_file_and_counts_megabytes(rt: HostRuntime) -> Result<(), Fail> {
-    for (done, whole, wanted) in &LINES {
-        let line = progress_line(rt.alloc(), "a.mtx", *done, *whole)?;
-        assert!(rt; line.as_str() == *wanted, "{line:?}");
+// Whether a line is written so.
+fn is_line(alloc: Global, &(done, whole, wanted): &(u64, u64, &str)) -> bool {
+    match progress_line(alloc, "a.mtx", done, whole) {
+        Ok(line) => line.as_str() == wanted,
+        Err(AllocError) => false,
     }
-    Ok(())
+}
+
+#[test]
+fn a_line_names_the_file_and_counts_megabytes(rt: HostRuntime) {
+    for case in &LINES {
+        assert!(rt; is_line(rt.alloc(), case), "{}", case.2);
+    }
 }
 
 const ALL_LINES: &str =
@@ -96,29 +102,26 @@ fn is_shown(rt: &HostRuntime, &(is_terminal, least, wanted): &(bool, u64, &str))
 #[test]
 fn large_files_are_shown_on_terminals_alone(rt: HostRuntime) {
     for case in &SCREENS {
-        assert!(rt; is_shown(&rt, case), "{case:?}");
+        assert!(rt; is_shown(&rt, case), "{}", case.1);
     }
 }
 
-// The error of a file whose second megabyte cannot be read, and what was shown.
-fn torn(rt: &HostRuntime) -> (Option<ErrorKind>, Vec<u8>) {
+// Whether a file whose second megabyte cannot be read ends so, and its progress is shown. The line of the error begins
+// below.
+fn is_torn(rt: &HostRuntime) -> bool {
     let mut shown = Vec::new(rt.alloc());
     let mut screen = terminal(&mut shown, 0, MEGABYTE);
     let file = io::repeat(b'1').take(MEGABYTE).chain(Closed(BROKEN_PIPE));
-    let kind = match read_shown(rt.alloc(), file, "a.mtx", 2 * MEGABYTE, &mut screen) {
-        Ok(_) => None,
-        Err(error) => Some(error.kind()),
+    let is_reset = match read_shown(rt.alloc(), file, "a.mtx", 2 * MEGABYTE, &mut screen) {
+        Ok(_) => false,
+        Err(error) => error.kind() == ErrorKind::ConnectionReset,
     };
-    (kind, shown)
+    is_reset && shown.as_slice() == b"\rmtxkit: a.mtx: 1 of 2 MB read\n".as_slice()
 }
 
-// The line of the error begins below the one of the progress.
 #[test]
 fn a_failed_read_ends_the_line(rt: HostRuntime) {
-    let (kind, shown) = torn(&rt);
-    let wanted = "\rmtxkit: a.mtx: 1 of 2 MB read\n";
-    assert!(rt; kind == Some(ErrorKind::ConnectionReset));
-    assert!(rt; shown.as_slice() == wanted.as_bytes());
+    assert!(rt; is_torn(&rt));
 }
 
 // Whether a text is read although the screen takes nothing.
@@ -136,23 +139,20 @@ fn a_screen_that_fails_is_no_error(rt: HostRuntime) {
     assert!(rt; is_read_unseen(&rt));
 }
 
-// What a command shows of its file.
-fn shown_of(rt: &HostRuntime, path: String) -> io::Result<(ExitCode, Vec<u8>)> {
+// Whether a command shows the path of its file.
+fn is_path_shown(rt: &HostRuntime) -> io::Result<bool> {
+    let path = matrix(rt, 0, "1 1 0\n")?;
     let given = arguments(rt.alloc(), &["info"], &[path])?;
     let mut shown = Vec::new(rt.alloc());
     let screen = terminal(&mut shown, 1, 1000);
     let stdin: &[u8] = &[];
     let (mut out, mut err) = (Out::new(io::sink()), Out::new(io::sink()));
     let status = answer(rt, Ok(given.into_iter()), stdin, &mut out, &mut err, screen);
-    Ok((status, shown))
+    let wanted = b"\rmtxkit: 0.mtx: 0 of 0 MB read\n".as_slice();
+    Ok(status == ExitCode::SUCCESS && shown.as_slice() == wanted)
 }
 
 #[test]
-fn a_command_shows_the_path_of_its_file(rt: HostRuntime) -> Result<(), Fail> {
-    let path = matrix(&rt, 0, "1 1 0\n")?;
-    let (status, shown) = shown_of(&rt, path)?;
-    assert!(rt; status == ExitCode::SUCCESS);
-    let wanted = "\rmtxkit: 0.mtx: 0 of 0 MB read\n";
-    assert!(rt; shown.as_slice() == wanted.as_bytes());
-    Ok(())
+fn a_command_shows_the_path_of_its_file(rt: HostRuntime) {
+    assert!(rt; matches!(is_path_shown(&rt), Ok(true)));
 }

@@ -10,14 +10,13 @@ use denote.Struct.Struct.{exits_of}
 use Rattle.std.specs.Prelude.{Option, None, Some}
 use Rattle.std_alloc.proofs.SendSync.{quiet, lies}
 use Rattle.std_heap.proofs.GlobalAllocator.TheSendSync.{the_frees}
-use Rattle.sparse_algebra.specs.declared.scalar.wrapping.W64.{W64}
-use Rattle.sparse_factor.specs.Factors.{Factors}
+use Rattle.c_handles.specs.declared.held_factors.HeldFactors.{HeldFactors}
 use Rattle.c_handles.proofs.handle.SharedFactors.TheSendSync.{the_send as shared_send}
 use Rattle.c_handles.specs.Owned.{heap, owns_at}
 use Rattle.c_handles.specs.contracts.handle.FactorHandle.{the_row, the_type}
 use Rattle.c_handles.specs.contracts.handle.SharedFactors.{the_row as shared_row}
 
-owned : (p : Ptr) (x : Option (Factors W64)) → Keyless (owns_at shared_row p x)
+owned : (p : Ptr) (x : Option HeldFactors) → Keyless (owns_at shared_row p x)
 owned p None = tt
 owned p (Some m) =
     (lies shared_row shared_send p m, the_frees.frees heap (raw (lone shared_row.mir)) p)

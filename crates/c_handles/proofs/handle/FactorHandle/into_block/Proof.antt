@@ -32,8 +32,7 @@ use Rattle.std.specs.declared.option.Option.TheVariants.{None, Some}
 use Rattle.std.proofs.raw_atomic.Walks.{proved_at, leaves}
 use Rattle.std_alloc.proofs.ResultValues.{and_tt}
 use Rattle.c_handles.specs.Owned.{in_block, owns_at}
-use Rattle.sparse_factor.specs.Factors.{Factors}
-use Rattle.sparse_algebra.specs.declared.scalar.wrapping.W64.{W64}
+use Rattle.c_handles.specs.declared.held_factors.HeldFactors.{HeldFactors}
 use Rattle.c_handles.specs.contracts.handle.SharedFactors.{the_row as shared_row}
 use Rattle.c_handles.proofs.HandleSteps.{pointer_good, pointer_in, pointer_out, word}
 use Rattle.c_handles.proofs.HandleSteps.{word_good}
@@ -54,14 +53,14 @@ module _ {M : Type 1} {𝓤 : Ura M} (𝓛 : Logic 𝓤) (𝓜 : Model 𝓤 𝓛
     (us : List Val) where
   open 𝓛 use {H}
 
-  abbrev bound : Option (Factors W64)
+  abbrev bound : Option HeldFactors
       → (walk_of 𝓛 f.ended stayed (f.clauses 𝓛 𝓜.mem 𝓡.returns)).Ghost
   bound x = ((tt, tt, tt, (record { at = p; value = x }, tt), (us, tt)), tt)
 
-  abbrev Post : Option (Factors W64) → Val → SProp 𝓤
+  abbrev Post : Option HeldFactors → Val → SProp 𝓤
   Post x = (walk_of 𝓛 f.ended stayed (f.clauses 𝓛 𝓜.mem 𝓡.returns)).post (bound x)
 
-  abbrev Runs : Option (Factors W64) → Ptr → SProp 𝓤
+  abbrev Runs : Option HeldFactors → Ptr → SProp 𝓤
   Runs x q = let 𝓣 = tables 𝓤 H 𝓜 𝓡 𝓡.env in
       WpFn 𝓤 H 𝓣.C 𝓣.Λ code.function (word q ∷ []) (Post x)
 
@@ -84,7 +83,7 @@ module _ {M : Type 1} {𝓤 : Ura M} (𝓛 : Logic 𝓤) (𝓜 : Model 𝓤 𝓛
       (live 0 (of_list [])) None (tt, tt) (tt, tt)))
       (λ t. absurd t))
 
-  some_at : (x : Factors W64) (b o : ℕ) → Testable (block_ptr b o)
+  some_at : (x : HeldFactors) (b o : ℕ) → Testable (block_ptr b o)
       → ent 𝓤 (sep 𝓤 (sem 𝓛 (in_block shared_row (block_ptr b o) x)) (sem 𝓛 ftrue))
       (Runs (Some x) (block_ptr b o))
   some_at x b o may =

@@ -3,7 +3,8 @@ use Rattle.std.proofs.lemmas.Result.{err_from_is_err_and}
 use Rattle.std.specs.Fmt.{signed_decimal}
 use Rattle.sparse_coo_dense.specs.Coo.{coo_of, zip_triplets}
 use Rattle.sparse_coo_dense.specs.TripletFaults.{IsFirstTripletFault}
-use Rattle.sparse_io.specs.Written.{text_of}
+use Rattle.sparse_io.specs.Written.{text_with}
+use Rattle.sparse_io.specs.declared.banner.Banner.TheVariants.{MixedCase}
 use Rattle.sparse_c.proofs.texts.writing.text_of_list.Goals as goal
 
 pub returns-clause-text : goal.returns-clause-text
@@ -11,8 +12,8 @@ returns-clause-text c =
     let is = c.in_ok-row_indices.ensures.items_if_clones_equal (λ x y e. e) in
     let js = c.in_ok-col_indices.ensures.items_if_clones_equal (λ x y e. e) in
     let vs = c.in_ok-values.ensures.items_if_clones_equal (λ x y e. e) in
-    c.in_ok-save_to_matrix_market_str.ensures
-    ∙ ap (text_of (codes "integer") signed_decimal) (c.in_ok-list.ensures.ok
+    c.in_ok-save_to_matrix_market_str_with.ensures
+    ∙ ap (text_with MixedCase (codes "integer") signed_decimal) (c.in_ok-list.ensures.ok
     ∙ (λ k. coo_of c.args.shape.0 c.args.shape.1 (zip_triplets (is k) (js k) (vs k))))
 
 pub returns-in_err-list-clause-fault : goal.returns-in_err-list-clause-fault

@@ -1,5 +1,5 @@
 use Rattle.std.proofs.Common.{ap, ◌∙◌}
-use Rattle.tests_matrices.proofs.sizes.is_updated_in_steps.Goals as goal
+use Rattle.tests_matrices.proofs.sizes.updated_in_steps.Goals as goal
 
 -- the product has its own entries
 pub spmm_csr_prealloc_unchecked_counted-computed-requires-clause-covered :
