@@ -63,7 +63,7 @@ const TEXT: &str =
 // Whether a text was written, and ends with these lines.
 fn ends(written: Result<String, MatrixMarketError>, lines: &str) -> bool {
     match written {
-        Ok(text) => text.as_str().ends_with(lines),
+        Ok(output) => output.as_str().ends_with(lines),
         Err(_error) => false,
     }
 }
