@@ -30,7 +30,8 @@ fn push_places(alloc: Global, lines: &mut String, counts: FillCounts) -> Result<
 {
     push_count(alloc, lines, "places", counts.places)?;
     push_count(alloc, lines, "places of the lower triangle", counts.lower)?;
-    push_count(alloc, lines, "places of the factor", counts.factor)
+    push_count(alloc, lines, "places of the factor", counts.factor)?;
+    Ok(())
 }
 
 // Returns the number of places of the factor that are fill.
