@@ -2,4 +2,5 @@ mod Listed
 mod Solving
 mod Readings
 mod Reports
+mod Evaluating
 mod GivenCommands
