@@ -3,4 +3,5 @@ mod Solving
 mod OrderRefusals
 mod Readings
 mod Reports
+mod Evaluating
 mod GivenCommands
