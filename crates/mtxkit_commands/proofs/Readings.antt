@@ -1,12 +1,16 @@
 -- The record of files that were read one after the other.
 use Rattle.std.proofs.Common.{◌≡◌, ◌+◌, ◌<◌, ◌≤◌, ℕ, List, [], ◌∷◌, ◌++◌, Ok, length, take, drop, get_or, map}
 use Rattle.std.proofs.Common.{refl, sym, ap, subst, ◌∙◌, append_assoc, take-append-drop, length-append, arith}
+use Rattle.std.proofs.Common.{◌≢◌, ◌-◌, zero, suc}
+use Rattle.std.specs.Prelude.{slice_get}
+use Rattle.std.specs.Option.{option_map}
+use Rattle.std.proofs.lemmas.Option.{slice_get-map}
 use Rattle.std.proofs.lemmas.List.{map-append, take_all, take_more, length-map, length-take-le}
 use denote.Ref.{Bor}
 use Rattle.mtxkit_texts.specs.declared.failure.Failure.{Failure}
 use Rattle.mtxkit_commands.specs.Inputs.{Reading, IsRead, IsUnread, AreRead, IsFirstUnread}
 use Rattle.mtxkit_commands.specs.Inputs.{after_reading}
-use Rattle.mtxkit_commands.specs.Names.{paths}
+use Rattle.mtxkit_commands.specs.Names.{path_at, paths}
 
 -- the record of three files, whose texts are `p'`, `q'` and `w'`
 pub three-read : (a x b : List ℕ) (r s t u : List Reading) (p q w p' q' w' : List ℕ)
@@ -74,3 +78,12 @@ pub all-read : (files : List (Bor (List ℕ))) (k : ℕ) (ts : List (List ℕ)) 
     → length files ≤ k → AreRead (paths (take k files)) ts old new → AreRead (paths files) ts old new
 all-read files k ts old new past read =
     subst (λ l. AreRead (paths l) ts old new) (take_all k files past) read
+
+-- the path with a number, counted from 1
+pub path-at : (files : List (Bor (List ℕ))) (number : ℕ) → number ≢ 0
+    → path_at (paths files) number ≡ option_map (λ path. path.now) (slice_get files (number - 1))
+path-at files zero some = absurd (some refl)
+path-at files (suc n) some =
+    let less : n ≡ suc n - 1 = omega arith in
+    slice_get-map (λ (file : Bor (List ℕ)). file.now) files n
+    ∙ ap (λ k. option_map (λ (path : Bor (List ℕ)). path.now) (slice_get files k)) less

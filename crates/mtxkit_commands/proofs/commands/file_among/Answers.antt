@@ -1,0 +1,12 @@
+use Rattle.std.proofs.Common.{◌≡◌, ◌-◌, ap, sym, ◌∙◌}
+use Rattle.std.specs.Prelude.{slice_get}
+use Rattle.std.specs.Option.{option_map}
+use Rattle.mtxkit_commands.proofs.Readings.{path-at}
+use Rattle.mtxkit_commands.proofs.commands.file_among.Goals as goal
+
+pub returns : goal.returns
+returns c =
+    let is : c.copied.result ≡ slice_get c.args.files.now (c.args.number - 1) =
+    c.copied.ensures ∙ c.get.ensures.lookup in
+    ap (option_map (λ path. path.now)) is
+    ∙ sym (path-at c.args.files.now c.args.number c.if-number-eq0.false)
