@@ -17,7 +17,7 @@ pub enum Order<'a> {
     Natural,
     /// The approximate minimum degree order (Amestoy, Davis and Duff 1996), with little fill.
     MinimumDegree,
-    /// The reverse Cuthill-McKee order (Cuthill and McKee 1969, George 1971), with entries close to the diagonal.
+    /// The reverse Cuthill-McKee order (Cuthill and `McKee` 1969, George 1971), with entries close to the diagonal.
     ReverseCuthillMckee,
     /// This permutation.
     Given(&'a [usize]),

@@ -152,9 +152,9 @@ where
 }
 
 // Runs the command that `clap` matched, without a flush of the output.
-fn run_matched<'a, R, T, W, E>(
+fn run_matched<R, T, W, E>(
     rt: &R,
-    matches: &'a ArgMatches<'a>,
+    matches: &ArgMatches<'_>,
     texts: &mut T,
     out: &mut W,
     err: &mut E,

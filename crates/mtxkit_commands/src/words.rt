@@ -31,7 +31,7 @@ pub fn parse<'a>(alloc: Global, words: &'a [String]) -> Result<ArgMatches<'a>, E
 
 /// Returns the command that `clap` matched, or `None` if `clap` accepts an argument that the command does not have. The
 /// size of a picture is not 0.
-pub fn command_of<'a>(matches: &'a ArgMatches<'a>) -> Option<Command<'a>>
+pub fn command_of<'m, 'a>(matches: &'m ArgMatches<'a>) -> Option<Command<'m>>
     ensures sized { IfSome result IsSized }
     ensures named { IfSome result
         (λ command. subcommand_name_of matches.now ≡ Some (command_name command)) }
@@ -43,7 +43,7 @@ pub fn command_of<'a>(matches: &'a ArgMatches<'a>) -> Option<Command<'a>>
 }
 
 // Returns the command with this name and these arguments.
-fn named_command<'a>(name: &str, words: &'a ArgMatches<'a>) -> Option<Command<'a>>
+fn named_command<'m, 'a>(name: &str, words: &'m ArgMatches<'a>) -> Option<Command<'m>>
     ensures sized { IfSome result IsSized }
     ensures named { IfSome result (λ command. name.now ≡ command_name command) }
     ensures given { IfSome result (GivesCommand (found_of words.now)) }
@@ -222,7 +222,7 @@ fn fill_order<'a>(name: Option<&'a str>) -> FillOrder<'a>
     }
 }
 
-fn eval_of<'a>(words: &'a ArgMatches<'a>) -> Option<Command<'a>>
+fn eval_of<'m, 'a>(words: &'m ArgMatches<'a>) -> Option<Command<'m>>
     ensures sized { IfSome result IsSized }
     ensures named { IfSome result (λ command. command_name command ≡ codes "eval") }
     ensures given { IfSome result (GivesCommand (found_of words.now)) }

@@ -18,8 +18,8 @@ pub returns-in-Ok-clause-answer : goal.returns-in-Ok-clause-answer
 returns-in-Ok-clause-answer g c = record {
   texts = map string_bytes c.in_ok-contents.contents.items;
   read = c.in_ok-contents.ensures.read;
-  holds = subst (WritesValue c.args.modulus c.args.order c.args.words.now
-      (map string_bytes c.in_ok-contents.contents.items)) (sym c.into_bytes.ensures.value)
+  holds = subst (λ v. WritesValue c.args.modulus c.args.order c.args.words.now
+      (map string_bytes c.in_ok-contents.contents.items) v.items) (sym c.into_bytes.ensures.value)
       (subst (λ texts. WritesValue c.args.modulus c.args.order c.args.words.now
       (map string_bytes texts) (string_bytes c.in-Ok.written)) c.deref.ensures.value
       c.in-Ok.ensures.written);
