@@ -52,7 +52,12 @@ fn push_costs(alloc: Global, lines: &mut String, counts: FillCounts) -> Result<(
 {
     push_products(alloc, lines, counts.products)?;
     push_count(alloc, lines, "longest column", counts.longest)?;
-    push_count(alloc, lines, "height of the elimination tree", counts.height)
+    push_count(
+        alloc,
+        lines,
+        "height of the elimination tree",
+        counts.height,
+    )
 }
 
 // Returns the quotient of two numbers with two decimals, rounded down, or 1.00 if the divisor is 0.

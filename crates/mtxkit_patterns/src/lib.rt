@@ -12,14 +12,13 @@ mod order_reading;
 mod order_texts;
 mod orders;
 mod permuted;
-
 mod square;
 
 pub use counts::{FillCounts, fill_counts};
 pub use fill::{fill_text, fill_text_in_order};
 pub use order_error::OrderError;
+pub use order_reading::read_order;
 pub use order_texts::write_order;
 pub use orders::order_text;
 pub use permuted::permute_text;
-pub use order_reading::read_order;
 pub use square::Method;

@@ -38,7 +38,9 @@ impl Display for OrderError {
                 let place = *at as u128 + 1;
                 write!(f, "number {place} of the order occurs before")
             }
-            OrderError::OtherLength(_) => f.write_str("the order has another length than the matrix"),
+            OrderError::OtherLength(_) => f.write_str(
+                "the order has another length than the matrix",
+            ),
         }
     }
 }

@@ -89,9 +89,7 @@ fn permuted_matrix_text(
     let matrix = load_values(alloc, 2, text)?;
     fit(matrix.nrows(), matrix.ncols(), order)?;
     match permute_symmetric_csr(alloc, &matrix, order) {
-        Ok(permuted) => {
-            Ok(save_to_matrix_market_str_with(alloc, &permuted, Banner::MixedCase)?)
-        }
+        Ok(permuted) => { Ok(save_to_matrix_market_str_with(alloc, &permuted, Banner::MixedCase)?) }
         Err(_) => Err(OrderError::Failed(Failure::OutOfMemory)),
     }
 }

@@ -61,7 +61,10 @@ pub(crate) fn permuted_pattern(
 /// Returns the union of a square pattern and its transpose.
 ///
 /// Fails only if an allocation fails.
-pub(crate) fn symmetrised(alloc: Global, pattern: &SparsityPattern) -> Result<SparsityPattern, AllocError>
+pub(crate) fn symmetrised(
+    alloc: Global,
+    pattern: &SparsityPattern,
+) -> Result<SparsityPattern, AllocError>
     requires { pattern.now.major_dim ≡ pattern.now.minor_dim }
     ensures { IfOk result (IsSymmetrised pattern.now) }
 {
@@ -73,7 +76,10 @@ pub(crate) fn symmetrised(alloc: Global, pattern: &SparsityPattern) -> Result<Sp
 /// Returns the pattern of the factor of a square pattern, by columns.
 ///
 /// Fails only if an allocation fails.
-pub(crate) fn factor_of(alloc: Global, pattern: SparsityPattern) -> Result<SparsityPattern, AllocError>
+pub(crate) fn factor_of(
+    alloc: Global,
+    pattern: SparsityPattern,
+) -> Result<SparsityPattern, AllocError>
     requires { pattern.major_dim ≡ pattern.minor_dim }
     ensures factor { IfOk result (IsFactor pattern) }
     ensures square { IfOk result (λ l. l.minor_dim ≡ l.major_dim) }

@@ -16,8 +16,8 @@ returns c =
         ],
         λ e. (c.in_ok-union.ensures.entries i j).1 (elim e as
             (λ _. IsEntry c.args.pattern.now i j ⊎ IsEntry c.in_ok-transposed.transposed i j) [
-          | inl is ↦ inl is
-          | inr is ↦ inr ((t.entries j i).1 is)
-        ]),
+              | inl is ↦ inl is
+              | inr is ↦ inr ((t.entries j i).1 is)
+            ]),
       );
     }
