@@ -19,7 +19,6 @@ use sparse_io::Sink;
 use std::alloc::{AllocError, Global};
 
 /// Reads the file, and returns the text of an order of its rows and columns.
-#[tactic(auto, using(crate::proofs::OrderRefusals::order_refused))]
 pub(crate) fn ordered_of<T: Texts>(
     alloc: Global,
     texts: &mut T,
@@ -39,7 +38,6 @@ pub(crate) fn ordered_of<T: Texts>(
 }
 
 /// Reads the file of the order and that of the matrix, and returns the text of the permuted matrix.
-#[tactic(auto, using(crate::proofs::OrderRefusals::permute_refused))]
 pub(crate) fn permuted_of<T: Texts>(
     alloc: Global,
     texts: &mut T,
@@ -79,7 +77,6 @@ pub(crate) fn filled_of<T: Texts>(
 }
 
 // Reads the file, and returns the lines about its fill.
-#[tactic(auto, using(crate::proofs::OrderRefusals::order_refused))]
 fn filled_alone<T: Texts>(
     alloc: Global,
     texts: &mut T,
@@ -99,7 +96,6 @@ fn filled_alone<T: Texts>(
 }
 
 // Reads both files, and returns the lines about the fill of the matrix in this order.
-#[tactic(auto, using(crate::proofs::OrderRefusals::fill_refused))]
 fn filled_in_order<T: Texts>(
     alloc: Global,
     texts: &mut T,
