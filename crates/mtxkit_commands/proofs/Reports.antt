@@ -10,6 +10,8 @@ use Rattle.mtxkit_commands.specs.Names.{IsReported, IsSilent, IsWriteReported, I
 use Rattle.mtxkit_commands.specs.declared.command_error.CommandError.{CommandError}
 use Rattle.mtxkit_commands.specs.declared.command_error.CommandError.TheVariants.{Failed}
 use Rattle.mtxkit_commands.specs.declared.command_error.CommandError.TheVariants.{Unscaled}
+use Rattle.mtxkit_commands.specs.declared.command_error.CommandError.TheVariants.{Misordered}
+use Rattle.mtxkit_commands.specs.declared.command_error.CommandError.TheVariants.{Unevaluated}
 use Rattle.mtxkit_commands.specs.declared.command_error.CommandError.TheVariants.{Unwritten}
 use Rattle.mtxkit_commands.specs.declared.commands.Command.{Command}
 
@@ -33,6 +35,8 @@ pub error_status-is : (error : CommandError) → IsStatus (error_status error)
 error_status-is (Failed Usage) = inl (omega arith)
 error_status-is (Failed failure) = inl (omega arith)
 error_status-is (Unscaled error) = inl (omega arith)
+error_status-is (Misordered error) = inl (omega arith)
+error_status-is (Unevaluated error) = inl (omega arith)
 error_status-is (Unwritten kind) = write_status-is kind
 
 module _ (old new : Option (List ℕ)) (before after : ℕ) where
@@ -53,6 +57,10 @@ module _ (old new : Option (List ℕ)) (before after : ℕ) where
       (error_file command (Failed failure), told)
   written_of_error command (Unscaled error) is told =
       (error_file command (Unscaled error), told)
+  written_of_error command (Misordered error) is told =
+      (error_file command (Misordered error), told)
+  written_of_error command (Unevaluated error) is told =
+      (error_file command (Unevaluated error), told)
   written_of_error command (Unwritten kind) is told = (None, written_at_1 kind is told)
 
   -- nothing was written for an error with status 141
@@ -61,4 +69,6 @@ module _ (old new : Option (List ℕ)) (before after : ℕ) where
   silent_of_error command (Failed Usage) is told = absurd (omega (arith, is))
   silent_of_error command (Failed failure) is told = absurd (omega (arith, is))
   silent_of_error command (Unscaled error) is told = absurd (omega (arith, is))
+  silent_of_error command (Misordered error) is told = absurd (omega (arith, is))
+  silent_of_error command (Unevaluated error) is told = absurd (omega (arith, is))
   silent_of_error command (Unwritten kind) is told = silent_at_141 kind is told

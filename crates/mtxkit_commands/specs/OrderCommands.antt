@@ -10,7 +10,7 @@ use Rattle.mtxkit_texts.specs.declared.failure.Failure.{Failure}
 use Rattle.mtxkit_commands.specs.Inputs.{Reading, IsUnread}
 use Rattle.mtxkit_commands.specs.Reads.{ReadsOne, ReadsTwo, FailsOne, IsSecondUnread}
 use Rattle.mtxkit_commands.specs.declared.command_error.CommandError.{CommandError}
-use Rattle.mtxkit_commands.specs.declared.command_error.CommandError.TheVariants.{Failed, Unscaled}
+use Rattle.mtxkit_commands.specs.declared.command_error.CommandError.TheVariants.{Failed}
 use Rattle.mtxkit_commands.specs.declared.command_error.CommandError.TheVariants.{Misordered}
 use Rattle.mtxkit_commands.specs.declared.commands.FillOrder.{FillOrder}
 use Rattle.mtxkit_commands.specs.declared.commands.FillOrder.TheVariants as fill
@@ -93,19 +93,19 @@ IsFillFault (fill.File path) file old new error = IsFillFaultInOrder path.now fi
 
 abbrev pub IsOrderError : List ℕ → List Reading → List Reading → CommandError → Type 0
 IsOrderError file old new (Failed failure) = IsOrderFailure file old new failure
-IsOrderError file old new (Unscaled error) = ⊥
 IsOrderError file old new (Misordered error) = IsOrderFault file old new error
+IsOrderError file old new error = ⊥
 
 abbrev pub IsPermuteError : List ℕ → List ℕ → List Reading → List Reading → CommandError → Type 0
 IsPermuteError a b old new (Failed failure) = IsPermuteFailure a b old new failure
-IsPermuteError a b old new (Unscaled error) = ⊥
 IsPermuteError a b old new (Misordered error) = IsPermuteFault a b old new error
+IsPermuteError a b old new error = ⊥
 
 abbrev pub IsFillErrorInOrder : List ℕ → List ℕ → List Reading → List Reading → CommandError
     → Type 0
 IsFillErrorInOrder a b old new (Failed failure) = IsFillFailureInOrder a b old new failure
-IsFillErrorInOrder a b old new (Unscaled error) = ⊥
 IsFillErrorInOrder a b old new (Misordered error) = IsFillFaultInOrder a b old new error
+IsFillErrorInOrder a b old new error = ⊥
 
 abbrev pub IsFillError : FillOrder → List ℕ → List Reading → List Reading → CommandError → Type 0
 IsFillError fill.Natural file old new error = IsOrderError file old new error

@@ -164,10 +164,12 @@ where
     T: Texts,
     W: Sink,
     E: Sink,
-    ensures status { result ≤ 2 }
+    ensures status { IsStatus result }
     ensures silent { result ≡ 0 → E.accepted err.new ≡ E.accepted err.old }
     ensures quiet { result ≡ 0 → E.failures err.new ≡ E.failures err.old }
     ensures reported { result ≡ 1 → HasReport (E.accepted err.old) (E.accepted err.new)
+        (E.failures err.old) (E.failures err.new) }
+    ensures stopped { result ≡ 141 → IsSilent (E.accepted err.old) (E.accepted err.new)
         (E.failures err.old) (E.failures err.new) }
     ensures unanswered { result ≡ 2 → W.failures out.new ≡ W.failures out.old
         → W.accepted out.new ≡ W.accepted out.old }
