@@ -94,15 +94,21 @@ fn is_wanted(answer: Answer, heading: &str, wanted: Result<&str, &str>) -> bool 
     }
 }
 
-// Whether `mtx rows` or `mtx cols` answers a case as it is wanted.
-fn is_calculated(
+// What `mtx rows` or `mtx cols` answers on files with these lines.
+fn calculated(
     rt: &HostRuntime,
     order: &str,
-    &(expression, lines, wanted): &Case,
-) -> io::Result<bool> {
+    expression: &str,
+    lines: &[&str],
+) -> io::Result<Answer> {
     let paths = matrices(rt, lines)?;
-    let answer = answered_on(rt, &[order, expression], &paths, usize::MAX)?;
-    Ok(is_wanted(answer, HEADING, wanted))
+    Ok(answered_on(rt, &[order, expression], &paths, usize::MAX)?)
+}
+
+// Whether `mtx rows` or `mtx cols` answers a case as it is wanted.
+fn is_calculated(rt: &HostRuntime, order: &str, case: &Case) -> io::Result<bool> {
+    let answer = calculated(rt, order, case.0, case.1)?;
+    Ok(is_wanted(answer, HEADING, case.2))
 }
 
 #[test]
