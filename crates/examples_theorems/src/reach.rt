@@ -74,7 +74,7 @@ fn closure(alloc: Global, pattern: &SparsityPattern) -> Result<SparsityPattern, 
     Ok(reached)
 }
 
-// Steps on the cycle 0 -> 1 -> 2 -> 0, and the indices that walks of at most so many steps reach from each.
+// Steps on the cycle 0 -> 1 -> 2 -> 0, and the indices that walks of at most that many steps reach from each.
 const WALKS: &[(usize, &[usize])] = &[
     (0, &[0, 1, 2]),
     (1, &[0, 1, 1, 2, 0, 2]),
