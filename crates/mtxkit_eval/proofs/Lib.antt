@@ -1,5 +1,4 @@
 mod Remainders
-mod MappedPlains
 mod IntegerImages
 mod ValueImages
 mod Caps

@@ -6,7 +6,7 @@ use Rattle.sparse_algebra.specs.Algebra.{CommRing}
 use Rattle.sparse_algebra.specs.Plain.{Plain, plain_sum, plain_difference, plain_product}
 use Rattle.sparse_algebra.specs.Plain.{plain_transpose, plain_negation}
 use Rattle.sparse_algebra.specs.RingMaps.{IsRingMap, plain_map}
-use Rattle.mtxkit_eval.proofs.MappedPlains.{map-sum, map-negation, map-difference, map-product}
+use Rattle.sparse_algebra.proofs.RingMapLemmas.{map-sum, map-negation, map-difference, map-product}
 use Rattle.sparse_expr.specs.Value.{both, one, found, input_at, sum_of, difference_of, product_of}
 use Rattle.sparse_expr.specs.Value.{value_of, same_sizes}
 use Rattle.sparse_expr.specs.declared.expr.Expr.{Expr}

@@ -4,7 +4,7 @@ pub mod RingLemmas
 pub mod SumLemmas
 pub mod PlainLemmas
 pub mod PlainLaws
-mod RingMapLemmas
+pub mod RingMapLemmas
 pub mod WholeNumbers
 pub mod Products
 mod NewtonSteps

@@ -8,7 +8,6 @@ ghost use Rattle.sparse_products.specs.InnerUpdates.{CanUpdate, ContainsProduct,
 ghost use Rattle.sparse_products.specs.InnerUpdates.{steps_of};
 
 use super::accumulate::{Accumulators, add_product_row};
-use super::read_ahead::lists_only_empty_lanes;
 use super::update::Update;
 use sparse_algebra::recall;
 use sparse_algebra::scalar::Ring;
@@ -43,10 +42,6 @@ fn covers_lanes(pattern: &SparsityPattern, i: usize, lanes: &[usize], b: &Sparsi
     requires shared { All (λ k. k < b.now.major_dim) lanes.now }
     ensures { IsTrue result ↔ ((j : ℕ) → IsInLanes b.now lanes.now j → IsEntry pattern.now i j) }
 {
-    recall(b.major_offsets());
-    if lists_only_empty_lanes(lanes, b) {
-        return true;
-    }
     for k in lanes {
         if !covers_lane(pattern, i, b, *k) {
             return false;

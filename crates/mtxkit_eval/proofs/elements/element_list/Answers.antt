@@ -8,7 +8,7 @@ use Rattle.sparse_compressed.specs.Compressed.{lane_triplets}
 use Rattle.sparse_coo_dense.specs.CooPlain.{plain_of_coo}
 use Rattle.mtxkit_texts.proofs.Revalued.{length-revalued, plain-revalued}
 use Rattle.mtxkit_eval.proofs.IntegerImages.{image-IsRingMap}
-use Rattle.mtxkit_eval.proofs.MappedPlains.{map-triplets}
+use Rattle.sparse_algebra.proofs.RingMapLemmas.{map-triplets}
 use Rattle.mtxkit_eval.proofs.elements.element_list.Goals as goal
 
 pub with_values-requires : goal.with_values-requires

@@ -6,7 +6,7 @@ use Rattle.sparse_compressed.specs.Compressed.{compressed_of, zip_values}
 use Rattle.sparse_pattern.specs.Raw.{entries_of}
 use Rattle.mtxkit_eval.specs.Values.{exact_of, image_in}
 use Rattle.mtxkit_eval.proofs.IntegerImages.{image-IsRingMap}
-use Rattle.mtxkit_eval.proofs.MappedPlains.{map-triplets}
+use Rattle.sparse_algebra.proofs.RingMapLemmas.{map-triplets}
 use Rattle.mtxkit_eval.proofs.SameTriplets.{same-triplets}
 use Rattle.mtxkit_eval.proofs.elements.reduced_matrix.Goals as goal
 

@@ -3,7 +3,6 @@ use Rattle.std.proofs.lemmas.List.{take_all}
 use Rattle.std.proofs.lemmas.List.Elements.{Contains-get_or}
 use Rattle.sparse_pattern.specs.Raw.{IsEntry}
 use Rattle.sparse_products.proofs.CoveredLanes.{element_more}
-use Rattle.sparse_products.proofs.ProductLanes.{in_lanes_none}
 use Rattle.sparse_products.proofs.serial.search.covers_lanes.Goals as goal
 
 pub loop-k-preserved : goal.loop-k-preserved
@@ -27,9 +26,3 @@ returns c =
     → IsEntry c.args.pattern.now c.args.i j)
     (take_all c.loop-k.k-index c.args.lanes.now c.loop-k-test.false) c.loop-k.invariant in
     (λ _ j h. all h.0 h.1 j h.2, λ _. refl)
-
-pub returns-then-lists_only_empty_lanes : goal.returns-then-lists_only_empty_lanes
-returns-then-lists_only_empty_lanes c =
-    let none = in_lanes_none c.args.b.now c.args.lanes.now c.major_offsets.ensures.valid
-    (c.lists_only_empty_lanes.ensures c.if-lists_only_empty_lanes.true) in
-    (λ _ j h. absurd (none j h), λ _. refl)
