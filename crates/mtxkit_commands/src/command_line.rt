@@ -25,6 +25,8 @@ const FIELDS: [&str; 2] = ["integer", "pattern"];
 
 const METHODS: [&str; 2] = ["amd", "rcm"];
 
+const ELIMINATIONS: [&str; 3] = ["natural", "amd", "rcm"];
+
 const MATRIX_FILE: &str = "A Matrix Market file, or - for standard input";
 
 const DECIMAL_FILE: &str = "A real or integer Matrix Market file, or - for standard input";
@@ -45,6 +47,7 @@ enum Word {
     // A required file: its name in the usage line, and its help.
     File(&'static str, &'static str),
     Columns,
+    Elimination,
     Expression,
     Field,
     Files,
@@ -130,6 +133,7 @@ const USAGES: [Usage; 12] = [
         about: "Writes the matrix X with A X = B for a symmetric matrix A, exactly, by L D L^T",
         words: &[
             Word::Modulus,
+            Word::Elimination,
             Word::File("A", "The symmetric matrix"),
             Word::File("B", "The right-hand sides"),
         ],
@@ -183,6 +187,7 @@ fn argument<'a>(alloc: Global, word: Word) -> Result<Arg<'a>, AllocError> {
     match word {
         Word::File(name, help) => Ok(file_word(alloc, name, help)),
         Word::Columns => columns_word(alloc),
+        Word::Elimination => Ok(elimination_word(alloc)),
         Word::Expression => Ok(file_word(alloc, "EXPR", EXPRESSION)),
         Word::Field => Ok(field_word(alloc)),
         Word::Files => Ok(files_word(alloc)),
@@ -289,4 +294,12 @@ fn modulus_word<'a>(alloc: Global) -> Arg<'a> {
         .value_name("P")
         .value_parser(MODULI.as_slice())
         .help("Take the integers modulo P")
+}
+
+fn elimination_word<'a>(alloc: Global) -> Arg<'a> {
+    Arg::new(alloc, "order")
+        .long("order")
+        .value_name("ORDER")
+        .value_parser(ELIMINATIONS.as_slice())
+        .help("Eliminate in this order: amd, minimum degree, unless given; natural; rcm")
 }

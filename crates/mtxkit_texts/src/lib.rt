@@ -27,7 +27,7 @@ pub use field::{copy_text, integer_text, pattern_text};
 pub use lists::with_values;
 pub use loaded::{Loaded, header_of, load, read_integers};
 pub use locations::Location;
-pub use mtxkit_matrices::LineFault;
+pub use mtxkit_matrices::{Coordinates, Dimensions, LineFault, Pivot};
 pub use pattern_texts::write_pattern;
 pub use places::ones_of;
 pub use progress::{Screen, Terminal, progress_line, read_shown};
