@@ -4,8 +4,6 @@
 
 mod decimals;
 mod facts;
-mod line_faults;
-mod lines;
 mod pictures;
 mod systems;
 mod triangle;
@@ -16,8 +14,6 @@ pub use facts::{
     Histogram, Info, answer, bandwidth, count_lanes, counted_lanes, info_of, is_symmetric,
     longest_lane, push_count, push_facts, push_histogram, push_line,
 };
-pub use line_faults::LineFault;
-pub use lines::{after_end, is_comment};
 pub use pictures::{Picture, bitmap_text, block_text, draw, scaled_sizes, svg_text};
 pub use systems::{SystemError, is_solution, solve, solve_listed};
 pub use triangle::lower_of;
