@@ -1,7 +1,7 @@
 use Rattle.std.proofs.Common.{◌≤◌, ◌+◌, ◌-◌, ◌/◌, arith}
 use Rattle.sparse_coo_dense.specs.CooPlain.{plain_of_coo}
-use Rattle.sparse_c.proofs.LeadingBlocks.{upper_half}
-use Rattle.sparse_c.proofs.systems.pivot.halved.Goals as goal
+use Rattle.sparse_factor.proofs.LeadingBlocks.{upper_half}
+use Rattle.sparse_factor.proofs.leading.halved.Goals as goal
 
 pub returns-then-found-clause-between : goal.returns-then-found-clause-between
 returns-then-found-clause-between g c =

@@ -1,8 +1,8 @@
 use Rattle.std.proofs.Common.{◌-◌}
 use Rattle.sparse_coo_dense.specs.CooPlain.{plain_of_coo}
 use Rattle.sparse_factor.specs.Factorisations.{plain_symmetric}
-use Rattle.sparse_c.specs.Pivots.{IsBetween}
-use Rattle.sparse_c.proofs.systems.pivot.factored_size.Given as goal
+use Rattle.sparse_factor.specs.InnerLeadingBlocks.{IsBetween}
+use Rattle.sparse_factor.proofs.leading.leading_size.Given as goal
 
 abbrev pub invariant-loop-range : goal.invariant-loop-range
 invariant-loop-range g l = IsBetween g.T.Ring.ring g.T.Ring.value

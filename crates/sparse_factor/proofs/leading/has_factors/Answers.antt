@@ -1,6 +1,6 @@
 use Rattle.std.proofs.Common.{sym, ◌∙◌}
-use Rattle.sparse_c.proofs.LeadingBlocks.{block_cols, block_factors, block_rows, block_unfactored}
-use Rattle.sparse_c.proofs.systems.pivot.has_factors.Goals as goal
+use Rattle.sparse_factor.proofs.LeadingBlocks.{block_cols, block_factors, block_rows, block_unfactored}
+use Rattle.sparse_factor.proofs.leading.has_factors.Goals as goal
 
 pub factor-requires : goal.factor-requires
 factor-requires g c =

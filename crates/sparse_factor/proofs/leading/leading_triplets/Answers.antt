@@ -1,6 +1,6 @@
 use Rattle.std.proofs.Common.{◌≡◌, sym, ◌∙◌, rules}
-use Rattle.sparse_c.proofs.LeadingBlocks.{none_left, one_less, started}
-use Rattle.sparse_c.proofs.systems.pivot.leading_triplets.Goals as goal
+use Rattle.sparse_factor.proofs.LeadingBlocks.{none_left, one_less, started}
+use Rattle.sparse_factor.proofs.leading.leading_triplets.Goals as goal
 
 pub loop-row-init : goal.loop-row-init
 loop-row-init g c =

@@ -1,8 +1,8 @@
 use Rattle.std.proofs.Common.{arith}
 use Rattle.sparse_coo_dense.specs.CooPlain.{plain_of_coo}
 use Rattle.sparse_factor.specs.Factorisations.{plain_symmetric}
-use Rattle.sparse_c.proofs.LeadingBlocks.{found_between, started_between, stops_whole}
-use Rattle.sparse_c.proofs.systems.pivot.factored_size.Goals as goal
+use Rattle.sparse_factor.proofs.LeadingBlocks.{found_between, started_between, stops_whole}
+use Rattle.sparse_factor.proofs.leading.leading_size.Goals as goal
 
 pub returns-then-all : goal.returns-then-all
 returns-then-all g c =

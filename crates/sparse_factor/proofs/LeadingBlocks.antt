@@ -29,8 +29,8 @@ use Rattle.sparse_factor.specs.Factors.{diagonal, plain_of_factors, symmetric_of
 use Rattle.sparse_factor.specs.Factors.{Factors, HasNoFactors, HavePivots}
 use Rattle.sparse_factor.proofs.PlainProducts.{columns_of, factorisation_of, symmetric-transposed}
 use Rattle.sparse_dense_ops.specs.Solutions.{HasSameValues}
-use Rattle.sparse_c.specs.Pivots.{is_leading, leading, one_leading, HasFactorisation}
-use Rattle.sparse_c.specs.Pivots.{IsBetween, IsLeadingWithout, StopsAt}
+use Rattle.sparse_factor.specs.LeadingBlocks.{leading, HasFactorisation, StopsAt}
+use Rattle.sparse_factor.specs.InnerLeadingBlocks.{is_leading, one_leading, IsBetween, IsLeadingWithout}
 
 append-none : {X : Type 0} (xs : List X) → (xs ++ []) ≡ xs
 append-none [] = refl
