@@ -165,11 +165,21 @@ pub(crate) fn command_line<'a>(alloc: Global) -> Result<clap::Command<'a>, Alloc
 
 // Returns a command as `clap` needs it.
 fn command_used<'a>(alloc: Global, usage: &Usage) -> Result<clap::Command<'a>, AllocError> {
-    let mut command = clap::Command::new(alloc, usage.name).about(usage.about);
+    let mut command = clap::Command::new(alloc, usage.name)
+        .about(usage.about)
+        .allow_missing_positional(begins_with_optional(usage.words));
     for word in usage.words {
         command = command.arg(argument(alloc, *word)?)?;
     }
     Ok(command)
+}
+
+// Whether the first argument may be left out, although required ones follow.
+fn begins_with_optional(words: &[Word]) -> bool {
+    match words.first() {
+        Some(Word::Method) => true,
+        _ => false,
+    }
 }
 
 // Returns an argument as `clap` needs it.
@@ -266,9 +276,7 @@ fn text_word<'a>(alloc: Global) -> Arg<'a> {
 }
 
 fn method_word<'a>(alloc: Global) -> Arg<'a> {
-    Arg::new(alloc, "method")
-        .long("method")
-        .value_name("METHOD")
+    Arg::new(alloc, "METHOD")
         .value_parser(METHODS.as_slice())
         .help("amd, minimum degree, unless given; rcm, reverse Cuthill-McKee")
 }

@@ -170,7 +170,7 @@ fn order_of<'a>(words: &ArgMatches<'a>) -> Option<Command<'a>>
     ensures given { IfSome result (GivesCommand (found_of words.now)) }
 {
     let file = words.get_str("FILE")?;
-    let method = method_of(words.get_str("method"))?;
+    let method = method_of(words.get_str("METHOD"))?;
     Some(Command::Order { file, method })
 }
 

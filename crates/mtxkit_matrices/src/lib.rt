@@ -5,8 +5,6 @@
 mod coordinates;
 mod decimals;
 mod facts;
-mod line_faults;
-mod lines;
 mod orders;
 mod pictures;
 mod pivots;
@@ -20,8 +18,6 @@ pub use facts::{
     Histogram, Info, answer, bandwidth, count_lanes, counted_lanes, info_of, is_symmetric,
     longest_lane, push_count, push_facts, push_histogram, push_line,
 };
-pub use line_faults::LineFault;
-pub use lines::{after_end, is_comment};
 pub use orders::EliminationOrder;
 pub use pictures::{Picture, bitmap_text, block_text, draw, scaled_sizes, svg_text};
 pub use pivots::Pivot;

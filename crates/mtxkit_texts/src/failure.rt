@@ -3,8 +3,8 @@
 ghost use Rattle.std.specs.Prelude.{◌≡◌};
 ghost use Rattle.mtxkit_texts.specs.Statuses.{status_of};
 
-use crate::locations::Location;
 use mtxkit_matrices::{Coordinates, Dimensions, Pivot};
+use sparse_faults::Location;
 use sparse_parser::error::MatrixMarketErrorKind;
 use std::alloc::{AllocError, AllocFailed};
 use std::error::Error;
