@@ -55,8 +55,8 @@ pub fn solve_text(
 /// # Errors
 ///
 /// Returns `Input` or `NotSupported` if a text is not that of a matrix of integers, `Modulus` if the program is not built
-/// for the modulus, `ProductShapes` if the shapes do not fit, and `NotSolution` if A X differs from B. Otherwise fails only if
-/// an allocation fails.
+/// for the modulus, `ProductShapes` if the shapes do not fit, and `NotSolution` if A X differs from B. Otherwise fails
+/// only if an allocation fails.
 pub fn check_text(
     alloc: Global,
     modulus: Option<u64>,
@@ -99,7 +99,9 @@ fn solve_modulo(
         Some(65537) => solve_in::<Mod<65537>>(alloc, modulus, order, a, b),
         Some(998244353) => solve_in::<Mod<998244353>>(alloc, modulus, order, a, b),
         Some(1000000007) => solve_in::<Mod<1000000007>>(alloc, modulus, order, a, b),
-        Some(2305843009213693951) => solve_in::<Mod<2305843009213693951>>(alloc, modulus, order, a, b),
+        Some(2305843009213693951) => solve_in::<Mod<2305843009213693951>>(
+            alloc, modulus, order, a, b,
+        ),
         Some(_) => Err(Failure::Modulus),
     }
 }
@@ -174,12 +176,7 @@ fn check_in<T: Residues>(
 }
 
 // Returns the failure for an error of solving a system modulo a number, where A and B have these dimensions.
-fn system_fault(
-    modulus: Option<u64>,
-    a: Dimensions,
-    b: Dimensions,
-    error: SystemError,
-) -> Failure
+fn system_fault(modulus: Option<u64>, a: Dimensions, b: Dimensions, error: SystemError) -> Failure
     ensures { result ≡ system_fault modulus a b error }
 {
     match error {

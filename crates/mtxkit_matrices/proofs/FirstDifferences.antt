@@ -108,50 +108,50 @@ module _ (R : CommRing) {T : Type 0} (f : T → R.Carrier) (z : T) (m : Compress
 
   module _ (before more : List (ℕ × ℕ × T)) (t : ℕ × ℕ × T)
       (split : lane_triplets m ≡ before ++ t ∷ more) (zeros : All (λ u. f u.2 ≡ R.zero) before)
-      where
-    within : length before < length m.values
-    within =
-        let long : length (lane_triplets m) ≡ length before + length (t ∷ more) =
-        ap length split ∙ length-append before (t ∷ more) in
-        omega (arith, long, length-lane_triplets m sound)
+    where
+      within : length before < length m.values
+      within =
+          let long : length (lane_triplets m) ≡ length before + length (t ∷ more) =
+          ap length split ∙ length-append before (t ∷ more) in
+          omega (arith, long, length-lane_triplets m sound)
 
-    here : get_or (lane_triplets m) (length before) t ≡ t
-    here =
-        let none : length before - length before ≡ 0 = omega arith in
-        ap (λ ts. get_or ts (length before) t) split
-        ∙ get_or-append_right before (t ∷ more) (length before) (length before) t refl (omega arith)
-        ∙ ap (λ q. get_or (t ∷ more) q t) none
+      here : get_or (lane_triplets m) (length before) t ≡ t
+      here =
+          let none : length before - length before ≡ 0 = omega arith in
+          ap (λ ts. get_or ts (length before) t) split
+          ∙ get_or-append_right before (t ∷ more) (length before) (length before) t refl (omega arith)
+          ∙ ap (λ q. get_or (t ∷ more) q t) none
 
-    found : IsTriplet (length before) t
-    found = subst (IsTriplet (length before)) here (triplet_at (length before) t within)
+      found : IsTriplet (length before) t
+      found = subst (IsTriplet (length before)) here (triplet_at (length before) t within)
 
-    zero_at : (q : ℕ) → q < length before → f (slice_index_or m.values q z) ≡ R.zero
-    zero_at q lt =
-        let inside : q < length m.values = omega (arith, lt, within) in
-        ap f (sym (triplet_at q t inside).value)
-        ∙ ap (λ ts. f (get_or ts q t).2) split
-        ∙ ap (λ (u : ℕ × ℕ × T). f u.2) (get_or_append_left before (t ∷ more) t q lt) ∙ zeros q t lt
+      zero_at : (q : ℕ) → q < length before → f (slice_index_or m.values q z) ≡ R.zero
+      zero_at q lt =
+          let inside : q < length m.values = omega (arith, lt, within) in
+          ap f (sym (triplet_at q t inside).value)
+          ∙ ap (λ ts. f (get_or ts q t).2) split
+          ∙ ap (λ (u : ℕ × ℕ × T). f u.2) (get_or_append_left before (t ∷ more) t q lt) ∙ zeros q t lt
 
-    pub first_nonzero : (f t.2 ≡ R.zero → ⊥) → IsFirstNonzero R (plain_of_rows R f m) t.0 t.1
-    first_nonzero nonzero =
-        let have = plain_of_rows-has_lanes R f m sound in
-        let lane = sound.valid.lanes t.0 found.offset.0.lane in
-        record {
-          row_inside = found.offset.0.lane;
-          col_inside = subst (λ c. c < d.minor_dim) found.offset.1
-              (lane.bounded (length before) found.offset.0.from found.offset.0.to);
-          nonzero = λ zero. nonzero (ap f found.value
-              ∙ have.values t.0 t.1 (length before) z found.offset ∙ zero);
-          before = λ i j earlier. elim (cases_Bool ((plain_of_rows R f m).has i j)) [
-            | inl is ↦
-                let place = (have.places i j).1 is in
-                let at : IsOffset d i j place.at = (place.in_lane, place.index) in
-                sym (have.values i j place.at z at) ∙ zero_at place.at
-                (earlier_offset d sound.valid i j place.at t.0 t.1 (length before) at found.offset
-                earlier)
-            | inr not ↦ have.proper i j not
-          ];
-        }
+      pub first_nonzero : (f t.2 ≡ R.zero → ⊥) → IsFirstNonzero R (plain_of_rows R f m) t.0 t.1
+      first_nonzero nonzero =
+          let have = plain_of_rows-has_lanes R f m sound in
+          let lane = sound.valid.lanes t.0 found.offset.0.lane in
+          record {
+            row_inside = found.offset.0.lane;
+            col_inside = subst (λ c. c < d.minor_dim) found.offset.1
+                (lane.bounded (length before) found.offset.0.from found.offset.0.to);
+            nonzero = λ zero. nonzero (ap f found.value
+                ∙ have.values t.0 t.1 (length before) z found.offset ∙ zero);
+            before = λ i j earlier. elim (cases_Bool ((plain_of_rows R f m).has i j)) [
+              | inl is ↦
+                  let place = (have.places i j).1 is in
+                  let at : IsOffset d i j place.at = (place.in_lane, place.index) in
+                  sym (have.values i j place.at z at) ∙ zero_at place.at
+                  (earlier_offset d sound.valid i j place.at t.0 t.1 (length before) at found.offset
+                  earlier)
+              | inr not ↦ have.proper i j not
+            ];
+          }
 
   pub all_zero : (rest : List (ℕ × ℕ × T)) → rest ≡ [] → IsZeroBefore R f (lane_triplets m) rest
       → AllZero R (plain_of_rows R f m)

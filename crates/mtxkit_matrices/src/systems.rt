@@ -107,10 +107,7 @@ fn solve_fitting<T: Units>(
 }
 
 // Returns the first row and column, row by row, where a square matrix has another value than its transpose.
-fn asymmetry_of<T: Ring>(
-    alloc: Global,
-    a: &CooMatrix<T>,
-) -> Result<Option<Coordinates>, AllocError>
+fn asymmetry_of<T: Ring>(alloc: Global, a: &CooMatrix<T>) -> Result<Option<Coordinates>, AllocError>
     requires { a.now.ncols ≡ a.now.nrows }
     ensures { IfOk result (λ found. MatchOption found
         (IsSymmetricMatrix T.ring (plain_of_coo T.ring T.value a.now))
