@@ -121,14 +121,15 @@ module _ (R : CommRing) where
         → IsUnsolvable R f order (plain_of_coo R f a) error
         → IsSolved R f (λ z. z) m order a' b'
         (Err (system_fault m (dimensions_of a') (dimensions_of b') error))
-    refused m order system.Shapes says why = (λ s. says.0 refl (system-back s), (refl, refl))
+    refused m order system.Shapes says why = (λ s. says.0 refl (system-back s), refl, refl)
     refused m order (system.NotSymmetric at) says why = (
       system-same (system_at_err system.Shapes a b (system.NotSymmetric at) says (λ e. cc)),
       subst (λ (q : Plain R). IsFirstAsymmetry R q at.row at.col) same_a why,
     )
     refused m order (system.NoFactors pivot) says why = (
       system-same (system_at_err system.Shapes a b (system.NoFactors pivot) says (λ e. cc)),
-      (refl, subst (λ (q : Plain R). IsSingularPivot R f order q pivot) same_a why),
+      refl,
+      subst (λ (q : Plain R). IsSingularPivot R f order q pivot) same_a why,
     )
     refused m order system.OutOfMemory says why = tt
 
@@ -159,7 +160,7 @@ module _ (R : CommRing) where
           (plain_product R (plain_of_coo R f a) (plain_of_coo R f x)) (plain_of_coo R f b) error
           → IsTested R a' x' b'
           (Err (check_fault (dimensions_of a') (dimensions_of x') (dimensions_of b') error))
-      untested check.Shapes says why = (λ s. says.0 refl (equation-back s), (refl, (refl, refl)))
+      untested check.Shapes says why = (λ s. says.0 refl (equation-back s), refl, refl, refl)
       untested (check.NotSolution at) says why = (
         equation-same (equation_at_err check.Shapes a x b (check.NotSolution at) says (λ e. cc)),
         difference-same R (plain_of_coo R f a) (plain_of_integers R a') (plain_of_coo R f x)

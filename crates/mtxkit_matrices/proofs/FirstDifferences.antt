@@ -1,8 +1,9 @@
 -- The first value that is not zero, and the first difference of two matrices, row by row.
 -- - `none_before`, `one_more`: the triplets before the rest are zero, while they are searched
--- - `first_nonzero`, `all_zero`: what the search has found
+-- - `first_found`, `all_zero`: what the search has found
 -- - `difference_found`, `asymmetry_found`: the first value of a difference that is not zero, of two matrices and of a
 --   matrix and its transpose
+use Rattle.std.proofs.Common.{Bool, true, false, not}
 use Rattle.std.proofs.Common.{◌≡◌, ℕ, zero, suc, ◌+◌, ◌-◌, ◌<◌, inl, inr, Option, Some, None, All, List}
 use Rattle.std.proofs.Common.{[], ◌∷◌, ◌++◌, length, get_or, slice_index, slice_index_or, refl, sym, ap, subst, ◌∙◌}
 use Rattle.std.proofs.Common.{append-nil, append_assoc, length-append, arith}
@@ -47,6 +48,14 @@ module _ (R : CommRing) {T : Type 0} (f : T → R.Carrier) where
         ∙ sym (append_assoc kept.before (t ∷ []) more);
     zeros = All-push IsZero kept.before t kept.zeros here;
   }
+
+pub not_both : (b : Bool) → b ≡ true → true ≡ not b → ⊥
+not_both true h k = cc
+not_both false h k = cc
+
+pub is_true : (b : Bool) → false ≡ not b → b ≡ true
+is_true true h = refl
+is_true false h = cc
 
 zip-value : {T : Type 0} (ps : List (ℕ × ℕ)) (vs : List T) (k : ℕ) (t : ℕ × ℕ × T) (z : T)
     → length ps ≡ length vs → k < length vs
@@ -132,7 +141,7 @@ module _ (R : CommRing) {T : Type 0} (f : T → R.Carrier) (z : T) (m : Compress
           ∙ ap (λ ts. f (get_or ts q t).2) split
           ∙ ap (λ (u : ℕ × ℕ × T). f u.2) (get_or_append_left before (t ∷ more) t q lt) ∙ zeros q t lt
 
-      pub first_nonzero : (f t.2 ≡ R.zero → ⊥) → IsFirstNonzero R (plain_of_rows R f m) t.0 t.1
+      first_nonzero : (f t.2 ≡ R.zero → ⊥) → IsFirstNonzero R (plain_of_rows R f m) t.0 t.1
       first_nonzero nonzero =
           let have = plain_of_rows-has_lanes R f m sound in
           let lane = sound.valid.lanes t.0 found.offset.0.lane in
@@ -153,18 +162,26 @@ module _ (R : CommRing) {T : Type 0} (f : T → R.Carrier) (z : T) (m : Compress
             ];
           }
 
+  pub first_found : (rest more : List (ℕ × ℕ × T)) (t : ℕ × ℕ × T) → rest ≡ t ∷ more
+      → (f t.2 ≡ R.zero → ⊥) → IsZeroBefore R f (lane_triplets m) rest
+      → IsFirstNonzero R (plain_of_rows R f m) t.0 t.1
+  first_found rest more t next nonzero kept =
+      first_nonzero kept.before more t (kept.split ∙ ap (λ ts. kept.before ++ ts) next) kept.zeros
+      nonzero
+
   pub all_zero : (rest : List (ℕ × ℕ × T)) → rest ≡ [] → IsZeroBefore R f (lane_triplets m) rest
       → AllZero R (plain_of_rows R f m)
   all_zero rest none kept =
       let every : lane_triplets m ≡ kept.before =
       kept.split ∙ ap (λ ts. kept.before ++ ts) none ∙ append-nil kept.before in
       let long = ap length every in
-      zero_values R f z m sound (λ k lt.
-      let inside : k < length kept.before = omega (arith, lt, long, length-lane_triplets m sound) in
+      zero_values R f z m sound (λ k within.
+      let inside : k < length kept.before =
+      omega (arith, within, long, length-lane_triplets m sound) in
       elim kept.before as (λ (ts : List (ℕ × ℕ × T)). lane_triplets m ≡ ts → k < length ts
       → All (λ u. f u.2 ≡ R.zero) ts → f (slice_index_or m.values k z) ≡ R.zero) [
         | [] ↦ λ _ lt _. absurd (omega (arith, lt))
-        | t ∷ ts ↦ λ is lt zeros. ap f (sym (triplet_at k t (omega (arith, inside))).value)
+        | t ∷ ts ↦ λ is lt zeros. ap f (sym (triplet_at k t within).value)
             ∙ ap (λ us. f (get_or us k t).2) is ∙ zeros k t lt
       ] every inside kept.zeros)
 
@@ -189,7 +206,7 @@ module _ (R : CommRing) (a b d : Plain R) (is : d ≡ plain_difference R a b) (n
       → MatchOption found (AllZero R d) (λ at. IsFirstNonzero R d at.row at.col)
       → MatchOption found (HasSameValues R n m a b)
       (λ at. IsFirstDifference R n m a b at.row at.col)
-  difference_found None zero = same_of_zero R a b d is zero n m
+  difference_found None zeros = same_of_zero R a b d is zeros n m
   difference_found (Some at) first = first_difference at.row at.col first
 
 module _ (R : CommRing) (a t : Plain R) (is : t ≡ plain_transpose R a) (square : a.cols ≡ a.rows)

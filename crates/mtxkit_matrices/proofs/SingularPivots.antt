@@ -1,8 +1,9 @@
 -- The pivot at which the factorisation of a permuted symmetric matrix stops.
+use Rattle.std.proofs.Common.{zero, suc, ◌++◌, ◌∷◌, [], length-append}
 use Rattle.std.proofs.Common.{◌≡◌, ℕ, ◌<◌, inl, inr, List, length, get_or, ap, sym, subst, ◌∙◌, refl, arith}
 use Rattle.std.proofs.lemmas.Bool.{cases_lt}
 use Rattle.sparse_algebra.specs.Algebra.{CommRing}
-use Rattle.sparse_algebra.specs.Plain.{Plain}
+use Rattle.sparse_algebra.specs.Plain.{Plain, below}
 use Rattle.sparse_algebra.proofs.SumLemmas.{where_yes}
 use Rattle.sparse_factor.specs.Factorisations.{IsFactorisation, plain_symmetric}
 use Rattle.sparse_factor.specs.LeadingBlocks.{leading, HasFactorisation, StopsAt}
@@ -10,8 +11,19 @@ use Rattle.sparse_permutation.specs.Permutations.{IsOrder}
 use Rattle.sparse_permutation.specs.PermutedPlain.{plain_permuted}
 use Rattle.sparse_permutation.proofs.Orders.{order_below}
 use Rattle.sparse_permutation.proofs.PermutedPlain.{both_below}
+use Rattle.mtxkit_matrices.specs.InnerSystems.{IsUnsolvableIn}
+use Rattle.mtxkit_matrices.specs.Pivots.{IsOrderBy}
+use Rattle.mtxkit_matrices.specs.Systems.{IsUnsolvable}
 use Rattle.mtxkit_matrices.specs.Values.{IsSymmetricMatrix}
+use Rattle.mtxkit_matrices.specs.declared.orders.EliminationOrder.{EliminationOrder}
+use Rattle.mtxkit_matrices.specs.declared.systems.SystemError.{SystemError}
+use Rattle.mtxkit_matrices.specs.declared.systems.SystemError.TheVariants.{Shapes, NotSymmetric}
+use Rattle.mtxkit_matrices.specs.declared.systems.SystemError.TheVariants.{NoFactors, OutOfMemory}
 use Rattle.mtxkit_matrices.proofs.SymmetricSystems.{IsSymmetricBelow, symmetric_is}
+
+pub length_below : (n : ℕ) → length (below n) ≡ n
+length_below zero = refl
+length_below (suc n) = omega (arith, length-append (below n) (n ∷ []), length_below n)
 
 module _ (R : CommRing) {T : Type 0} (f : T → R.Carrier) where
   -- a factorisation depends only on the values in its rows and columns
@@ -97,3 +109,12 @@ module _ (R : CommRing) {T : Type 0} (f : T → R.Carrier) where
               equation = given.2.equation;
             }))
       ]
+
+module _ (R : CommRing) {T : Type 0} (f : T → R.Carrier) (order : EliminationOrder) (a : Plain R)
+    (p : List ℕ) (named : IsOrderBy order a.rows p) where
+  -- a system that is not solved in an order that is asked for
+  pub unsolvable : (e : SystemError) → IsUnsolvableIn R f p a e → IsUnsolvable R f order a e
+  unsolvable Shapes is = tt
+  unsolvable (NotSymmetric at) is = absurd is
+  unsolvable (NoFactors pivot) is = (p, named, is)
+  unsolvable OutOfMemory is = tt

@@ -2,7 +2,7 @@ use Rattle.std.proofs.Common.{◌≡◌, subst}
 use Rattle.std.specs.Prelude.{IfOk}
 use Rattle.sparse_algebra.specs.Plain.{Plain, plain_product}
 use Rattle.sparse_compressed.specs.PlainOfLanes.{plain_of_rows}
-use Rattle.mtxkit_matrices.proofs.systems.product.Goals as goal
+use Rattle.mtxkit_matrices.proofs.solutions.product.Goals as goal
 
 pub returns : goal.returns
 returns g c =

@@ -1,33 +1,25 @@
-use Rattle.std.proofs.Common.{◌≡◌, ap, sym, ◌∙◌, arith}
+use Rattle.std.proofs.Common.{subst, ℕ}
+use Rattle.std.specs.Prelude.{IfOk, MatchOption}
 use Rattle.sparse_algebra.specs.Plain.{Plain, plain_product}
 use Rattle.sparse_coo_dense.specs.CooPlain.{plain_of_coo}
 use Rattle.sparse_compressed.specs.PlainOfLanes.{plain_of_rows}
-use Rattle.mtxkit_matrices.proofs.systems.has_product.Goals as goal
+use Rattle.sparse_dense_ops.specs.Solutions.{HasSameValues}
+use Rattle.mtxkit_matrices.specs.Differences.{IsFirstDifference}
+use Rattle.mtxkit_matrices.proofs.solutions.product_difference.Goals as goal
 
 pub returns : goal.returns
 returns g c =
     let R = g.T.Ring.ring in
     let f = g.T.Ring.value in
-    let a = plain_of_coo R f c.args.a.now in
-    let x = plain_of_coo R f c.args.x.now in
-    let b = plain_of_coo R f c.args.b.now in
-    let made = plain_of_rows R f c.in_ok-product.product in
+    let x = c.args.x.now in
+    let b = c.args.b.now in
     let right = plain_of_rows R f c.in_ok-right.right in
-    let is : made ≡ plain_product R a x = c.in_ok-product.ensures in
-    let given : right ≡ b = c.in_ok-right.ensures.plain in
-    let rows : c.in_ok-product.product.pattern.major_dim ≡ c.args.b.now.nrows =
-    ap (λ (p : Plain R). p.rows) is
-    ∙ c.requires.rows in
-    let cols : c.in_ok-product.product.pattern.minor_dim ≡ c.args.b.now.ncols =
-    ap (λ (p : Plain R). p.cols) is
-    ∙ c.requires.cols in
-    let test = c.in_ok-has_same_values.ensures in (
-      λ yes i j row col.
-          sym (ap (λ (p : Plain R). p.value i j) is)
-          ∙ test.0 yes i j (omega (arith, row, rows)) (omega (arith, col, cols))
-          ∙ ap (λ (p : Plain R). p.value i j) given,
-      λ same. test.1 (λ i j row col.
-          ap (λ (p : Plain R). p.value i j) is
-          ∙ same i j (omega (arith, row, rows)) (omega (arith, col, cols))
-          ∙ sym (ap (λ (p : Plain R). p.value i j) given)),
-    )
+    let product = plain_product R (plain_of_coo R f c.args.a.now) (plain_of_coo R f x) in
+    let Says = λ (n m : ℕ) (p q : Plain R). IfOk c.first_difference.result
+    (λ found. MatchOption found (HasSameValues R n m p q)
+    (λ at. IsFirstDifference R n m p q at.row at.col)) in
+    subst (λ m. Says b.nrows m product (plain_of_coo R f b)) c.requires.cols
+    (subst (λ n. Says n x.ncols product (plain_of_coo R f b)) c.requires.rows
+    (subst (λ (q : Plain R). Says c.args.a.now.nrows x.ncols product q) c.in_ok-right.ensures.plain
+    (subst (λ (p : Plain R). Says p.rows p.cols p right) c.in_ok-product.ensures
+    c.first_difference.ensures)))
