@@ -9,21 +9,58 @@ ghost use Rattle.sparse_faults.specs.InnerFirstFaults.{AllPass, AreSizes, IsAllo
 ghost use Rattle.sparse_faults.specs.InnerFirstFaults.{IsFailing, IsFirstFaultOrNone, IsHead};
 ghost use Rattle.sparse_faults.specs.ValueTypes.{scalar_as};
 
-use crate::counted_lines::{first_content, last_line};
+use crate::counted_lines::{Numbered, first_content, last_line};
 use crate::fault::LineFault;
 use crate::line_faults::{Search, line_fault};
+use crate::quote::{Quote, word_at_fault};
 use crate::value_type::ValueType;
 use sparse_parser::error::Cause;
 use sparse_parser::header::Header;
 use sparse_parser::size::Size;
+use std::fmt::{self, Display, Formatter, Write};
 
-/// A line of a text and its fault.
+/// A line of a text and its fault. `Display` writes the message of the fault, without the number of the line.
 #[derive(Clone, Copy, Debug)]
 pub struct Location {
     /// The number of the line, counted from 1; that of the last line if the text ends too early.
     pub line: usize,
     /// The fault.
     pub fault: LineFault,
+    /// The word that has the fault, if one has.
+    pub word: Option<Quote>,
+}
+
+impl Location {
+    // Returns the location of a fault that no single word has.
+    fn new(line: usize, fault: LineFault) -> Location
+        ensures { result.line ≡ line }
+    {
+        Location {
+            line,
+            fault,
+            word: None,
+        }
+    }
+
+    // Returns the location of a fault in this line of the text.
+    fn in_line(found: Numbered<'_>, fault: LineFault) -> Location
+        ensures { result.line ≡ found.number }
+    {
+        Location {
+            line: found.number,
+            fault,
+            word: word_at_fault(fault, found.line),
+        }
+    }
+}
+
+impl Display for Location {
+    fn fmt<W: Write>(&self, f: &mut Formatter<W>) -> fmt::Result {
+        match self.word {
+            Some(word) => self.fault.quote(word, f),
+            None => Display::fmt(&self.fault, f),
+        }
+    }
 }
 
 // The header of a text, the number of its line, and the text below it.
@@ -78,10 +115,7 @@ fn sizes_of(text: &[u8]) -> Result<Sizes<'_>, Location>
     };
     let found = match first_content(head.below, head.number + 1, true) {
         Ok(found) => found,
-        Err(end) => return Err(Location {
-            line: last_line(end),
-            fault: LineFault::Size,
-        }),
+        Err(end) => return Err(Location::new(last_line(end), LineFault::Size)),
     };
     match Size::from_line(head.header, found.line) {
         Some(size) => Ok(Sizes {
@@ -91,10 +125,7 @@ fn sizes_of(text: &[u8]) -> Result<Sizes<'_>, Location>
             size_line: found.number,
             below: found.below,
         }),
-        None => Err(Location {
-            line: found.number,
-            fault: LineFault::Size,
-        }),
+        None => Err(Location::in_line(found, LineFault::Size)),
     }
 }
 
@@ -105,10 +136,7 @@ fn head_of(text: &[u8]) -> Result<Head<'_>, Location>
 {
     let found = match first_content(text, 1, false) {
         Ok(found) => found,
-        Err(end) => return Err(Location {
-            line: last_line(end),
-            fault: LineFault::Header,
-        }),
+        Err(end) => return Err(Location::new(last_line(end), LineFault::Header)),
     };
     match Header::from_line(found.line) {
         Some(header) => Ok(Head {
@@ -116,10 +144,7 @@ fn head_of(text: &[u8]) -> Result<Head<'_>, Location>
             number: found.number,
             below: found.below,
         }),
-        None => Err(Location {
-            line: found.number,
-            fault: LineFault::Header,
-        }),
+        None => Err(Location::in_line(found, LineFault::Header)),
     }
 }
 
@@ -132,10 +157,7 @@ fn sizes_fault(sizes: Sizes<'_>, cause: Cause) -> Location
         Some(_) => sizes.header_line,
         None => sizes.size_line,
     };
-    Location {
-        line,
-        fault: LineFault::of_size(cause),
-    }
+    Location::new(line, LineFault::of_size(cause))
 }
 
 // Returns the first fault of a text that matches the grammar, if it has one, given its number of data lines.
@@ -150,14 +172,8 @@ fn entries_fault(sizes: Sizes<'_>, size: Size, count: usize, values: ValueType) 
     let line = sizes.size_line;
     match size.count {
         Some(wanted) if wanted == count => {}
-        Some(wanted) => return Some(Location {
-            line,
-            fault: LineFault::Count(wanted, count),
-        }),
-        None => return Some(Location {
-            line,
-            fault: LineFault::TooMany,
-        }),
+        Some(wanted) => return Some(Location::new(line, LineFault::Count(wanted, count))),
+        None => return Some(Location::new(line, LineFault::TooMany)),
     }
     match first_fault(Search::Entries(sizes.header, values), sizes.below, line + 1) {
         Ok(_) => {}
@@ -186,10 +202,7 @@ fn first_fault(search: Search, text: &[u8], first: usize) -> Result<usize, Locat
             Err(_) => return Ok(count),
         };
         if let Some(fault) = line_fault(search, found.line) {
-            return Err(Location {
-                line: found.number,
-                fault,
-            });
+            return Err(Location::in_line(found, fault));
         }
         rest = found.below;
         number = found.number + 1;
