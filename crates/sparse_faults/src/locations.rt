@@ -9,7 +9,7 @@ ghost use Rattle.sparse_faults.specs.InnerFirstFaults.{AllPass, AreSizes, IsAllo
 ghost use Rattle.sparse_faults.specs.InnerFirstFaults.{IsFailing, IsFirstFaultOrNone, IsHead};
 ghost use Rattle.sparse_faults.specs.ValueTypes.{scalar_as};
 
-use crate::counted_lines::{Numbered, first_content, last_line};
+use crate::counted_lines::{first_content, last_line};
 use crate::fault::LineFault;
 use crate::line_faults::{Search, line_fault};
 use crate::quote::{Quote, word_at_fault};
@@ -28,30 +28,6 @@ pub struct Location {
     pub fault: LineFault,
     /// The word that has the fault, if one has.
     pub word: Option<Quote>,
-}
-
-impl Location {
-    // Returns the location of a fault that no single word has.
-    fn new(line: usize, fault: LineFault) -> Location
-        ensures { result.line ≡ line }
-    {
-        Location {
-            line,
-            fault,
-            word: None,
-        }
-    }
-
-    // Returns the location of a fault in this line of the text.
-    fn in_line(found: Numbered<'_>, fault: LineFault) -> Location
-        ensures { result.line ≡ found.number }
-    {
-        Location {
-            line: found.number,
-            fault,
-            word: word_at_fault(fault, found.line),
-        }
-    }
 }
 
 impl Display for Location {
@@ -115,7 +91,11 @@ fn sizes_of(text: &[u8]) -> Result<Sizes<'_>, Location>
     };
     let found = match first_content(head.below, head.number + 1, true) {
         Ok(found) => found,
-        Err(end) => return Err(Location::new(last_line(end), LineFault::Size)),
+        Err(end) => return Err(Location {
+            line: last_line(end),
+            fault: LineFault::Size,
+            word: None,
+        }),
     };
     match Size::from_line(head.header, found.line) {
         Some(size) => Ok(Sizes {
@@ -125,7 +105,11 @@ fn sizes_of(text: &[u8]) -> Result<Sizes<'_>, Location>
             size_line: found.number,
             below: found.below,
         }),
-        None => Err(Location::in_line(found, LineFault::Size)),
+        None => Err(Location {
+            line: found.number,
+            fault: LineFault::Size,
+            word: word_at_fault(LineFault::Size, found.line),
+        }),
     }
 }
 
@@ -136,7 +120,11 @@ fn head_of(text: &[u8]) -> Result<Head<'_>, Location>
 {
     let found = match first_content(text, 1, false) {
         Ok(found) => found,
-        Err(end) => return Err(Location::new(last_line(end), LineFault::Header)),
+        Err(end) => return Err(Location {
+            line: last_line(end),
+            fault: LineFault::Header,
+            word: None,
+        }),
     };
     match Header::from_line(found.line) {
         Some(header) => Ok(Head {
@@ -144,7 +132,11 @@ fn head_of(text: &[u8]) -> Result<Head<'_>, Location>
             number: found.number,
             below: found.below,
         }),
-        None => Err(Location::in_line(found, LineFault::Header)),
+        None => Err(Location {
+            line: found.number,
+            fault: LineFault::Header,
+            word: word_at_fault(LineFault::Header, found.line),
+        }),
     }
 }
 
@@ -157,7 +149,11 @@ fn sizes_fault(sizes: Sizes<'_>, cause: Cause) -> Location
         Some(_) => sizes.header_line,
         None => sizes.size_line,
     };
-    Location::new(line, LineFault::of_size(cause))
+    Location {
+        line,
+        fault: LineFault::of_size(cause),
+        word: None,
+    }
 }
 
 // Returns the first fault of a text that matches the grammar, if it has one, given its number of data lines.
@@ -172,8 +168,16 @@ fn entries_fault(sizes: Sizes<'_>, size: Size, count: usize, values: ValueType) 
     let line = sizes.size_line;
     match size.count {
         Some(wanted) if wanted == count => {}
-        Some(wanted) => return Some(Location::new(line, LineFault::Count(wanted, count))),
-        None => return Some(Location::new(line, LineFault::TooMany)),
+        Some(wanted) => return Some(Location {
+            line,
+            fault: LineFault::Count(wanted, count),
+            word: None,
+        }),
+        None => return Some(Location {
+            line,
+            fault: LineFault::TooMany,
+            word: None,
+        }),
     }
     match first_fault(Search::Entries(sizes.header, values), sizes.below, line + 1) {
         Ok(_) => {}
@@ -202,7 +206,11 @@ fn first_fault(search: Search, text: &[u8], first: usize) -> Result<usize, Locat
             Err(_) => return Ok(count),
         };
         if let Some(fault) = line_fault(search, found.line) {
-            return Err(Location::in_line(found, fault));
+            return Err(Location {
+                line: found.number,
+                fault: fault,
+                word: word_at_fault(fault, found.line),
+            });
         }
         rest = found.below;
         number = found.number + 1;
