@@ -1,6 +1,6 @@
 //! Matrices over the residues modulo a number that is known only at run time.
 
-ghost use Rattle.std.specs.Prelude.{◌≡◌, map, IfOk};
+ghost use Rattle.std.specs.Prelude.{◌≡◌, length, map, IfOk};
 ghost use Rattle.sparse_algebra.specs.Integers.{element_of};
 ghost use Rattle.sparse_compressed.specs.Compressed.{IsSound};
 ghost use Rattle.sparse_compressed.specs.PlainOfLanes.{plain_of_rows};
@@ -51,8 +51,9 @@ pub fn numbers_of<T: Number>(
 
 // Returns integers that represent scalars. Fails only if an allocation fails.
 fn integers_of<T: Number>(alloc: Global, scalars: &[T]) -> Result<Vec<i64>, AllocError>
-    ensures { IfOk result
+    ensures values { IfOk result
         (λ numbers. map (element_of T.ring) numbers.items ≡ map T.value scalars.now) }
+    ensures count { IfOk result (λ numbers. length numbers.items ≡ length scalars.now) }
 {
     let mut numbers = Vec::with_capacity(alloc, scalars.len())?;
     for scalar in scalars {

@@ -2,6 +2,7 @@ mod ValidOperands
 mod Combined
 mod Factoring
 mod HeldFactors
+mod HeldMatrices
 mod Quotients
 mod Solving
 mod Unreadable
