@@ -3,6 +3,7 @@ mod Combined
 mod Factoring
 mod HeldFactors
 mod HeldMatrices
+mod HeldResults
 mod Quotients
 mod Solving
 mod Unreadable
