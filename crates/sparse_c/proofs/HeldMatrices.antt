@@ -139,10 +139,11 @@ module _ {U : Type 0} (out : Option RingMatrix) (status : ℤ) where
       (residues_held (modulus_held h.0) h.1)))) (λ k. (sym is k, sym also k))
       (together (widened s.modulus status (no_pair s.matrix t.matrix sound valid)
       (λ e unlisted. inr (same, inr unlisted)) answer)) where
-    no_pair : (l r : Compressed ℤ) → IsSound l → IsSound r → (e : Refusal) → IsFaultOfPair l r e → ⊥
-    no_pair l r sound valid e (inl fault) = no_fault l e sound fault
-    no_pair l r sound valid e (inr fault) = no_fault r e valid fault.1
-    together : {Fault : Refusal → Type 0} {Done : Type 0} → Answers status Fault U Done
-        → Answers status Fault U ((t.modulus ≡ s.modulus) × Done)
-    together (inl done) = inl (done.0, (same, done.1))
-    together (inr refused) = inr refused
+        no_pair : (l r : Compressed ℤ) → IsSound l → IsSound r → (e : Refusal) → IsFaultOfPair l r e → ⊥
+        no_pair l r sound valid e (inl fault) = no_fault l e sound fault
+        no_pair l r sound valid e (inr fault) = no_fault r e valid fault.1
+
+        together : {Fault : Refusal → Type 0} {Done : Type 0} → Answers status Fault U Done
+            → Answers status Fault U ((t.modulus ≡ s.modulus) × Done)
+        together (inl done) = inl (done.0, (same, done.1))
+        together (inr refused) = inr refused
