@@ -14,4 +14,6 @@ pub mod Statuses
 pub mod PatternTexts
 pub mod Shapes
 pub mod InnerShapes
+pub mod Ones
+pub mod InnerOnes
 pub mod Progress

@@ -102,7 +102,8 @@ fn push_sizes(alloc: Global, lines: &mut String, loaded: &Loaded) -> Result<(), 
     push_count(alloc, lines, "entries", loaded.entries)
 }
 
-fn format_name(format: Format) -> &'static str
+/// Returns the word of a header for a format.
+pub(crate) fn format_name(format: Format) -> &'static str
     ensures { result.now ≡ format_name format }
 {
     match format {
@@ -122,7 +123,8 @@ fn field_name(field: Field) -> &'static str
     }
 }
 
-fn symmetry_name(symmetry: Symmetry) -> &'static str
+/// Returns the word of a header for a symmetry.
+pub(crate) fn symmetry_name(symmetry: Symmetry) -> &'static str
     ensures { result.now ≡ symmetry_name symmetry }
 {
     match symmetry {

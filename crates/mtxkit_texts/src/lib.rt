@@ -11,6 +11,7 @@ mod line_faults;
 mod lists;
 mod loaded;
 mod locations;
+mod ones;
 mod pattern_texts;
 mod places;
 mod progress;
