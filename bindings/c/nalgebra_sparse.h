@@ -611,6 +611,18 @@ int32_t nalgebra_sparse_read(
     int64_t *out_values, size_t out_values_len,
     size_t *out_triplets);
 
+/* Writes to *out_line the number, counted from 1, of the first line of a text with a fault, or 0 if the text has no
+ * error, so that nalgebra_sparse_read reads it. Allocates nothing.
+ *
+ * The line is that of the error of which nalgebra_sparse_read_sizes returns the status: the first line that does not
+ * match the grammar, or the last line if the text ends before its size line; otherwise the header, if its words do not
+ * go together; the size line, if its numbers do not fit the header or the number of entries is another; the first entry
+ * that is not read; or the first entry with an index outside the matrix.
+ *
+ * Statuses: UNREADABLE, where *out_line is unchanged.
+ */
+int32_t nalgebra_sparse_text_fault(const uint8_t *text, size_t text_len, size_t *out_line);
+
 /* Writes to *out_length how many bytes the text of a list of triplets has: the size for nalgebra_sparse_write.
  *
  * Statuses: as for nalgebra_sparse_assemble_csr, but for TOO_SMALL.

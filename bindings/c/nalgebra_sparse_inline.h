@@ -193,6 +193,10 @@ static inline int32_t nalgebra_sparse_read_lists(const uint8_t *text, size_t tex
         NALGEBRA_SPARSE_SIZES(out->col_indices, out->room), NALGEBRA_SPARSE_VALUES(out->values, out->room), &out->count);
 }
 
+static inline int32_t nalgebra_sparse_text_fault_bytes(const uint8_t *text, size_t text_len, size_t *out_line) {
+    return nalgebra_sparse_text_fault(NALGEBRA_SPARSE_TEXT(text, text_len), out_line);
+}
+
 static inline int32_t nalgebra_sparse_write_length_lists(nalgebra_sparse_lists t, size_t *out_length) {
     return nalgebra_sparse_write_length(t.rows, t.cols, NALGEBRA_SPARSE_LISTS(t), out_length);
 }

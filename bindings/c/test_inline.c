@@ -155,6 +155,8 @@ static void check_texts(void) {
     CHECK(memcmp(written + length - 13, "1 1 4\n2 3 -5\n", 13) == 0);
     CHECK(nalgebra_sparse_read_sizes_lists(NULL, 0, &t) == NALGEBRA_SPARSE_INVALID_TEXT);
     CHECK(nalgebra_sparse_read_lists(NULL, 7, &t) == NALGEBRA_SPARSE_INVALID_TEXT);
+    CHECK(nalgebra_sparse_text_fault_bytes((const uint8_t *)text, strlen(text) - 3, &length) == DONE && length == 4);
+    CHECK(nalgebra_sparse_text_fault_bytes(NULL, 7, &length) == DONE && length == 1);
 }
 
 /* A null pointer means an array of length 0, whatever length is passed with it. */

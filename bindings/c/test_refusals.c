@@ -100,6 +100,7 @@ static const char LINES[] = "%%MatrixMarket matrix coordinate integer symmetric\
     CALL(factor_symmetric_pivot_mod, 3, 3, EVEN, &t->count)             \
     CALL(read_sizes, BYTES, &t->rows, &t->cols, &t->count)              \
     CALL(read, BYTES, TO_PATTERN, TO_VALUES, &t->count)                 \
+    CALL(text_fault, BYTES, &t->count)                                  \
     CALL(write_length, 3, 3, LISTS, &t->count)                          \
     CALL(write, 3, 3, LISTS, t->text, TEXT, &t->count)
 
@@ -187,7 +188,8 @@ int main(void) {
         int32_t status = run(call, SIZE_MAX, &answer);
         size_t count = requests;
         int asks = TABLE[call].run != matrix_sizes_call && TABLE[call].run != matrix_read_call &&
-                   TABLE[call].run != matrix_read_32_call && TABLE[call].run != factors_sizes_call;
+                   TABLE[call].run != matrix_read_32_call && TABLE[call].run != factors_sizes_call &&
+                   TABLE[call].run != text_fault_call;
         if (status != 0 || (count != 0) != asks || memcmp(&answer, &blank, sizeof blank) == 0) {
             fprintf(stderr, "%s: status %d after %zu requests\n", TABLE[call].name, (int)status, count);
             return 1;

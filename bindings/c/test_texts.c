@@ -121,33 +121,35 @@ static void check_symmetric(void) {
     check_read(text, &m);
 }
 
+/* The line of the fault, the status and the text; of a text that is not UTF-8 no line is written. */
 static const struct {
+    size_t line;
     int32_t status;
     const char *text;
 } ERRORS[] = {
-    {NALGEBRA_SPARSE_INVALID_TEXT, ""},
-    {NALGEBRA_SPARSE_INVALID_TEXT, "%%MatrixMarket matrix coordinate integer general\n1 1 1\n1 x 1\n"},
-    {NALGEBRA_SPARSE_INVALID_TEXT, "%%MatrixMarket matrix coordinate integer general\n1 18446744073709551616 0\n"},
-    {NALGEBRA_SPARSE_INVALID_TEXT, "%%MatrixMarket matrix coordinate integer general\n1 1 1\n1 1\n"},
-    {NALGEBRA_SPARSE_INVALID_HEADER, "%%MatrixMarket matrix array pattern general\n1 1\n1\n"},
-    {NALGEBRA_SPARSE_ENTRY_MISMATCH, "%%MatrixMarket matrix coordinate integer general\n1 1 2\n1 1 1\n"},
-    {NALGEBRA_SPARSE_TYPE_MISMATCH, "%%MatrixMarket matrix coordinate integer general\n1 1 1\n1 1 9223372036854775808\n"},
-    {NALGEBRA_SPARSE_TYPE_MISMATCH, "%%MatrixMarket matrix coordinate pattern general\n1 1 1\n1 1\n"},
-    {NALGEBRA_SPARSE_ZERO_INDEX, "%%MatrixMarket matrix coordinate integer general\n1 1 1\n1 0 1\n"},
+    {1, NALGEBRA_SPARSE_INVALID_TEXT, ""},
+    {3, NALGEBRA_SPARSE_INVALID_TEXT, "%%MatrixMarket matrix coordinate integer general\n1 1 1\n1 x 1\n"},
+    {2, NALGEBRA_SPARSE_INVALID_TEXT, "%%MatrixMarket matrix coordinate integer general\n1 18446744073709551616 0\n"},
+    {3, NALGEBRA_SPARSE_INVALID_TEXT, "%%MatrixMarket matrix coordinate integer general\n1 1 1\n1 1\n"},
+    {1, NALGEBRA_SPARSE_INVALID_HEADER, "%%MatrixMarket matrix array pattern general\n1 1\n1\n"},
+    {2, NALGEBRA_SPARSE_ENTRY_MISMATCH, "%%MatrixMarket matrix coordinate integer general\n1 1 2\n1 1 1\n"},
+    {3, NALGEBRA_SPARSE_TYPE_MISMATCH, "%%MatrixMarket matrix coordinate integer general\n1 1 1\n1 1 9223372036854775808\n"},
+    {3, NALGEBRA_SPARSE_TYPE_MISMATCH, "%%MatrixMarket matrix coordinate pattern general\n1 1 1\n1 1\n"},
+    {3, NALGEBRA_SPARSE_ZERO_INDEX, "%%MatrixMarket matrix coordinate integer general\n1 1 1\n1 0 1\n"},
     /* An index of 0 comes before the value of its entry, and after the grammar, the shape and large indices. */
-    {NALGEBRA_SPARSE_ZERO_INDEX, "%%MatrixMarket matrix coordinate integer general\n1 1 1\n0 1 1.0\n"},
-    {NALGEBRA_SPARSE_ZERO_INDEX, "%%MatrixMarket matrix coordinate integer general\n1 1 1\n0 1 9223372036854775808\n"},
-    {NALGEBRA_SPARSE_INVALID_TEXT, "%%MatrixMarket matrix coordinate integer general\n1 1 1\n0 1 x\n"},
-    {NALGEBRA_SPARSE_INVALID_TEXT, "%%MatrixMarket matrix coordinate integer general\n1 1 1\n0 1\n"},
-    {NALGEBRA_SPARSE_INVALID_TEXT, "%%MatrixMarket matrix coordinate integer general\n1 1 1\n0 18446744073709551616 1\n"},
-    {NALGEBRA_SPARSE_INVALID_TEXT, "%%MatrixMarket matrix coordinate integer general\n1 1 1\n1 1 1.0\n"},
-    {NALGEBRA_SPARSE_INVALID_TEXT, "%%MatrixMarket matrix coordinate integer symmetric\n2 2 1\n1 2 170141183460469231731687303715884105728\n"},
-    {NALGEBRA_SPARSE_TYPE_MISMATCH, "%%MatrixMarket matrix coordinate integer symmetric\n2 2 1\n1 2 170141183460469231731687303715884105727\n"},
-    {NALGEBRA_SPARSE_INDEX_OUT_OF_BOUNDS, "%%MatrixMarket matrix coordinate integer general\n1 1 1\n1 2 1\n"},
-    {NALGEBRA_SPARSE_DIAGONAL_ENTRY, "%%MatrixMarket matrix coordinate integer skew-symmetric\n1 1 1\n1 1 1\n"},
-    {NALGEBRA_SPARSE_NOT_LOWER_TRIANGLE, "%%MatrixMarket matrix coordinate integer symmetric\n2 2 1\n1 2 1\n"},
-    {NALGEBRA_SPARSE_NON_SQUARE, "%%MatrixMarket matrix coordinate integer symmetric\n1 2 1\n1 1 1\n"},
-    {NALGEBRA_SPARSE_UNREADABLE, "%%MatrixMarket matrix coordinate integer general\n% \xff\n1 1 0\n"},
+    {3, NALGEBRA_SPARSE_ZERO_INDEX, "%%MatrixMarket matrix coordinate integer general\n1 1 1\n0 1 1.0\n"},
+    {3, NALGEBRA_SPARSE_ZERO_INDEX, "%%MatrixMarket matrix coordinate integer general\n1 1 1\n0 1 9223372036854775808\n"},
+    {3, NALGEBRA_SPARSE_INVALID_TEXT, "%%MatrixMarket matrix coordinate integer general\n1 1 1\n0 1 x\n"},
+    {3, NALGEBRA_SPARSE_INVALID_TEXT, "%%MatrixMarket matrix coordinate integer general\n1 1 1\n0 1\n"},
+    {3, NALGEBRA_SPARSE_INVALID_TEXT, "%%MatrixMarket matrix coordinate integer general\n1 1 1\n0 18446744073709551616 1\n"},
+    {3, NALGEBRA_SPARSE_INVALID_TEXT, "%%MatrixMarket matrix coordinate integer general\n1 1 1\n1 1 1.0\n"},
+    {3, NALGEBRA_SPARSE_INVALID_TEXT, "%%MatrixMarket matrix coordinate integer symmetric\n2 2 1\n1 2 170141183460469231731687303715884105728\n"},
+    {3, NALGEBRA_SPARSE_TYPE_MISMATCH, "%%MatrixMarket matrix coordinate integer symmetric\n2 2 1\n1 2 170141183460469231731687303715884105727\n"},
+    {3, NALGEBRA_SPARSE_INDEX_OUT_OF_BOUNDS, "%%MatrixMarket matrix coordinate integer general\n1 1 1\n1 2 1\n"},
+    {3, NALGEBRA_SPARSE_DIAGONAL_ENTRY, "%%MatrixMarket matrix coordinate integer skew-symmetric\n1 1 1\n1 1 1\n"},
+    {3, NALGEBRA_SPARSE_NOT_LOWER_TRIANGLE, "%%MatrixMarket matrix coordinate integer symmetric\n2 2 1\n1 2 1\n"},
+    {2, NALGEBRA_SPARSE_NON_SQUARE, "%%MatrixMarket matrix coordinate integer symmetric\n1 2 1\n1 1 1\n"},
+    {0, NALGEBRA_SPARSE_UNREADABLE, "%%MatrixMarket matrix coordinate integer general\n% \xff\n1 1 0\n"},
 };
 
 static void check_errors(void) {
@@ -157,10 +159,14 @@ static void check_errors(void) {
         size_t length = strlen(ERRORS[f].text);
         CHECK(nalgebra_sparse_read_sizes(text, length, &r.rows, &r.cols, &r.count) == ERRORS[f].status);
         CHECK(nalgebra_sparse_read(text, length, r.row, ROOM, r.col, ROOM, r.value, ROOM, &r.count) == ERRORS[f].status);
+        size_t line = 0;
+        int32_t status = nalgebra_sparse_text_fault(text, length, &line);
+        CHECK(status == (ERRORS[f].status == NALGEBRA_SPARSE_UNREADABLE ? NALGEBRA_SPARSE_UNREADABLE : 0) && line == ERRORS[f].line);
     }
     const char *two = "%%MatrixMarket matrix coordinate integer general\n1 1 2\n1 1 5\n1 1 6\n";
     const uint8_t *text = (const uint8_t *)two;
-    size_t length = strlen(two);
+    size_t length = strlen(two), line = 77;
+    CHECK(nalgebra_sparse_text_fault(text, length, &line) == 0 && line == 0);
     CHECK(nalgebra_sparse_read(text, length, r.row, 1, r.col, 2, r.value, 2, &r.count) == NALGEBRA_SPARSE_TOO_SMALL);
     CHECK(nalgebra_sparse_read(text, length, r.row, 2, r.col, 1, r.value, 2, &r.count) == NALGEBRA_SPARSE_TOO_SMALL);
     CHECK(nalgebra_sparse_read(text, length, r.row, 2, r.col, 2, r.value, 1, &r.count) == NALGEBRA_SPARSE_TOO_SMALL && r.count == 2);

@@ -1,8 +1,9 @@
 """Times the calls beside SciPy's, in turns, and prints one table: the ratio of the least times, ours to SciPy's.
 
-bench.py [ROUNDS]. SciPy takes indices of 32 bits where they fit, and ours have 64. Its products are sorted afterwards,
-as ours are. There is no limit for the times: a machine that does other work gives other ratios. The second table is
-measured in a process that keeps freed memory (`reuse_memory`), for both.
+bench.py [ROUNDS]. A line is that of the functions on SciPy's matrices, or of the operators of `Exact`, whose operands
+and results stay behind handles. SciPy takes indices of 32 bits where they fit, and ours have 64. Its products are
+sorted afterwards, as ours are. There is no limit for the times: a machine that does other work gives other ratios. The
+second table is measured in a process that keeps freed memory (`reuse_memory`), for both.
 """
 import os
 import sys
@@ -40,18 +41,25 @@ def sorted_square(matrix):
 
 
 def tasks(size, rows, cols):
-    """Returns the tasks on a matrix: a name, our call and SciPy's."""
+    """Returns the tasks on a matrix: a name, our function, the operator of `Exact`, and SciPy's call."""
     values = np.random.default_rng(2).integers(-9, 10, len(rows))
     small = rows.astype(np.int32), cols.astype(np.int32)
     shape = size, size
     matrix = ours.assemble_csr(shape, rows, cols, values)
     theirs = sp.coo_matrix((values, small), shape).tocsr()
     turned, turned_theirs = ours.transpose(matrix), theirs.T.tocsr()
+    exact = ours.Exact.from_triplets(shape, rows, cols, values)
+    turned_exact = exact.T
     return [
-        ("assembly", lambda: ours.assemble_csr(shape, rows, cols, values), lambda: sp.coo_matrix((values, small), shape).tocsr()),
-        ("square", lambda: ours.matmul(matrix, matrix), lambda: sorted_square(theirs)),
-        ("sum A + A^T", lambda: ours.add(matrix, turned), lambda: theirs + turned_theirs),
-        ("transpose", lambda: ours.transpose(matrix), lambda: theirs.T.tocsr()),
+        (
+            "assembly",
+            lambda: ours.assemble_csr(shape, rows, cols, values),
+            lambda: ours.Exact.from_triplets(shape, rows, cols, values),
+            lambda: sp.coo_matrix((values, small), shape).tocsr(),
+        ),
+        ("square", lambda: ours.matmul(matrix, matrix), lambda: exact @ exact, lambda: sorted_square(theirs)),
+        ("sum A + A^T", lambda: ours.add(matrix, turned), lambda: exact + turned_exact, lambda: theirs + turned_theirs),
+        ("transpose", lambda: ours.transpose(matrix), lambda: exact.T, lambda: theirs.T.tocsr()),
     ]
 
 
@@ -61,19 +69,24 @@ def time_of(call):
     return time.perf_counter() - start
 
 
+def ratios_of(rounds, function, operator, theirs):
+    """Returns the ratios of the least times of our two calls to SciPy's."""
+    times = [(time_of(function), time_of(operator), time_of(theirs)) for _ in range(rounds)]
+    ours, exact, other = map(min, zip(*times))
+    return ours / other, exact / other
+
+
 def main():
     rounds = int(sys.argv[1]) if len(sys.argv) > 1 else 7
     inputs = [
         ("10^5 rows, 10^6 shuffled triplets", shuffled(100_000, 1_000_000)),
         ("grid of 500 by 500, in row order", grid(500)),
     ]
-    print("| | " + " | ".join(name for name, _, _ in tasks(*shuffled(4, 4))) + " |")
+    print("| | " + " | ".join(name for name, *_ in tasks(*shuffled(4, 4))) + " |")
     for name, triplets in inputs:
-        ratios = []
-        for _, call, theirs in tasks(*triplets):
-            times = [(time_of(call), time_of(theirs)) for _ in range(rounds)]
-            ratios.append(min(t for t, _ in times) / min(t for _, t in times))
-        print(f"| {name} | " + " | ".join(f"{ratio:.2f}" for ratio in ratios) + " |", flush=True)
+        ratios = [ratios_of(rounds, *calls) for _, *calls in tasks(*triplets)]
+        for way, line in zip(("functions", "Exact"), zip(*ratios)):
+            print(f"| {way}, {name} | " + " | ".join(f"{ratio:.2f}" for ratio in line) + " |", flush=True)
 
 
 if __name__ == "__main__":

@@ -115,9 +115,23 @@ def answer(words, over):
             return truth(factors_of(first, a, over).compared == factors_of(second, b, over).compared)
         case ["ldl", Picture() as a, "\\", Picture() as b]:
             return drawn(ldl_solution(scalars, *ldl(scalars, matrix_of(a, columns)), dense_of(b, over)))
+        case ["factored", "size", Picture() as a]:
+            return str(factored_size(scalars, matrix_of(a, columns)))
         case ["debug", "ldl", Picture() as a]:
             return debug_ldl(scalars, *ldl(scalars, matrix_of(a, columns)))
     return None
+
+
+def factored_size(scalars, matrix):
+    """Returns how many of the first rows and columns have factors L and D."""
+    size = square(matrix).nrows
+    for count in range(size):
+        first = {place: value for place, value in matrix.entries.items() if max(place) <= count}
+        try:
+            ldl(scalars, Matrix(count + 1, count + 1, first))
+        except Refused:
+            return count
+    return size
 
 
 def ldl_solution(scalars, l, d, b):

@@ -11,7 +11,7 @@ _mtxkit() {
     spy) words="--size -o --svg --text" ;;
     field) [ "$COMP_CWORD" -ne 2 ] || words="integer pattern" ;;
     integer) words="--scale" ;;
-    order) words="--method" ;;
+    order) [ "$COMP_CWORD" -ne 2 ] || words="amd rcm" ;;
     fill) words="--order" ;;
     eval) words="--mod --rows --columns" ;;
     solve | check) words="--mod" ;;
@@ -22,7 +22,6 @@ _mtxkit() {
     esac
     case $before in
     --mod) words="2 3 5 7 11 13 101 65537 998244353 1000000007 2305843009213693951" ;;
-    --method) words="amd rcm" ;;
     --order) words="natural amd rcm" ;;
     --size | --scale) return ;;
     *) words="$words --help" ;;

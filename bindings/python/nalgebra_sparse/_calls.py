@@ -139,6 +139,7 @@ _TABLE = {
     "factor_symmetric_pivot_mod": f"modulus size {_LANES} out_size",
     "read_sizes": "text out_size out_size out_size",
     "read": "text out_indices out_indices out_values out_size",
+    "text_fault": "text out_size",
     "write_length": f"size size {_TRIPLETS} out_size",
     "write": f"size size {_TRIPLETS} out_text out_size",
     "matrix_from_rows": f"size size {_LANES} handle",

@@ -40,7 +40,6 @@ class InvalidText(Error):
 
 
 UNKNOWN_MODULUS = 7
-WRONG_COUNT = 10
 NOT_UTF8 = 16
 
 _REFUSALS: dict[int, tuple[type[Exception], str]] = {

@@ -1,12 +1,11 @@
-"""The line at which the library stops reading a Matrix Market text. It is found by further calls of the library's reader;
-the search is Python, and is tested only."""
+"""The line of a Matrix Market text that has the first fault, for the errors of the calls that read texts."""
 from __future__ import annotations
 
 import ctypes
 from typing import Any, Optional
 
 from ._calls import status_of
-from ._errors import NOT_UTF8, WRONG_COUNT, IndexOutOfBounds, InvalidText, error_of
+from ._errors import NOT_UTF8, IndexOutOfBounds, InvalidText, error_of
 
 _DONE = 0
 
@@ -17,7 +16,7 @@ def read_text(name: str, text: bytes, *arguments: Any) -> None:
     if status == _DONE:
         return
     error = error_of(status, name)
-    line = _faulty_line(text, status) if isinstance(error, (InvalidText, IndexOutOfBounds)) else None
+    line = _faulty_line(text) if isinstance(error, (InvalidText, IndexOutOfBounds)) else None
     if line is None:
         raise error
     located = type(error)(f"line {line}: {error}")
@@ -25,37 +24,13 @@ def read_text(name: str, text: bytes, *arguments: Any) -> None:
     raise located
 
 
-def _status(*lines: bytes) -> int:
-    """Returns the status of reading a text with these lines."""
-    sizes = ctypes.c_size_t(), ctypes.c_size_t(), ctypes.c_size_t()
-    return status_of("read_sizes", b"\n".join(lines) + b"\n", *sizes)
-
-
-def _faulty_line(text: bytes, status: int) -> Optional[int]:
-    """Returns the number of a line, counted from 1, for which the library refuses a text with this status: the header, or
-    the size line, which also has the fault of a wrong number of entries, or the first entry that has this fault. If the
-    text ends before its size line, that is its last line. Returns None if no line is found.
-    """
-    if status == NOT_UTF8:
+def _faulty_line(text: bytes) -> Optional[int]:
+    """Returns the number of the line with the first fault, counted from 1, which the library tells, or of the line with
+    the first byte that is not UTF-8. Returns None if the text has no error."""
+    line = ctypes.c_size_t()
+    if status_of("text_fault", text, line) == NOT_UTF8:
         return _undecoded(text)
-    written = [(number, line) for number, line in enumerate(text.splitlines(), 1) if line.split()]
-    last = max(1, len(text.splitlines()))
-    if not written:
-        return last
-    (header_number, header), *below = written
-    is_array = b"array" in header.lower().split()
-    if _status(header, b"0 0" if is_array else b"0 0 0") != _DONE:
-        return header_number
-    contents = [(number, line) for number, line in below if not line.split()[0].startswith(b"%")]
-    if not contents:
-        return last
-    (size_number, size), *entries = contents
-    if status == WRONG_COUNT or _status(header, size) not in (_DONE, WRONG_COUNT):
-        return size_number
-    if is_array:
-        # A value has the same faults at each place of an array.
-        return _first_refused(b"%%MatrixMarket matrix array integer general", b"%d 1", entries, status)
-    return _first_refused(header, b" ".join(size.split()[:2]) + b" %d", entries, status)
+    return line.value or None
 
 
 def _undecoded(text: bytes) -> Optional[int]:
@@ -65,19 +40,3 @@ def _undecoded(text: bytes) -> Optional[int]:
     except UnicodeDecodeError as error:
         return len(text[: error.start + 1].splitlines())
     return None
-
-
-def _first_refused(header: bytes, size: bytes, entries: list[tuple[int, bytes]], status: int) -> Optional[int]:
-    """Returns the number of the line of the first entry with which the entries up to it are refused with this status."""
-
-    def is_refused(count: int) -> bool:
-        return _status(header, size % count, *(line for _, line in entries[:count])) == status
-
-    # The first `low` entries are not refused so, and the first `high` are.
-    low, high = 0, len(entries)
-    if not is_refused(high):
-        return None
-    while high - low > 1:
-        middle = (low + high) // 2
-        low, high = (low, middle) if is_refused(middle) else (middle, high)
-    return entries[high - 1][0]

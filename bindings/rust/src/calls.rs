@@ -332,6 +332,8 @@ extern "C" {
         out_triplets: *mut usize,
     ) -> i32;
 
+    pub fn nalgebra_sparse_text_fault(text: *const u8, text_len: usize, out_line: *mut usize) -> i32;
+
     pub fn nalgebra_sparse_write(
         rows: usize, cols: usize,
         row_indices: *const usize, row_indices_len: usize,

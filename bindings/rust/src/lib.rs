@@ -29,4 +29,4 @@ pub use operations::{add, add_scaled, assemble_csc, assemble_csr, divide, multip
 pub use orders::Order;
 pub use symmetric::{factor_symmetric_checked, factor_symmetric_mod_checked, solve_symmetric_checked, solve_symmetric_mod_checked};
 pub use systems::{fill, solve_lower, solve_symmetric, System, Triangle};
-pub use texts::{read, write, Triplets};
+pub use texts::{faulty_line, read, write, Triplets};

@@ -52,6 +52,30 @@ pub fn read(text: &[u8]) -> Result<Triplets, Error> {
     Ok(Triplets { rows, cols, row_indices: i, col_indices: j, values })
 }
 
+/// Returns the number, counted from 1, of the first line of a text with a fault, or `None` if [`read`] reads the text.
+///
+/// The line is that of the error that `read` returns, or the last line of a text that ends too early.
+///
+/// # Errors
+///
+/// [`Error::Unreadable`].
+///
+/// # Examples
+///
+/// ```
+/// use nalgebra_sparse_exact::{faulty_line, read, Error};
+///
+/// let text = b"%%MatrixMarket matrix coordinate integer general\n2 2 2\n1 1 5\n1 3 7\n";
+/// assert_eq!(read(text), Err(Error::IndexOutOfBounds));
+/// assert_eq!(faulty_line(text), Ok(Some(4)));
+/// ```
+pub fn faulty_line(text: &[u8]) -> Result<Option<usize>, Error> {
+    let mut line = 0;
+    // SAFETY: the pointers are those of a slice, with its length after it, and of a number.
+    answer(unsafe { calls::nalgebra_sparse_text_fault(text.as_ptr(), text.len(), &mut line) })?;
+    Ok(if line == 0 { None } else { Some(line) })
+}
+
 /// Returns the text of triplets, which is ASCII.
 ///
 /// # Errors

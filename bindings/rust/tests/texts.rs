@@ -4,7 +4,7 @@
 #![allow(clippy::many_single_char_names, clippy::needless_range_loop, clippy::format_push_string)]
 #![allow(clippy::cast_possible_truncation, clippy::cast_possible_wrap, clippy::cast_sign_loss)]
 
-use nalgebra_sparse_exact::{read, write, Error, Triplets};
+use nalgebra_sparse_exact::{faulty_line, read, write, Error, Triplets};
 
 /// The next random number (xorshift).
 fn next(state: &mut u64) -> u64 {
@@ -77,23 +77,25 @@ fn mirrored_entries_follow_their_own() {
 
 #[test]
 fn each_fault_of_a_text_is_an_error() {
-    let faulty: [(&[u8], Error); 12] = [
-        (b"", Error::InvalidText),
-        (b"%%MatrixMarket matrix coordinate integer general\n1 1 1\n1 x 1\n", Error::InvalidText),
-        (b"%%MatrixMarket matrix array pattern general\n1 1\n1\n", Error::InvalidHeader),
-        (b"%%MatrixMarket matrix coordinate integer general\n1 1 2\n1 1 1\n", Error::EntryMismatch),
-        (b"%%MatrixMarket matrix coordinate integer general\n1 1 1\n1 1 9223372036854775808\n", Error::TypeMismatch),
-        (b"%%MatrixMarket matrix coordinate pattern general\n1 1 1\n1 1\n", Error::TypeMismatch),
-        (b"%%MatrixMarket matrix coordinate integer general\n1 1 1\n1 0 1\n", Error::ZeroIndex),
-        (b"%%MatrixMarket matrix coordinate integer general\n1 1 1\n1 2 1\n", Error::IndexOutOfBounds),
-        (b"%%MatrixMarket matrix coordinate integer skew-symmetric\n1 1 1\n1 1 1\n", Error::DiagonalEntry),
-        (b"%%MatrixMarket matrix coordinate integer symmetric\n2 2 1\n1 2 1\n", Error::NotLowerTriangle),
-        (b"%%MatrixMarket matrix coordinate integer symmetric\n1 2 1\n1 1 1\n", Error::NonSquare),
-        (b"%%MatrixMarket matrix coordinate integer general\n% \xff\n1 1 0\n", Error::Unreadable),
+    let faulty: [(&[u8], Error, Option<usize>); 12] = [
+        (b"", Error::InvalidText, Some(1)),
+        (b"%%MatrixMarket matrix coordinate integer general\n1 1 1\n1 x 1\n", Error::InvalidText, Some(3)),
+        (b"%%MatrixMarket matrix array pattern general\n1 1\n1\n", Error::InvalidHeader, Some(1)),
+        (b"%%MatrixMarket matrix coordinate integer general\n1 1 2\n1 1 1\n", Error::EntryMismatch, Some(2)),
+        (b"%%MatrixMarket matrix coordinate integer general\n1 1 1\n1 1 9223372036854775808\n", Error::TypeMismatch, Some(3)),
+        (b"%%MatrixMarket matrix coordinate pattern general\n1 1 1\n1 1\n", Error::TypeMismatch, Some(3)),
+        (b"%%MatrixMarket matrix coordinate integer general\n1 1 1\n1 0 1\n", Error::ZeroIndex, Some(3)),
+        (b"%%MatrixMarket matrix coordinate integer general\n1 1 1\n1 2 1\n", Error::IndexOutOfBounds, Some(3)),
+        (b"%%MatrixMarket matrix coordinate integer skew-symmetric\n1 1 1\n1 1 1\n", Error::DiagonalEntry, Some(3)),
+        (b"%%MatrixMarket matrix coordinate integer symmetric\n2 2 1\n1 2 1\n", Error::NotLowerTriangle, Some(3)),
+        (b"%%MatrixMarket matrix coordinate integer symmetric\n1 2 1\n1 1 1\n", Error::NonSquare, Some(2)),
+        (b"%%MatrixMarket matrix coordinate integer general\n% \xff\n1 1 0\n", Error::Unreadable, None),
     ];
-    for (text, error) in faulty {
+    for (text, error, line) in faulty {
         assert_eq!(read(text), Err(error));
+        assert_eq!(faulty_line(text), if line.is_some() { Ok(line) } else { Err(Error::Unreadable) });
     }
+    assert_eq!(faulty_line(b"%%MatrixMarket matrix coordinate integer general\n1 1 1\n1 1 1\n"), Ok(None));
     let list = |row_indices: &[usize], col_indices: &[usize]| Triplets {
         rows: 2,
         cols: 2,

@@ -1,5 +1,7 @@
 //! Compressed matrices, by rows and by columns, and those that pictures show.
 
+ghost use Rattle.std.specs.Prelude.{◌≡◌, IfOk};
+
 use case_words::drawing::{Drawn, is_large, picture, triplets};
 use case_words::failure::Failure;
 use case_words::picture::list_of;
@@ -75,6 +77,17 @@ pub fn matrix_of<T: Scalar, F: Compressed<T>>(
         Op::NoOp(_) => Ok(matrix),
         Op::Transpose(_) => Ok(matrix.transposed(alloc)?),
     }
+}
+
+/// Returns the square matrix of a picture, by columns.
+pub fn square_of<T: Scalar>(alloc: Global, a: Op<&str>) -> Result<CscMatrix<T>, Failure>
+    ensures { IfOk result (λ m. m.pattern.minor_dim ≡ m.pattern.major_dim) }
+{
+    let matrix: CscMatrix<T> = matrix_of(alloc, a)?;
+    if matrix.nrows() != matrix.ncols() {
+        return Err(Failure::Misfit);
+    }
+    Ok(matrix)
 }
 
 /// Returns the compressed matrix of a picture that an operation takes as it is or transposed.

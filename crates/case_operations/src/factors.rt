@@ -1,8 +1,6 @@
 //! The fill of a Cholesky factor, and exact factors.
 
-ghost use Rattle.std.specs.Prelude.{◌≡◌, IfOk};
-
-use case_matrices::compressed::{matrix_of, plain_dense_of};
+use case_matrices::compressed::{plain_dense_of, square_of};
 use case_matrices::conversions::truth;
 use case_words::drawing::{PatternByColumns, draw_values, picture};
 use case_words::failure::Failure;
@@ -22,6 +20,7 @@ pub enum Factoring {
     LdlText,
     LdlCopy,
     LdlEqual,
+    LdlSize,
     Solution,
     Fill,
     FillCopy,
@@ -33,6 +32,7 @@ pub const FACTORINGS: &[(&str, Factoring)] = &[
     ("debug ldl A", Factoring::LdlText),
     ("copy ldl A", Factoring::LdlCopy),
     ("ldl A == ldl B", Factoring::LdlEqual),
+    ("factored size A", Factoring::LdlSize),
     ("ldl A \\ B", Factoring::Solution),
     ("w A", Factoring::Fill),
     ("copy w A", Factoring::FillCopy),
@@ -51,6 +51,7 @@ pub fn factored<T: Scalar>(
         Factoring::FillEqual => fills_equal::<T>(turn, (given.w, given.a), (given.v, given.b)),
         Factoring::LdlEqual => ldls_equal::<T>(turn, given.a, given.b),
         Factoring::LdlCopy => ldl_copied::<T>(turn, given.a),
+        Factoring::LdlSize => factored_size::<T>(turn, given.a),
         _ => of_ldl::<T>(turn, call, given),
     }
 }
@@ -74,17 +75,6 @@ fn of_ldl<T: Scalar>(
     }
 }
 
-// The square matrix of a picture, by columns.
-fn square<T: Scalar>(alloc: Global, a: Op<&str>) -> Result<CscMatrix<T>, Failure>
-    ensures { IfOk result (λ m. m.pattern.minor_dim ≡ m.pattern.major_dim) }
-{
-    let matrix: CscMatrix<T> = matrix_of(alloc, a)?;
-    if matrix.nrows() != matrix.ncols() {
-        return Err(Failure::Misfit);
-    }
-    Ok(matrix)
-}
-
 // The symbolic factorisation of a pattern, by the call that a name stands for.
 fn fill_of<T: Scalar>(
     turn: &mut Turn,
@@ -92,7 +82,7 @@ fn fill_of<T: Scalar>(
     a: Op<&str>,
 ) -> Result<CscSymbolicCholesky, Failure> {
     let alloc = turn.alloc();
-    let (pattern, _) = square::<T>(alloc, a)?.into_pattern_and_values();
+    let (pattern, _) = square_of::<T>(alloc, a)?.into_pattern_and_values();
     turn.begin();
     let answer = match name {
         "fill" => CscSymbolicCholesky::factor(alloc, pattern),
@@ -112,9 +102,18 @@ fn fill_text(alloc: Global, factor: CscSymbolicCholesky) -> Result<String, Failu
 // The factors L and D, where L D Lᵀ is the symmetric matrix of an upper triangle.
 fn ldl_of<T: Scalar>(turn: &mut Turn, a: Op<&str>) -> Result<Ldl<T>, Failure> {
     let alloc = turn.alloc();
-    let matrix = square::<T>(alloc, a)?;
+    let matrix = square_of::<T>(alloc, a)?;
     turn.begin();
     Ok(turn.end(Ldl::factor(alloc, &matrix))?)
+}
+
+// How many of the first rows and columns have factors.
+fn factored_size<T: Scalar>(turn: &mut Turn, a: Op<&str>) -> Result<String, Failure> {
+    let alloc = turn.alloc();
+    let matrix = square_of::<T>(alloc, a)?;
+    turn.begin();
+    let size = turn.end(Ldl::factored_size(alloc, &matrix))?;
+    Ok(format!(in alloc; "{size}")?)
 }
 
 // The factor L, and after it the diagonal of D.

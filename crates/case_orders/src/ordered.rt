@@ -1,16 +1,13 @@
 //! Exact factors of a matrix whose rows and columns are permuted.
 
-ghost use Rattle.std.specs.Prelude.{◌≡◌, IfOk};
-
 use crate::orders::permutation_of;
-use case_matrices::compressed::{matrix_of, plain_dense_of};
+use case_matrices::compressed::{plain_dense_of, square_of};
 use case_words::drawing::{draw_values, picture};
 use case_words::failure::Failure;
 use case_words::scalar::Scalar;
 use case_words::templates::Operands;
 use case_words::turn::Turn;
 use case_words::words::Word;
-use nalgebra_sparse::CscMatrix;
 use nalgebra_sparse::ldl::Ldl;
 use nalgebra_sparse::ops::Op;
 use nalgebra_sparse::ordered::OrderedLdl;
@@ -46,17 +43,6 @@ pub fn ordered_call<T: Scalar>(
     }
 }
 
-// The square matrix of a picture, by columns.
-fn square<T: Scalar>(alloc: Global, a: Op<&str>) -> Result<CscMatrix<T>, Failure>
-    ensures { IfOk result (λ m. m.pattern.minor_dim ≡ m.pattern.major_dim) }
-{
-    let matrix: CscMatrix<T> = matrix_of(alloc, a)?;
-    if matrix.nrows() != matrix.ncols() {
-        return Err(Failure::Misfit);
-    }
-    Ok(matrix)
-}
-
 // The factors in the order that words write.
 fn in_order<T: Scalar>(
     turn: &mut Turn,
@@ -64,7 +50,7 @@ fn in_order<T: Scalar>(
     words: &[Word<'_>],
 ) -> Result<OrderedLdl<T>, Failure> {
     let alloc = turn.alloc();
-    let matrix = square::<T>(alloc, a)?;
+    let matrix = square_of::<T>(alloc, a)?;
     let permutation = permutation_of(alloc, words)?;
     turn.begin();
     Ok(turn.end(Ldl::factor_in_order(alloc, &matrix, permutation))?)
@@ -119,7 +105,7 @@ fn solved<T: Scalar>(
 // The solution in the order of `minimum_degree`.
 fn solution_by_degree<T: Scalar>(turn: &mut Turn, given: Operands<'_>) -> Result<String, Failure> {
     let alloc = turn.alloc();
-    let matrix = square::<T>(alloc, given.a)?;
+    let matrix = square_of::<T>(alloc, given.a)?;
     turn.begin();
     let ordered = turn.end(Ldl::factor_ordered(alloc, &matrix))?;
     solved(&mut Turn::new(alloc, 0, 0), &ordered, given.b)

@@ -102,7 +102,7 @@ GivesCommand words (Integer file scale) = IsArgument words (codes "FILE") file.n
     × (one_text words (codes "scale") ≡ None → scale ≡ 0)
 GivesCommand words (Symmetric file) = IsArgument words (codes "FILE") file.now
 GivesCommand words (Order file method) = IsArgument words (codes "FILE") file.now
-    × GivesMethod (first_value words (codes "method")) method
+    × GivesMethod (first_value words (codes "METHOD")) method
 GivesCommand words (Permute order file) = IsArgument words (codes "ORDER") order.now
     × IsArgument words (codes "FILE") file.now
 GivesCommand words (Fill file order) = IsArgument words (codes "FILE") file.now

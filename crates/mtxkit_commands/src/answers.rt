@@ -13,6 +13,7 @@ use crate::inputs::{Texts, read_text};
 use crate::orders::{filled_of, ordered_of, permuted_of};
 use crate::scaled::scaled_of;
 use crate::systems::{check_text, solve_text};
+use mtxkit_matrices::EliminationOrder;
 use mtxkit_texts::{
     Failure, copy_text, info_text, integer_text, pattern_text, spy_bitmap, spy_blocks, spy_svg,
     symmetric_text,
@@ -64,9 +65,12 @@ pub fn answer_of<T: Texts>(
             words,
             files,
         } => evaluated_of(alloc, texts, modulus, order, words, files),
-        Command::Solve { modulus, a, b } => {
-            Ok(solution_of(alloc, texts, modulus, a, b)?.into_bytes())
-        }
+        Command::Solve {
+            modulus,
+            order,
+            a,
+            b,
+        } => Ok(solution_of(alloc, texts, modulus, order, a, b)?.into_bytes()),
         Command::Check { modulus, a, x, b } => {
             Ok(check_of(alloc, texts, modulus, a, x, b)?.into_bytes())
         }
@@ -79,6 +83,7 @@ fn solution_of<T: Texts>(
     alloc: Global,
     texts: &mut T,
     modulus: Option<u64>,
+    order: EliminationOrder,
     a: &str,
     b: &str,
 ) -> Result<String, Failure>
@@ -89,7 +94,7 @@ fn solution_of<T: Texts>(
 {
     let first = read_text(texts, 1, a)?;
     let second = read_text(texts, 2, b)?;
-    solve_text(alloc, modulus, first.as_str(), second.as_str())
+    solve_text(alloc, modulus, order, first.as_str(), second.as_str())
 }
 
 // Reads the files of A, X and B, and returns the line that says that A X = B. These are the files 1, 2 and 3 of the

@@ -25,6 +25,8 @@ const FIELDS: [&str; 2] = ["integer", "pattern"];
 
 const METHODS: [&str; 2] = ["amd", "rcm"];
 
+const ELIMINATIONS: [&str; 3] = ["natural", "amd", "rcm"];
+
 const MATRIX_FILE: &str = "A Matrix Market file, or - for standard input";
 
 const DECIMAL_FILE: &str = "A real or integer Matrix Market file, or - for standard input";
@@ -45,6 +47,7 @@ enum Word {
     // A required file: its name in the usage line, and its help.
     File(&'static str, &'static str),
     Columns,
+    Elimination,
     Expression,
     Field,
     Files,
@@ -130,6 +133,7 @@ const USAGES: [Usage; 12] = [
         about: "Writes the matrix X with A X = B for a symmetric matrix A, exactly, by L D L^T",
         words: &[
             Word::Modulus,
+            Word::Elimination,
             Word::File("A", "The symmetric matrix"),
             Word::File("B", "The right-hand sides"),
         ],
@@ -161,11 +165,21 @@ pub(crate) fn command_line<'a>(alloc: Global) -> Result<clap::Command<'a>, Alloc
 
 // Returns a command as `clap` needs it.
 fn command_used<'a>(alloc: Global, usage: &Usage) -> Result<clap::Command<'a>, AllocError> {
-    let mut command = clap::Command::new(alloc, usage.name).about(usage.about);
+    let mut command = clap::Command::new(alloc, usage.name)
+        .about(usage.about)
+        .allow_missing_positional(begins_with_optional(usage.words));
     for word in usage.words {
         command = command.arg(argument(alloc, *word)?)?;
     }
     Ok(command)
+}
+
+// Whether the first argument may be left out, although required ones follow.
+fn begins_with_optional(words: &[Word]) -> bool {
+    match words.first() {
+        Some(Word::Method) => true,
+        _ => false,
+    }
 }
 
 // Returns an argument as `clap` needs it.
@@ -173,6 +187,7 @@ fn argument<'a>(alloc: Global, word: Word) -> Result<Arg<'a>, AllocError> {
     match word {
         Word::File(name, help) => Ok(file_word(alloc, name, help)),
         Word::Columns => columns_word(alloc),
+        Word::Elimination => Ok(elimination_word(alloc)),
         Word::Expression => Ok(file_word(alloc, "EXPR", EXPRESSION)),
         Word::Field => Ok(field_word(alloc)),
         Word::Files => Ok(files_word(alloc)),
@@ -261,9 +276,7 @@ fn text_word<'a>(alloc: Global) -> Arg<'a> {
 }
 
 fn method_word<'a>(alloc: Global) -> Arg<'a> {
-    Arg::new(alloc, "method")
-        .long("method")
-        .value_name("METHOD")
+    Arg::new(alloc, "METHOD")
         .value_parser(METHODS.as_slice())
         .help("amd, minimum degree, unless given; rcm, reverse Cuthill-McKee")
 }
@@ -281,4 +294,12 @@ fn modulus_word<'a>(alloc: Global) -> Arg<'a> {
         .value_name("P")
         .value_parser(MODULI.as_slice())
         .help("Take the integers modulo P")
+}
+
+fn elimination_word<'a>(alloc: Global) -> Arg<'a> {
+    Arg::new(alloc, "order")
+        .long("order")
+        .value_name("ORDER")
+        .value_parser(ELIMINATIONS.as_slice())
+        .help("Eliminate in this order: amd, minimum degree, unless given; natural; rcm")
 }

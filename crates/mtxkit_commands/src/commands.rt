@@ -8,6 +8,7 @@ ghost use Rattle.mtxkit_commands.specs.Names.{first_path, named_file, path_at, p
 ghost use Rattle.mtxkit_commands.specs.Names.{target_file, saved_file, fault_file};
 ghost use Rattle.mtxkit_commands.specs.Names.{first_of_fill, order_number, second_of_fill};
 
+use mtxkit_matrices::EliminationOrder;
 use mtxkit_patterns::{Method, OrderError};
 use mtxkit_texts::Failure;
 use sparse_expr::OutputOrder;
@@ -89,6 +90,8 @@ pub enum Command<'a> {
     Solve {
         /// The modulus; without one the integers are those modulo 2^64.
         modulus: Option<u64>,
+        /// The order in which the rows and columns of A are eliminated.
+        order: EliminationOrder,
         /// The file of A.
         a: &'a str,
         /// The file of B.
@@ -195,6 +198,9 @@ impl<'a> Command<'a> {
             | Failure::NotSupported(number)
             | Failure::Wide(number)
             | Failure::Overflow(number) => self.file(number),
+            Failure::NotSquare(_) | Failure::NotSymmetric(_) | Failure::NoFactors(_, _) => {
+                self.file(1)
+            }
             Failure::Unsaved(_) => self.path(),
             _ => None,
         }

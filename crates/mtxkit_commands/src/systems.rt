@@ -10,7 +10,9 @@ ghost use Rattle.mtxkit_commands.specs.SystemErrors.{system_fault};
 
 use crate::lists::{elements_of, integers_of};
 use mtxkit_eval::Residues;
-use mtxkit_matrices::{SystemError, is_solution, solve_listed};
+use mtxkit_matrices::{
+    CheckError, Dimensions, EliminationOrder, SystemError, check_solution, solve_listed,
+};
 use mtxkit_texts::{Failure, read_integers};
 use sparse_algebra::scalar::{Mod, W64};
 use sparse_coo_dense::coo::CooMatrix;
@@ -27,14 +29,20 @@ use std::alloc::Global;
 /// Returns `Input` or `NotSupported` if a text is not that of a matrix of integers, `Modulus` if the program is not built
 /// for the modulus, `Shapes` if A is not square or B has a different number of rows, `NotSymmetric` if A is not
 /// symmetric, and `NoFactors` if A has no factorisation L D L^T. Otherwise fails only if an allocation fails.
-pub fn solve_text(alloc: Global, modulus: Option<u64>, a: &str, b: &str) -> Result<String, Failure>
+pub fn solve_text(
+    alloc: Global,
+    modulus: Option<u64>,
+    order: EliminationOrder,
+    a: &str,
+    b: &str,
+) -> Result<String, Failure>
     ensures written { IfOk result
         (λ written. WritesSolution modulus a.now b.now (string_bytes written)) }
     ensures refused { IfErr result (IsSolveFailure modulus a.now b.now) }
 {
     let a = read_integers(alloc, 1, a)?;
     let b = read_integers(alloc, 2, b)?;
-    match solve_modulo(alloc, modulus, &a, &b) {
+    match solve_modulo(alloc, modulus, order, &a, &b) {
         Ok(x) => Ok(save_to_matrix_market_str_with(alloc, &x, Banner::MixedCase)?),
         Err(failure) => Err(failure),
     }
@@ -63,81 +71,71 @@ pub fn check_text(
     let a = read_integers(alloc, 1, a)?;
     let x = read_integers(alloc, 2, x)?;
     let b = read_integers(alloc, 3, b)?;
-    match is_solution_modulo(alloc, modulus, &a, &x, &b) {
-        Ok(yes) => said(alloc, yes),
+    match check_modulo(alloc, modulus, &a, &x, &b) {
+        Ok(()) => Ok(String::from_str(alloc, "A X = B\n")?),
         Err(failure) => Err(failure),
     }
-}
-
-// Returns the line that says that A X = B, or `NotSolution`.
-fn said(alloc: Global, yes: bool) -> Result<String, Failure>
-    ensures line { IfOk result
-        (λ line. IsTrue yes × (string_bytes line ≡ codes "A X = B\n")) }
-    ensures refused { IfErr result
-        (λ e. (e ≡ OutOfMemory) ⊎ ((e ≡ NotSolution) × (IsTrue yes → ⊥))) }
-{
-    if !yes {
-        return Err(Failure::NotSolution);
-    }
-    Ok(String::from_str(alloc, "A X = B\n")?)
 }
 
 // Returns the matrix X for which A X = B, modulo 2^64 or one of the moduli that the program is built for.
 fn solve_modulo(
     alloc: Global,
     modulus: Option<u64>,
+    order: EliminationOrder,
     a: &CooMatrix<i128>,
     b: &CooMatrix<i128>,
 ) -> Result<CooMatrix<i128>, Failure>
     ensures { IsSolvedBy modulus a.now b.now result }
 {
     match modulus {
-        None => solve_in::<W64>(alloc, a, b),
-        Some(2) => solve_in::<Mod<2>>(alloc, a, b),
-        Some(3) => solve_in::<Mod<3>>(alloc, a, b),
-        Some(5) => solve_in::<Mod<5>>(alloc, a, b),
-        Some(7) => solve_in::<Mod<7>>(alloc, a, b),
-        Some(11) => solve_in::<Mod<11>>(alloc, a, b),
-        Some(13) => solve_in::<Mod<13>>(alloc, a, b),
-        Some(101) => solve_in::<Mod<101>>(alloc, a, b),
-        Some(65537) => solve_in::<Mod<65537>>(alloc, a, b),
-        Some(998244353) => solve_in::<Mod<998244353>>(alloc, a, b),
-        Some(1000000007) => solve_in::<Mod<1000000007>>(alloc, a, b),
-        Some(2305843009213693951) => solve_in::<Mod<2305843009213693951>>(alloc, a, b),
+        None => solve_in::<W64>(alloc, modulus, order, a, b),
+        Some(2) => solve_in::<Mod<2>>(alloc, modulus, order, a, b),
+        Some(3) => solve_in::<Mod<3>>(alloc, modulus, order, a, b),
+        Some(5) => solve_in::<Mod<5>>(alloc, modulus, order, a, b),
+        Some(7) => solve_in::<Mod<7>>(alloc, modulus, order, a, b),
+        Some(11) => solve_in::<Mod<11>>(alloc, modulus, order, a, b),
+        Some(13) => solve_in::<Mod<13>>(alloc, modulus, order, a, b),
+        Some(101) => solve_in::<Mod<101>>(alloc, modulus, order, a, b),
+        Some(65537) => solve_in::<Mod<65537>>(alloc, modulus, order, a, b),
+        Some(998244353) => solve_in::<Mod<998244353>>(alloc, modulus, order, a, b),
+        Some(1000000007) => solve_in::<Mod<1000000007>>(alloc, modulus, order, a, b),
+        Some(2305843009213693951) => solve_in::<Mod<2305843009213693951>>(alloc, modulus, order, a, b),
         Some(_) => Err(Failure::Modulus),
     }
 }
 
-// Returns whether A X = B, modulo 2^64 or one of the moduli that the program is built for.
-fn is_solution_modulo(
+// Checks that A X = B, modulo 2^64 or one of the moduli that the program is built for.
+fn check_modulo(
     alloc: Global,
     modulus: Option<u64>,
     a: &CooMatrix<i128>,
     x: &CooMatrix<i128>,
     b: &CooMatrix<i128>,
-) -> Result<bool, Failure>
+) -> Result<(), Failure>
     ensures { IsTestedBy modulus a.now x.now b.now result }
 {
     match modulus {
-        None => is_solution_in::<W64>(alloc, a, x, b),
-        Some(2) => is_solution_in::<Mod<2>>(alloc, a, x, b),
-        Some(3) => is_solution_in::<Mod<3>>(alloc, a, x, b),
-        Some(5) => is_solution_in::<Mod<5>>(alloc, a, x, b),
-        Some(7) => is_solution_in::<Mod<7>>(alloc, a, x, b),
-        Some(11) => is_solution_in::<Mod<11>>(alloc, a, x, b),
-        Some(13) => is_solution_in::<Mod<13>>(alloc, a, x, b),
-        Some(101) => is_solution_in::<Mod<101>>(alloc, a, x, b),
-        Some(65537) => is_solution_in::<Mod<65537>>(alloc, a, x, b),
-        Some(998244353) => is_solution_in::<Mod<998244353>>(alloc, a, x, b),
-        Some(1000000007) => is_solution_in::<Mod<1000000007>>(alloc, a, x, b),
-        Some(2305843009213693951) => is_solution_in::<Mod<2305843009213693951>>(alloc, a, x, b),
+        None => check_in::<W64>(alloc, a, x, b),
+        Some(2) => check_in::<Mod<2>>(alloc, a, x, b),
+        Some(3) => check_in::<Mod<3>>(alloc, a, x, b),
+        Some(5) => check_in::<Mod<5>>(alloc, a, x, b),
+        Some(7) => check_in::<Mod<7>>(alloc, a, x, b),
+        Some(11) => check_in::<Mod<11>>(alloc, a, x, b),
+        Some(13) => check_in::<Mod<13>>(alloc, a, x, b),
+        Some(101) => check_in::<Mod<101>>(alloc, a, x, b),
+        Some(65537) => check_in::<Mod<65537>>(alloc, a, x, b),
+        Some(998244353) => check_in::<Mod<998244353>>(alloc, a, x, b),
+        Some(1000000007) => check_in::<Mod<1000000007>>(alloc, a, x, b),
+        Some(2305843009213693951) => check_in::<Mod<2305843009213693951>>(alloc, a, x, b),
         Some(_) => Err(Failure::Modulus),
     }
 }
 
-// Returns the matrix X for which A X = B in this ring.
+// Returns the matrix X for which A X = B in this ring, that of the modulus.
 fn solve_in<T: Residues>(
     alloc: Global,
+    modulus: Option<u64>,
+    order: EliminationOrder,
     a: &CooMatrix<i128>,
     b: &CooMatrix<i128>,
 ) -> Result<CooMatrix<i128>, Failure>
@@ -145,38 +143,57 @@ fn solve_in<T: Residues>(
 {
     let a: CooMatrix<T> = elements_of(alloc, a)?;
     let b: CooMatrix<T> = elements_of(alloc, b)?;
-    match solve_listed(alloc, &a, &b) {
+    match solve_listed(alloc, order, &a, &b) {
         Ok(x) => Ok(integers_of(alloc, &x)?),
-        Err(error) => Err(system_fault(error)),
+        Err(error) => Err(system_fault(modulus, Dimensions::of(&a), Dimensions::of(&b), error)),
     }
 }
 
-// Returns whether A X = B in this ring.
-fn is_solution_in<T: Residues>(
+// Checks that A X = B in this ring.
+fn check_in<T: Residues>(
     alloc: Global,
     a: &CooMatrix<i128>,
     x: &CooMatrix<i128>,
     b: &CooMatrix<i128>,
-) -> Result<bool, Failure>
+) -> Result<(), Failure>
     ensures { IsTested T.ring a.now x.now b.now result }
 {
     let a: CooMatrix<T> = elements_of(alloc, a)?;
     let x: CooMatrix<T> = elements_of(alloc, x)?;
     let b: CooMatrix<T> = elements_of(alloc, b)?;
-    match is_solution(alloc, &a, &x, &b) {
-        Ok(yes) => Ok(yes),
-        Err(error) => Err(system_fault(error)),
+    match check_solution(alloc, &a, &x, &b) {
+        Ok(()) => Ok(()),
+        Err(error) => {
+            let (a, x, b) = (Dimensions::of(&a), Dimensions::of(&x), Dimensions::of(&b));
+            Err(check_fault(a, x, b, error))
+        }
     }
 }
 
-// Returns the failure for an error of solving or testing.
-fn system_fault(error: SystemError) -> Failure
-    ensures { result ≡ system_fault error }
+// Returns the failure for an error of solving a system modulo a number, where A and B have these dimensions.
+fn system_fault(
+    modulus: Option<u64>,
+    a: Dimensions,
+    b: Dimensions,
+    error: SystemError,
+) -> Failure
+    ensures { result ≡ system_fault modulus a b error }
 {
     match error {
-        SystemError::Shapes => Failure::Shapes,
-        SystemError::NotSymmetric => Failure::NotSymmetric,
-        SystemError::NoFactors => Failure::NoFactors,
+        SystemError::Shapes => Failure::Shapes(a, b),
+        SystemError::NotSymmetric(at) => Failure::NotSymmetric(at),
+        SystemError::NoFactors(pivot) => Failure::NoFactors(modulus, pivot),
         SystemError::OutOfMemory => Failure::OutOfMemory,
+    }
+}
+
+// Returns the failure for an error of testing a solution, where A, X and B have these dimensions.
+fn check_fault(a: Dimensions, x: Dimensions, b: Dimensions, error: CheckError) -> Failure
+    ensures { result ≡ check_fault a x b error }
+{
+    match error {
+        CheckError::Shapes => Failure::ProductShapes(a, x, b),
+        CheckError::NotSolution(at) => Failure::NotSolution(at),
+        CheckError::OutOfMemory => Failure::OutOfMemory,
     }
 }

@@ -15,6 +15,7 @@ ghost use Rattle.mtxkit_commands.specs.Words.{GivesCommand, GivesMethod, GivesOr
 use crate::command_line::command_line;
 use crate::commands::{Command, FillOrder, Target, Values};
 use clap::{ArgMatches, Error};
+use mtxkit_matrices::EliminationOrder;
 use mtxkit_patterns::Method;
 use sparse_expr::OutputOrder;
 use std::alloc::Global;
@@ -169,7 +170,7 @@ fn order_of<'a>(words: &ArgMatches<'a>) -> Option<Command<'a>>
     ensures given { IfSome result (GivesCommand (found_of words.now)) }
 {
     let file = words.get_str("FILE")?;
-    let method = method_of(words.get_str("method"))?;
+    let method = method_of(words.get_str("METHOD"))?;
     Some(Command::Order { file, method })
 }
 
@@ -253,9 +254,30 @@ fn solve_of<'a>(words: &ArgMatches<'a>) -> Option<Command<'a>>
     ensures given { IfSome result (GivesCommand (found_of words.now)) }
 {
     let modulus = words.get_one::<u64>("mod");
+    let order = elimination_order(words.get_str("order"))?;
     let a = words.get_str("A")?;
     let b = words.get_str("B")?;
-    Some(Command::Solve { modulus, a, b })
+    Some(Command::Solve {
+        modulus,
+        order,
+        a,
+        b,
+    })
+}
+
+// Returns the order with this name, and minimum degree if none is given.
+fn elimination_order(name: Option<&str>) -> Option<EliminationOrder>
+    ensures { IfSome result (GivesElimination (option_map (λ name. name.now) name.entry)) }
+{
+    let Some(name) = name else {
+        return Some(EliminationOrder::MinimumDegree);
+    };
+    match name {
+        "natural" => Some(EliminationOrder::Natural),
+        "amd" => Some(EliminationOrder::MinimumDegree),
+        "rcm" => Some(EliminationOrder::ReverseCuthillMckee),
+        _ => None,
+    }
 }
 
 fn check_of<'a>(words: &ArgMatches<'a>) -> Option<Command<'a>>

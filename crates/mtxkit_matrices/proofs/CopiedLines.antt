@@ -14,9 +14,9 @@ use Rattle.sparse_parser.proofs.ContentLaws.{content_line, is_content-comment}
 use Rattle.sparse_parser.specs.Errors.{kind_of_cause}
 use Rattle.sparse_parser.specs.Meaning.{sizes_of}
 use Rattle.sparse_parser.proofs.LineShapes.{size_some, size_none}
-use Rattle.mtxkit_matrices.specs.declared.line_faults.LineFault.{LineFault}
-use Rattle.mtxkit_matrices.specs.declared.line_faults.LineFault.TheVariants as faults
-use Rattle.mtxkit_matrices.specs.LineFaults.{IsFaultOfKind, IsSizesFault}
+use Rattle.sparse_faults.specs.declared.fault.LineFault.{LineFault}
+use Rattle.sparse_faults.specs.declared.fault.LineFault.TheVariants as faults
+use Rattle.sparse_faults.specs.LineFaults.{IsFaultOfKind, IsSizesFault}
 use Rattle.mtxkit_matrices.specs.declared.decimals.error.ScaleError.{ScaleError}
 use Rattle.mtxkit_matrices.specs.declared.decimals.stage.Stage.{Stage}
 use Rattle.mtxkit_matrices.specs.declared.decimals.stage.Stage.TheVariants.{Head, Sizes, Entries}

@@ -1,22 +1,18 @@
 -- There is a written line for each line, and blank lines and comments are unchanged.
-use Rattle.std.proofs.Common.{◌≡◌, ℕ, List, [], ◌∷◌, ◌++◌, refl, ap, subst, ◌∙◌}
+use Rattle.std.proofs.Common.{◌≡◌, ℕ, List, [], ◌∷◌, ◌++◌, refl, ap, ◌∙◌}
 use Rattle.std.proofs.Common.{inl, inr, append_assoc}
 use Rattle.std.specs.List.{AllByRecursion}
-use Rattle.sparse_parser.specs.Grammar.{AreBlanks, AreWords}
+use Rattle.sparse_parser.specs.Grammar.{AreBlanks}
 use Rattle.sparse_parser.specs.InnerReading.{is_content, words_of}
 use Rattle.sparse_parser.proofs.ContentLaws.{comment_line}
 use Rattle.sparse_parser.proofs.LineLaws.{blank_line}
-use Rattle.sparse_parser.proofs.WordLaws.{words_are}
 use Rattle.mtxkit_matrices.specs.declared.decimals.stage.Stage.{Stage}
 use Rattle.mtxkit_matrices.specs.declared.decimals.stage.Stage.TheVariants.{Head, Sizes, Entries}
 use Rattle.mtxkit_matrices.specs.ScaledTexts.{IsBlankOrComment, AreKept, AreKeptBelowHeader}
 use Rattle.mtxkit_matrices.specs.InnerRewriting.{AreBlankOrComment, IsStep, IsCopied, AreLinesWritten}
-use Rattle.mtxkit_matrices.proofs.LineLists.{some_header}
+use Rattle.sparse_faults.proofs.LineLists.{blank_words, some_header}
 
 -- ---- blank lines and comments
-
-pub blank_words : (line : List ℕ) → words_of line ≡ [] → AreBlanks line
-blank_words line e = subst (AreWords line) e (words_are line)
 
 -- the words of a blank line or a comment
 pub passed_words : (line : List ℕ) → IsBlankOrComment line → AreBlankOrComment (words_of line)

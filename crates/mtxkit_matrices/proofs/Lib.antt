@@ -14,11 +14,9 @@ mod Magnitudes
 mod TrimmedDigits
 -- decimals: lines and texts
 pub mod CopiedLines
-pub mod CountedLines
+mod GrownLists
 mod HeaderLines
 pub mod KeptLines
-pub mod LineEnds
-pub mod LineLists
 mod Rewriting
 pub mod ScaleRefusals
 mod WrittenLines

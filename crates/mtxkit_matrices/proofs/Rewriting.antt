@@ -10,13 +10,14 @@ use Rattle.sparse_parser.proofs.LineLaws.{lines_only}
 use Rattle.mtxkit_matrices.specs.declared.decimals.stage.Stage.{Stage}
 use Rattle.mtxkit_matrices.specs.declared.decimals.stage.Stage.TheVariants.{Head, Sizes, Entries}
 use Rattle.mtxkit_matrices.specs.ScaledTexts.{IsScaledText, with_integers}
-use Rattle.mtxkit_matrices.specs.InnerLines.{IsCut, IsEnded}
+use Rattle.sparse_faults.specs.InnerLines.{IsCut, IsEnded}
 use Rattle.mtxkit_matrices.specs.InnerRewriting.{IsStep, AreBelow}
 use Rattle.mtxkit_matrices.specs.InnerRewriting.{AreRewritten, IsLineWritten, IsTextWritten}
-use Rattle.mtxkit_matrices.proofs.CountedLines.{above_none, above_line}
+use Rattle.sparse_faults.proofs.CountedLines.{above_none, above_line}
 use Rattle.mtxkit_matrices.proofs.KeptLines.{kept_more}
-use Rattle.mtxkit_matrices.proofs.LineLists.{ones, ones-some, lines_more, nothing-more, one-more}
-use Rattle.mtxkit_matrices.proofs.LineLists.{all_more, scaled_more, some_header, some_size, some_entry}
+use Rattle.mtxkit_matrices.proofs.GrownLists.{nothing-more, scaled_more}
+use Rattle.sparse_faults.proofs.LineLists.{ones, ones-some, lines_more, one-more}
+use Rattle.sparse_faults.proofs.LineLists.{all_more, some_header, some_size, some_entry}
 
 -- ---- after one more line
 

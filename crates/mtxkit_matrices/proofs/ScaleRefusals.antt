@@ -14,14 +14,14 @@ use Rattle.mtxkit_matrices.specs.declared.decimals.error.ScaleError.{ScaleError}
 use Rattle.mtxkit_matrices.specs.declared.decimals.error.ScaleError.TheVariants as errors
 use Rattle.mtxkit_matrices.specs.declared.decimals.stage.Stage.{Stage}
 use Rattle.mtxkit_matrices.specs.declared.decimals.stage.Stage.TheVariants.{Head, Sizes, Entries}
-use Rattle.mtxkit_matrices.specs.Lines.{IsContent}
+use Rattle.sparse_faults.specs.Lines.{IsContent}
 use Rattle.mtxkit_matrices.specs.ScaleFailures.{AreBelowHeader, AreBelowSizes}
 use Rattle.mtxkit_matrices.specs.ScaleFailures.{is_decimal_entry, EndsEarly, IsScaleFailure}
 use Rattle.mtxkit_matrices.specs.InnerRewriting.{AreBelow, AreRewritten, IsTextWritten}
 use Rattle.mtxkit_matrices.specs.InnerScaleFailures.{IsValueFailure, IsHeadFailure, IsSizesFailure}
 use Rattle.mtxkit_matrices.specs.InnerScaleFailures.{IsEntryFailure, AreContent, IsLineFailure}
-use Rattle.mtxkit_matrices.proofs.CountedLines.{has_line}
-use Rattle.mtxkit_matrices.specs.InnerLines.{IsCut}
+use Rattle.sparse_faults.proofs.CountedLines.{has_line}
+use Rattle.sparse_faults.specs.InnerLines.{IsCut}
 use Rattle.mtxkit_matrices.proofs.Rewriting.{lines_read}
 
 -- ---- one line

@@ -14,7 +14,7 @@ use Rattle.sparse_parser.specs.Grammar.{IsOneLine, AreLines, AreBlanks}
 use Rattle.sparse_parser.specs.Grammar.{is_index, is_number, is_size, is_entry}
 use Rattle.sparse_parser.specs.InnerReading.{is_content, words_of, written_lines}
 use Rattle.mtxkit_matrices.specs.Decimals.{IsScaled}
-use Rattle.mtxkit_matrices.specs.InnerLines.{AreAbove}
+use Rattle.sparse_faults.specs.InnerLines.{AreAbove}
 use Rattle.mtxkit_matrices.specs.ScaledTexts.{IsScaledEntry, AreScaled, is_decimal, with_integers}
 use Rattle.mtxkit_matrices.specs.ScaledTexts.{IsSized, AreKeptBelowHeader}
 use Rattle.mtxkit_matrices.specs.declared.decimals.stage.Stage.{Stage}

@@ -9,7 +9,7 @@ use Rattle.mtxkit_matrices.specs.declared.decimals.number.Misfit.TheVariants as 
 use Rattle.mtxkit_matrices.specs.declared.decimals.stage.Stage.{Stage}
 use Rattle.mtxkit_matrices.specs.declared.decimals.stage.Stage.TheVariants.{Head, Sizes, Entries}
 use Rattle.mtxkit_matrices.specs.Decimals.{IsMisfit}
-use Rattle.mtxkit_matrices.specs.LineFaults.{IsSizesFault}
+use Rattle.sparse_faults.specs.LineFaults.{IsSizesFault}
 use Rattle.mtxkit_matrices.specs.ScaleFailures.{IsHeaderFault, HasOtherField, HasMisfit}
 use Rattle.mtxkit_matrices.specs.ScaleFailures.{is_decimal_entry}
 

@@ -11,11 +11,11 @@ use Rattle.mtxkit_matrices.specs.declared.decimals.error.ScaleError.{ScaleError}
 use Rattle.mtxkit_matrices.specs.declared.decimals.error.ScaleError.TheVariants as errors
 use Rattle.mtxkit_matrices.specs.declared.decimals.number.Misfit.{Misfit}
 use Rattle.mtxkit_matrices.specs.declared.decimals.number.Misfit.TheVariants as misfits
-use Rattle.mtxkit_matrices.specs.declared.line_faults.LineFault.{LineFault}
-use Rattle.mtxkit_matrices.specs.declared.line_faults.LineFault.TheVariants as faults
+use Rattle.sparse_faults.specs.declared.fault.LineFault.{LineFault}
+use Rattle.sparse_faults.specs.declared.fault.LineFault.TheVariants as faults
 use Rattle.mtxkit_matrices.specs.Decimals.{IsMisfit}
-use Rattle.mtxkit_matrices.specs.LineFaults.{IsSizesFault}
-use Rattle.mtxkit_matrices.specs.Lines.{HasLine, IsContent, AreBlankLines}
+use Rattle.sparse_faults.specs.LineFaults.{IsSizesFault}
+use Rattle.sparse_faults.specs.Lines.{HasLine, IsContent, AreBlankLines}
 use Rattle.mtxkit_matrices.specs.ScaledTexts.{is_decimal, IsSized, AreScaled}
 
 -- ---- the lines above one

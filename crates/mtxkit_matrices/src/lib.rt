@@ -2,23 +2,23 @@
 //! texts of decimal numbers scaled to integers.
 #![tactic(auto)]
 
+mod coordinates;
 mod decimals;
 mod facts;
-mod line_faults;
-mod lines;
+mod orders;
 mod pictures;
+mod pivots;
 mod systems;
-mod triangle;
 mod values;
 
+pub use coordinates::{Coordinates, Dimensions};
 pub use decimals::{ScaleError, scaled_text};
 pub use facts::{
     Histogram, Info, answer, bandwidth, count_lanes, counted_lanes, info_of, is_symmetric,
     longest_lane, push_count, push_facts, push_histogram, push_line,
 };
-pub use line_faults::LineFault;
-pub use lines::{after_end, is_comment};
+pub use orders::EliminationOrder;
 pub use pictures::{Picture, bitmap_text, block_text, draw, scaled_sizes, svg_text};
-pub use systems::{SystemError, is_solution, solve, solve_listed};
-pub use triangle::lower_of;
-pub use values::{count_zeros, has_same_values, has_symmetric_values};
+pub use pivots::Pivot;
+pub use systems::{CheckError, SystemError, check_solution, solve, solve_listed};
+pub use values::{count_zeros, first_asymmetry, first_difference};

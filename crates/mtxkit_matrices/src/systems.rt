@@ -15,40 +15,59 @@ ghost use Rattle.mtxkit_matrices.specs.declared.systems.SystemError.TheVariants.
 ghost use Rattle.mtxkit_matrices.specs.declared.systems.SystemError.TheVariants.{Shapes};
 ghost use Rattle.mtxkit_matrices.specs.declared.systems.SystemError.TheVariants.{OutOfMemory};
 
-use crate::values::{has_same_values, has_symmetric_values};
-use sparse_algebra::error::OperationErrorKind;
+use crate::coordinates::Coordinates;
+use crate::orders::{EliminationOrder, permutation_by};
+use crate::pivots::{Pivot, singular_pivot};
+use crate::values::{first_asymmetry, first_difference};
 use sparse_algebra::scalar::{Ring, Units};
 use sparse_convert::serial::{
     convert_coo_csc, convert_coo_csr, convert_coo_dense, convert_dense_coo, from_dense_law,
 };
 use sparse_coo_dense::coo::CooMatrix;
 use sparse_coo_dense::dense::DMatrix;
+use sparse_csr_csc::csc::CscMatrix;
 use sparse_csr_csc::csr::CsrMatrix;
 use sparse_factor::ldl::Ldl;
+use sparse_factor::ordered::error::OrderedFactorError;
+use sparse_permutation::permutation::Permutation;
 use sparse_products::serial::mul_csr;
 use std::alloc::{AllocError, Global};
 
-/// An error of solving a system or of testing a solution.
+/// An error of solving a system.
 #[derive(Clone, Copy, Debug)]
 pub enum SystemError {
     /// The shapes of the matrices do not fit.
     Shapes,
-    /// The matrix is not symmetric.
-    NotSymmetric,
-    /// The matrix has no factorisation L D L^T.
-    NoFactors,
+    /// The matrix has another value than its transpose; row by row, at first here.
+    NotSymmetric(Coordinates),
+    /// The matrix, in the order that is asked for, has no factorisation L D L^T: this is the first pivot without an
+    /// inverse.
+    NoFactors(Pivot),
     /// An allocation failed.
     OutOfMemory,
 }
 
-/// Returns the matrix X for which A X = B, by the exact factorisation L D L^T of the symmetric matrix A.
+/// An error of testing a solution.
+#[derive(Clone, Copy, Debug)]
+pub enum CheckError {
+    /// The shapes of the matrices do not fit.
+    Shapes,
+    /// A X has another value than B; row by row, at first here.
+    NotSolution(Coordinates),
+    /// An allocation failed.
+    OutOfMemory,
+}
+
+/// Returns the matrix X for which A X = B, by the exact factorisation P A P^T = L D L^T of the symmetric matrix A, where
+/// P is the order that is asked for. Where two orders have a factorisation, X is the same.
 ///
 /// # Errors
 ///
 /// Returns `Shapes` exactly if A is not square or B has a different number of rows, `NotSymmetric` if A differs from
-/// its transpose, and `NoFactors` if no factorisation L D L^T exists. Otherwise fails only if an allocation fails.
+/// its transpose, and `NoFactors` if no factorisation of P A P^T exists. Otherwise fails only if an allocation fails.
 pub fn solve<T: Units>(
     alloc: Global,
+    order: EliminationOrder,
     a: &CooMatrix<T>,
     b: &CooMatrix<T>,
 ) -> Result<DMatrix<T>, SystemError>
@@ -59,57 +78,47 @@ pub fn solve<T: Units>(
         (plain_product T.ring (plain_of_coo T.ring T.value a.now)
         (plain_of_dense T.ring T.value x))
         (plain_of_coo T.ring T.value b.now)) }
-    ensures unsymmetric { IfErr result (λ e. e ≡ NotSymmetric
-        → ¬ IsSymmetricMatrix T.ring (plain_of_coo T.ring T.value a.now)) }
-    ensures singular { IfErr result (λ e. e ≡ NoFactors
-        → HasNoFactorisation T.ring T.value (plain_of_coo T.ring T.value a.now)) }
 {
     if a.nrows() != a.ncols() || b.nrows() != a.nrows() {
         return Err(SystemError::Shapes);
     }
-    solve_fitting(alloc, a, b)
-}
-
-// Returns the matrix X for which A X = B. The shapes must fit.
-fn solve_fitting<T: Units>(
-    alloc: Global,
-    a: &CooMatrix<T>,
-    b: &CooMatrix<T>,
-) -> Result<DMatrix<T>, SystemError>
-    requires { IsSystem a.now b.now }
-    ensures rows { IfOk result (λ x. x.nrows ≡ a.now.ncols) }
-    ensures cols { IfOk result (λ x. x.ncols ≡ b.now.ncols) }
-    ensures solved { IfOk result (λ x. HasSameValues T.ring b.now.nrows b.now.ncols
-        (plain_product T.ring (plain_of_coo T.ring T.value a.now)
-        (plain_of_dense T.ring T.value x))
-        (plain_of_coo T.ring T.value b.now)) }
-    ensures shapes { IfErr result (λ e. e ≡ Shapes → ⊥) }
-    ensures unsymmetric { IfErr result (λ e. e ≡ NotSymmetric
-        → ¬ IsSymmetricMatrix T.ring (plain_of_coo T.ring T.value a.now)) }
-    ensures singular { IfErr result (λ e. e ≡ NoFactors
-        → HasNoFactorisation T.ring T.value (plain_of_coo T.ring T.value a.now)) }
-{
-    if !is_symmetric(alloc, a)? {
-        return Err(SystemError::NotSymmetric);
-    }
+    check_symmetric(alloc, a)?;
     let columns = convert_coo_csc(alloc, a)?;
-    let mut x = convert_coo_dense(alloc, b)?;
-    match Ldl::factor(alloc, &columns) {
-        Ok(factors) => {
-            factors.solve_mut(&mut x);
-            Ok(x)
-        }
-        Err(error) => Err(refusal(*error.kind())),
-    }
+    let permutation = permutation_by(alloc, order, columns.pattern())?;
+    solve_in_order(alloc, &columns, permutation, b)
 }
 
-// Returns whether the matrix is symmetric.
-fn is_symmetric<T: Ring>(alloc: Global, a: &CooMatrix<T>) -> Result<bool, AllocError>
-    ensures { IfOk result (λ yes. IsTrue yes
-        ↔ IsSymmetricMatrix T.ring (plain_of_coo T.ring T.value a.now)) }
+// Checks that the square matrix is symmetric.
+fn check_symmetric<T: Ring>(alloc: Global, a: &CooMatrix<T>) -> Result<(), SystemError>
+    requires { a.now.ncols ≡ a.now.nrows }
 {
     let rows = convert_coo_csr(alloc, a)?;
-    has_symmetric_values(alloc, &rows)
+    match first_asymmetry(alloc, &rows)? {
+        Some(at) => Err(SystemError::NotSymmetric(at)),
+        None => Ok(()),
+    }
+}
+
+// Returns the matrix X for which A X = B, where A is symmetric, by the factorisation of P A P^T.
+fn solve_in_order<T: Units>(
+    alloc: Global,
+    a: &CscMatrix<T>,
+    permutation: Permutation,
+    b: &CooMatrix<T>,
+) -> Result<DMatrix<T>, SystemError>
+{
+    let order = permutation.clone(alloc)?;
+    match Ldl::factor_in_order(alloc, a, permutation) {
+        Ok(factors) => {
+            let mut x = convert_coo_dense(alloc, b)?;
+            factors.solve_mut(alloc, &mut x)?;
+            Ok(x)
+        }
+        Err(OrderedFactorError::Singular) => {
+            Err(SystemError::NoFactors(singular_pivot(alloc, a, &order)?))
+        }
+        Err(_) => Err(SystemError::OutOfMemory),
+    }
 }
 
 /// As [`solve`], but returns X as a list of triplets: its nonzero values, column by column and each column from the
@@ -120,6 +129,7 @@ fn is_symmetric<T: Ring>(alloc: Global, a: &CooMatrix<T>) -> Result<bool, AllocE
 /// Returns the errors of [`solve`].
 pub fn solve_listed<T: Units>(
     alloc: Global,
+    order: EliminationOrder,
     a: &CooMatrix<T>,
     b: &CooMatrix<T>,
 ) -> Result<CooMatrix<T>, SystemError>
@@ -138,7 +148,7 @@ pub fn solve_listed<T: Units>(
     ensures singular { IfErr result (λ e. e ≡ NoFactors
         → HasNoFactorisation T.ring T.value (plain_of_coo T.ring T.value a.now)) }
 {
-    match solve(alloc, a, b) {
+    match solve(alloc, order, a, b) {
         Ok(x) => Ok(listed(alloc, &x)?),
         Err(error) => Err(error),
     }
@@ -157,59 +167,29 @@ fn listed<T: Ring>(alloc: Global, x: &DMatrix<T>) -> Result<CooMatrix<T>, AllocE
     convert_dense_coo(alloc, x)
 }
 
-// Returns the error for an error of the factorisation.
-fn refusal(kind: OperationErrorKind) -> SystemError
-    ensures singular { result ≡ NoFactors → kind ≡ Singular }
-    ensures symmetric { result ≡ NotSymmetric → ⊥ }
-    ensures shapes { result ≡ Shapes → ⊥ }
-{
-    match kind {
-        OperationErrorKind::Singular => SystemError::NoFactors,
-        OperationErrorKind::OutOfMemory | OperationErrorKind::InvalidPattern => {
-            SystemError::OutOfMemory
-        }
-    }
-}
-
-/// Returns whether A X = B.
+/// Checks that A X = B.
 ///
-/// Returns the error `Shapes` exactly if A X does not exist or its shape differs from that of B. Otherwise fails only
-/// if an allocation fails.
-pub fn is_solution<T: Ring>(
+/// # Errors
+///
+/// Returns `Shapes` exactly if A X does not exist or its shape differs from that of B, and `NotSolution` if A X has
+/// another value than B. Otherwise fails only if an allocation fails.
+pub fn check_solution<T: Ring>(
     alloc: Global,
     a: &CooMatrix<T>,
     x: &CooMatrix<T>,
     b: &CooMatrix<T>,
-) -> Result<bool, SystemError>
+) -> Result<(), CheckError>
     ensures shapes { (result ≡ Err Shapes) ↔ (IsEquation a.now x.now b.now → ⊥) }
-    ensures kinds { IfErr result (λ e. (e ≡ Shapes) ⊎ (e ≡ OutOfMemory)) }
-    ensures answer { IfOk result (λ yes. IsTrue yes ↔ HasSameValues T.ring b.now.nrows b.now.ncols
-        (plain_product T.ring (plain_of_coo T.ring T.value a.now)
-        (plain_of_coo T.ring T.value x.now))
-        (plain_of_coo T.ring T.value b.now)) }
 {
     if a.ncols() != x.nrows() || a.nrows() != b.nrows() || x.ncols() != b.ncols() {
-        return Err(SystemError::Shapes);
+        return Err(CheckError::Shapes);
     }
-    Ok(has_product(alloc, a, x, b)?)
-}
-
-// Returns whether A X = B. The shapes must fit.
-fn has_product<T: Ring>(
-    alloc: Global,
-    a: &CooMatrix<T>,
-    x: &CooMatrix<T>,
-    b: &CooMatrix<T>,
-) -> Result<bool, AllocError>
-    requires { IsEquation a.now x.now b.now }
-    ensures { IfOk result (λ yes. IsTrue yes ↔ HasSameValues T.ring b.now.nrows b.now.ncols
-        (plain_product T.ring (plain_of_coo T.ring T.value a.now)
-        (plain_of_coo T.ring T.value x.now))
-        (plain_of_coo T.ring T.value b.now)) }
-{
     let product = product(alloc, a, x)?;
     let right = convert_coo_csr(alloc, b)?;
-    Ok(has_same_values(alloc, &product, &right)?)
+    match first_difference(alloc, &product, &right)? {
+        Some(at) => Err(CheckError::NotSolution(at)),
+        None => Ok(()),
+    }
 }
 
 // Returns A X as a CSR matrix. The shapes must fit.
@@ -235,5 +215,15 @@ impl From<AllocError> for SystemError {
 
     fn from(_refused: AllocError) -> SystemError {
         SystemError::OutOfMemory
+    }
+}
+
+impl From<AllocError> for CheckError {
+    ghost use Rattle.mtxkit_matrices.specs.declared.systems.CheckError.TheVariants.{OutOfMemory};
+
+    ghost from_gives = { λ _ e. e ≡ OutOfMemory };
+
+    fn from(_refused: AllocError) -> CheckError {
+        CheckError::OutOfMemory
     }
 }

@@ -7,6 +7,7 @@ ghost use Rattle.sparse_compressed.specs.PlainOfLanes.{plain_of_rows};
 ghost use Rattle.sparse_dense_ops.specs.Solutions.{HasSameValues};
 ghost use Rattle.mtxkit_matrices.specs.Values.{AllZero, IsSymmetricMatrix};
 
+use crate::coordinates::Coordinates;
 use sparse_algebra::recall;
 use sparse_algebra::scalar::Ring;
 use sparse_compressed::laws::transpose_law;
@@ -27,24 +28,41 @@ pub fn count_zeros<T: Ring>(values: &[T]) -> usize
     count
 }
 
-/// Returns whether two matrices of the same shape have the same values, whatever their patterns are.
+/// Returns the first row and column, row by row, where two matrices of the same shape have different values, whatever
+/// their patterns are. Returns `None` exactly if they have the same values.
 ///
 /// Linear in the numbers of entries and rows. Fails only if an allocation fails.
-pub fn has_same_values<T: Ring>(
+pub fn first_difference<T: Ring>(
     alloc: Global,
     a: &CsrMatrix<T>,
     b: &CsrMatrix<T>,
-) -> Result<bool, AllocError>
+) -> Result<Option<Coordinates>, AllocError>
     requires rows { a.now.pattern.major_dim ≡ b.now.pattern.major_dim }
     requires cols { a.now.pattern.minor_dim ≡ b.now.pattern.minor_dim }
-    ensures { IfOk result (λ same. IsTrue same
-        ↔ HasSameValues T.ring a.now.pattern.major_dim a.now.pattern.minor_dim
-        (plain_of_rows T.ring T.value a.now) (plain_of_rows T.ring T.value b.now)) }
+    ensures { IfOk result (λ found. IsFirstDifference T.ring a.now.pattern.major_dim
+        a.now.pattern.minor_dim (plain_of_rows T.ring T.value a.now)
+        (plain_of_rows T.ring T.value b.now) (option_map pair_of found)) }
 {
     recall(a.values());
     recall(b.values());
     let difference = sub_csr(alloc, a, b)?;
-    Ok(is_zero(&difference))
+    Ok(first_nonzero(&difference))
+}
+
+/// Returns the first row and column, row by row, where a square matrix has another value than its transpose, whatever
+/// its pattern is. Returns `None` exactly if the matrix is symmetric.
+///
+/// Linear in the numbers of entries, rows and columns. Fails only if an allocation fails.
+pub fn first_asymmetry<T: Ring>(
+    alloc: Global,
+    matrix: &CsrMatrix<T>,
+) -> Result<Option<Coordinates>, AllocError>
+    requires { matrix.now.pattern.major_dim ≡ matrix.now.pattern.minor_dim }
+{
+    recall(matrix.values());
+    transpose_law::<T>();
+    let transposed = matrix.transpose(alloc)?;
+    first_difference(alloc, matrix, &transposed)
 }
 
 /// Returns whether a matrix is square and has the same values as its transpose, whatever its pattern is.
@@ -60,30 +78,17 @@ pub fn has_symmetric_values<T: Ring>(
     if matrix.nrows() != matrix.ncols() {
         return Ok(false);
     }
-    recall(matrix.values());
-    transpose_law::<T>();
-    let transposed = matrix.transpose(alloc)?;
-    Ok(has_same_values(alloc, matrix, &transposed)?)
+    let found = first_asymmetry(alloc, matrix)?;
+    Ok(found.is_none())
 }
 
-// Returns whether every value of the matrix is zero.
-fn is_zero<T: Ring>(matrix: &CsrMatrix<T>) -> bool
-    ensures zero { IsTrue result ↔ AllZero T.ring (plain_of_rows T.ring T.value matrix.now) }
-    ensures sound { IsSound matrix.now }
+// Returns the row and the column of the first value that is not zero, row by row.
+fn first_nonzero<T: Ring>(matrix: &CsrMatrix<T>) -> Option<Coordinates>
 {
-    are_zero(matrix.values())
-}
-
-// Returns whether every value in the list is zero.
-fn are_zero<T: Ring>(values: &[T]) -> bool
-    ensures { IsTrue result
-        ↔ ((k : ℕ) → k < length values.now
-        → T.value (slice_index_or values.now k T.zero_value) ≡ T.ring.zero) }
-{
-    for value in values {
+    for (row, col, value) in matrix.triplet_iter() {
         if *value != T::zero() {
-            return false;
+            return Some(Coordinates { row, col });
         }
     }
-    true
+    None
 }

@@ -9,13 +9,3 @@ mod UnsupportedTexts
 mod WideLists
 mod EntryLines
 mod ShapeParts
-mod ArrayPlaces
-mod DocumentSizes
-mod EntryFaults
-mod FirstFault
-mod LineTriplets
-mod LineWords
-mod PassedLines
-mod SearchedLines
-mod SizedLines
-mod SkippedLines

@@ -5,11 +5,10 @@ use Rattle.sparse_parser.specs.declared.error.MatrixMarketErrorKind.TheVariants 
 use Rattle.sparse_parser.specs.Meaning.{Means}
 use Rattle.sparse_parser.specs.Scalars.{Scalar}
 use Rattle.mtxkit_texts.specs.declared.failure.Failure.TheVariants.{Input}
-use Rattle.mtxkit_texts.specs.declared.locations.Location.{Location}
+use Rattle.sparse_faults.specs.declared.locations.Location.{Location}
 use Rattle.mtxkit_texts.specs.Faults.{IsTextFault}
-use Rattle.mtxkit_texts.specs.FirstFaults.{IsFirstFault}
+use Rattle.sparse_faults.specs.FirstFaults.{HasError, IsFirstFault}
 use Rattle.mtxkit_texts.specs.Headers.{header_in, is_supported}
-use Rattle.mtxkit_texts.specs.InnerFirstFaults.{HasError}
 
 module _ (S : Scalar) (text : List ℕ) where
   pub has_error : (kind : MatrixMarketErrorKind)

@@ -3,11 +3,11 @@ use Rattle.std.specs.Prelude.{◌≡◌, ℕ, Bool, true, false, List}
 use Rattle.sparse_parser.specs.declared.error.MatrixMarketErrorKind.{MatrixMarketErrorKind}
 use Rattle.sparse_parser.specs.declared.error.MatrixMarketErrorKind.TheVariants as kinds
 use Rattle.sparse_parser.specs.Scalars.{Scalar}
-use Rattle.mtxkit_texts.specs.FirstFaults.{IsFirstFault}
+use Rattle.sparse_faults.specs.FirstFaults.{IsFirstFault}
 use Rattle.mtxkit_texts.specs.Headers.{header_in, is_supported}
 use Rattle.mtxkit_texts.specs.declared.failure.Failure.{Failure}
 use Rattle.mtxkit_texts.specs.declared.failure.Failure.TheVariants.{Input, NotSupported, OutOfMemory}
-use Rattle.mtxkit_texts.specs.declared.locations.Location.{Location}
+use Rattle.sparse_faults.specs.declared.locations.Location.{Location}
 
 -- the failure names the number of the text, this kind of error and the line with the first fault of the text, read with
 -- values of this type

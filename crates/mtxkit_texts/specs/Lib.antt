@@ -1,8 +1,6 @@
 pub mod HeaderLines
 pub mod Facts
-pub mod FirstFaults
 pub mod Faults
-pub mod InnerFirstFaults
 pub mod Headers
 pub mod HighParts
 pub mod Loaded

@@ -2,12 +2,10 @@
 //! writes it again; and the progress of reading large files.
 #![tactic(auto)]
 
-mod counted_lines;
 mod exact;
 mod fact_lines;
 mod failure;
 mod field;
-mod line_faults;
 mod lists;
 mod loaded;
 mod locations;
@@ -27,12 +25,12 @@ pub use failure::Failure;
 pub use field::{copy_text, integer_text, pattern_text};
 pub use lists::with_values;
 pub use loaded::{Loaded, header_of, load, read_integers};
-pub use locations::Location;
-pub use mtxkit_matrices::LineFault;
+pub use mtxkit_matrices::{Coordinates, Dimensions, Pivot};
 pub use pattern_texts::write_pattern;
 pub use places::ones_of;
 pub use progress::{Screen, Terminal, progress_line, read_shown};
 pub use shapes::{Shape, shape_of};
+pub use sparse_faults::{LineFault, Location};
 pub use spy::{spy_bitmap, spy_blocks, spy_svg};
 pub use sums::wide_sums;
 pub use symmetric::symmetric_text;

@@ -8,7 +8,8 @@ ghost use Rattle.sparse_parser.specs.Meaning.{Means};
 ghost use Rattle.std.specs.Int.{w128};
 ghost use Rattle.mtxkit_texts.specs.Faults.{IsMismatch, IsTextFault};
 ghost use Rattle.mtxkit_texts.specs.Headers.{header_in, is_supported, is_supported_field};
-ghost use Rattle.mtxkit_texts.specs.InnerFirstFaults.{HasError, scalar_as};
+ghost use Rattle.sparse_faults.specs.FirstFaults.{HasError};
+ghost use Rattle.sparse_faults.specs.ValueTypes.{scalar_as};
 ghost use Rattle.mtxkit_texts.specs.Headers.{is_pattern, is_pattern_field};
 ghost use Rattle.mtxkit_texts.specs.Loaded.{MeansMatrix, MeansOnes, MeansSums, MeansIntegers};
 ghost use Rattle.mtxkit_texts.specs.Loaded.{IsRefused, IsLoadFailure, ring128, value128};
@@ -21,6 +22,7 @@ use crate::sums::wide_sums;
 use sparse_algebra::scalar::W128;
 use sparse_coo_dense::coo::CooMatrix;
 use sparse_csr_csc::csr::CsrMatrix;
+use sparse_faults::ValueType;
 use sparse_io::load_coo_from_matrix_market_str;
 use sparse_parser::error::MatrixMarketErrorKind;
 use sparse_parser::header::{Field, Header};
@@ -121,7 +123,7 @@ pub(crate) fn read_pattern_list(
 {
     match load_coo_from_matrix_market_str::<()>(alloc, text) {
         Ok(places) => Ok(places),
-        Err(error) => Err(unread(number, error.kind(), text, false)),
+        Err(error) => Err(unread(number, error.kind(), text, ValueType::Nothing)),
     }
 }
 
@@ -137,30 +139,30 @@ pub fn read_integers(alloc: Global, number: usize, text: &str) -> Result<CooMatr
 {
     match load_coo_from_matrix_market_str::<i128>(alloc, text) {
         Ok(integers) => Ok(integers),
-        Err(error) => Err(unread(number, error.kind(), text, true)),
+        Err(error) => Err(unread(number, error.kind(), text, ValueType::Wide)),
     }
 }
 
-// Returns the failure for a text that has an error of this kind, read as integers or else as a pattern.
-fn unread(number: usize, kind: MatrixMarketErrorKind, text: &str, as_integers: bool) -> Failure
-    requires { (kind ≡ kinds.OutOfMemory) ⊎ Means (scalar_as as_integers) text.now (Err kind) }
-    ensures { IsTextFault (scalar_as as_integers) number text.now kind result }
+// Returns the failure for a text that has an error of this kind, with values that are read as this type.
+fn unread(number: usize, kind: MatrixMarketErrorKind, text: &str, values: ValueType) -> Failure
+    requires { (kind ≡ kinds.OutOfMemory) ⊎ Means (scalar_as values) text.now (Err kind) }
+    ensures { IsTextFault (scalar_as values) number text.now kind result }
 {
     match kind {
         MatrixMarketErrorKind::OutOfMemory => Failure::OutOfMemory,
-        MatrixMarketErrorKind::TypeMismatch => mismatch(number, text, as_integers),
-        kind => Failure::Input(number, kind, location_of(text, as_integers)),
+        MatrixMarketErrorKind::TypeMismatch => mismatch(number, text, values),
+        kind => Failure::Input(number, kind, location_of(text, values)),
     }
 }
 
 // Returns the failure for a text with a value of another type than the one that is read.
-fn mismatch(number: usize, text: &str, as_integers: bool) -> Failure
-    requires { HasError (scalar_as as_integers) text.now }
-    ensures { IsMismatch (scalar_as as_integers) (is_supported (header_in text.now)) number
+fn mismatch(number: usize, text: &str, values: ValueType) -> Failure
+    requires { HasError (scalar_as values) text.now }
+    ensures { IsMismatch (scalar_as values) (is_supported (header_in text.now)) number
         text.now result }
 {
     if is_supported(text) {
-        let location = location_of(text, as_integers);
+        let location = location_of(text, values);
         Failure::Input(number, MatrixMarketErrorKind::TypeMismatch, location)
     } else {
         Failure::NotSupported(number)

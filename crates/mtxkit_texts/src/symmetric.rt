@@ -21,7 +21,7 @@ use crate::loaded::{header_of, read_integers, read_pattern_list};
 use crate::pattern_texts::write_pattern;
 use crate::places::ones_of;
 use crate::values::narrow_sums;
-use mtxkit_matrices::lower_of;
+use mtxkit_matrices::{Dimensions, first_asymmetry};
 use sparse_algebra::scalar::{Ring, W64, W128};
 use sparse_csr_csc::csr::CsrMatrix;
 use sparse_io::{Banner, save_to_matrix_market_str_with};
@@ -105,7 +105,7 @@ fn square_ones(alloc: Global, text: &str) -> Result<CsrMatrix<W128>, Failure>
 {
     let places = read_pattern_list(alloc, 1, text)?;
     if places.nrows() != places.ncols() {
-        return Err(Failure::NotSymmetric);
+        return Err(Failure::NotSquare(Dimensions::of(&places)));
     }
     Ok(ones_of(alloc, &places)?)
 }
@@ -120,7 +120,7 @@ fn square_values(alloc: Global, text: &str) -> Result<CsrMatrix<W64>, Failure>
 {
     let integers = read_integers(alloc, 1, text)?;
     if integers.nrows() != integers.ncols() {
-        return Err(Failure::NotSymmetric);
+        return Err(Failure::NotSquare(Dimensions::of(&integers)));
     }
     narrow_sums(alloc, 1, &integers)
 }
@@ -131,9 +131,9 @@ fn triangle_of<T: Ring>(alloc: Global, matrix: &CsrMatrix<T>) -> Result<CsrMatri
     ensures refused { IfErr result (λ e. (e ≡ OutOfMemory) ⊎ ((e ≡ NotSymmetric)
         × (¬ IsSymmetricMatrix T.ring (plain_of_rows T.ring T.value matrix.now)))) }
 {
-    match lower_of(alloc, matrix)? {
-        Some(lower) => Ok(lower),
-        None => Err(Failure::NotSymmetric),
+    match first_asymmetry(alloc, matrix)? {
+        None => Ok(matrix.lower_triangle(alloc)?),
+        Some(at) => Err(Failure::NotSymmetric(at)),
     }
 }
 

@@ -1,8 +1,9 @@
 -- Calls that read and write Matrix Market texts of integers.
-use Rattle.std.specs.Prelude.{◌≡◌, ◌⊎◌, ℕ, ℤ, Ok, Err, List, codes, length, IsUtf8}
+use Rattle.std.specs.Prelude.{◌≡◌, ◌⊎◌, ◌<◌, ℕ, ℤ, Ok, Err, List, codes, length, IsUtf8}
 use Rattle.std.specs.Fmt.{signed_decimal}
 use Rattle.std.specs.Int.{w64}
 use Rattle.sparse_coo_dense.specs.Coo.{Coo, coo_of, zip_triplets}
+use Rattle.sparse_faults.specs.FirstFaults.{IsFirstFault}
 use Rattle.sparse_io.specs.Written.{text_with}
 use Rattle.sparse_io.specs.declared.banner.Banner.TheVariants.{MixedCase}
 use Rattle.sparse_market_scalar.specs.ScalarTypes.{wrapping_scalar}
@@ -49,6 +50,11 @@ IsErrorOfText text refusal = (kind : MatrixMarketErrorKind)
 -- the error of bytes that are not UTF-8, or of a text that has an error
 abbrev pub IsFaultOfText : List ℕ → Refusal → Type 0
 IsFaultOfText text refusal = IsUnreadable text refusal ⊎ IsErrorOfText text refusal
+
+-- the line with this number has the first fault of the text, or the number is 0 and the text has no error
+abbrev pub IsFaultLine : List ℕ → ℕ → Type 0
+IsFaultLine text line = ((0 < line) × IsFirstFault (wrapping_scalar w64) text line)
+    ⊎ ((line ≡ 0) × ((m : Coo ℤ) × IsTextOf text m))
 
 -- the text that is written for a list of triplets, given as lists of rows, columns and values: it begins
 -- `%%MatrixMarket`

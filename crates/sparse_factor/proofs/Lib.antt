@@ -47,3 +47,4 @@ mod NestedFlags
 mod SymmetricMatrices
 mod OrderedSystems
 mod PermutedFactors
+mod LeadingBlocks

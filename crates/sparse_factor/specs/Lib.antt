@@ -10,3 +10,5 @@ pub mod Factors
 pub mod InnerFactors
 pub mod InnerNested
 pub mod OrderedFactors
+pub mod LeadingBlocks
+pub mod InnerLeadingBlocks

@@ -5,4 +5,5 @@
 pub mod factorization;
 pub mod laws;
 pub mod ldl;
+mod leading;
 pub mod ordered;

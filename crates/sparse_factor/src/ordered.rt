@@ -68,8 +68,8 @@ impl<T: Units> Ldl<T> {
     /// Returns the factorisation of P A Pᵀ, where A is the symmetric matrix whose entries on and above the diagonal are
     /// those of `a`, and P is an order in which L has little fill.
     ///
-    /// `a` must be square. Entries below its diagonal have no effect. The order is that of [`minimum_degree`] for the
-    /// pattern of A. [`OrderedLdl::solve_mut`] solves A X = B itself.
+    /// `a` must be square. The order is that of [`minimum_degree`] for the pattern of `a`; beside it, entries below the
+    /// diagonal have no effect. [`OrderedLdl::solve_mut`] solves A X = B itself.
     ///
     /// Before [`Ldl::factor`], A is built from two triangles, and permuted. That takes time linear in the entries and
     /// columns, except that each column is sorted, and memory for some copies of A.
@@ -105,10 +105,9 @@ impl<T: Units> Ldl<T> {
             × HasNoFactorsInOrder T.ring T.value a.now p)) }
         ensures kinds { IfErr result (λ e. (e ≡ Singular) ⊎ (e ≡ OutOfMemory)) }
     {
-        let whole = symmetric_matrix(alloc, a)?;
-        let permutation = minimum_degree(alloc, whole.pattern())?;
+        let permutation = minimum_degree(alloc, a.pattern())?;
         recall(permutation.order());
-        factor_whole(alloc, whole, permutation)
+        factor_given(alloc, a, permutation)
     }
 
     /// Returns the factorisation of P A Pᵀ, where A is the symmetric matrix whose entries on and above the diagonal are

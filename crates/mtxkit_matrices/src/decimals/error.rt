@@ -1,6 +1,6 @@
 //! Why a text is not scaled.
 
-use crate::line_faults::LineFault;
+use sparse_faults::LineFault;
 use std::alloc::{AllocError, AllocFailed};
 use std::error::Error;
 use std::fmt::{self, Display, Formatter, Write};

@@ -13,8 +13,7 @@ ghost use Rattle.mtxkit_matrices.specs.InnerScaleFailures.{IsHeadFailure};
 
 use crate::decimals::entry::push_entry;
 use crate::decimals::error::ScaleError;
-use crate::line_faults::LineFault;
-use crate::lines::is_comment;
+use sparse_faults::{LineFault, is_comment};
 use sparse_parser::header::{Field, Format, Header, Symmetry};
 use sparse_parser::lines::next_word;
 use sparse_parser::size::Size;

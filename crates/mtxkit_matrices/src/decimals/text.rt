@@ -6,7 +6,7 @@ ghost use Rattle.mtxkit_matrices.specs.ScaledTexts.{IsScaledText};
 
 use crate::decimals::error::ScaleError;
 use crate::decimals::stage::{Stage, push_bytes, push_line};
-use crate::lines::after_end;
+use sparse_faults::after_end;
 use sparse_parser::lines::split_line;
 use std::alloc::Global;
 

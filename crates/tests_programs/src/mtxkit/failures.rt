@@ -1,6 +1,6 @@
 //! The texts of failures.
 
-use mtxkit_texts::{Failure, LineFault, Location};
+use mtxkit_texts::{Coordinates, Dimensions, Failure, LineFault, Location, Pivot};
 use sparse_parser::error::MatrixMarketErrorKind;
 use std::alloc::Global;
 use std::io;
@@ -29,10 +29,38 @@ const TEXTS: &[(Failure, &str)] = &[
         Failure::Overflow(1),
         "a sum of repeated entries does not fit in 128 bits",
     ),
-    (Failure::NotSymmetric, "not symmetric"),
-    (Failure::Shapes, "shapes do not fit"),
-    (Failure::NoFactors, "no factorisation L D L^T exists"),
-    (Failure::NotSolution, "A X is not B"),
+    (
+        Failure::NotSquare(Dimensions { rows: 3, cols: 2 }),
+        "not square: 3 by 2",
+    ),
+    (
+        Failure::NotSymmetric(Coordinates { row: 1, col: 4 }),
+        "not symmetric; row by row, the first value that differs from its mirror image is in row 2, column 5",
+    ),
+    (
+        Failure::Shapes(Dimensions { rows: 3, cols: 2 }, Dimensions { rows: 4, cols: 1 }),
+        "shapes do not fit: A is 3 by 2, B is 4 by 1",
+    ),
+    (
+        Failure::ProductShapes(
+            Dimensions { rows: 3, cols: 2 },
+            Dimensions { rows: 4, cols: 1 },
+            Dimensions { rows: 5, cols: 6 },
+        ),
+        "shapes do not fit: A is 3 by 2, X is 4 by 1, B is 5 by 6",
+    ),
+    (
+        Failure::NoFactors(None, Pivot { number: 2, row: 6 }),
+        "pivot 3, in row 7, has no inverse modulo 2^64; another --mod or --order may have one",
+    ),
+    (
+        Failure::NoFactors(Some(7), Pivot { number: 0, row: 18446744073709551615 }),
+        "pivot 1, in row 18446744073709551616, has no inverse modulo 7; another --mod or --order may have one",
+    ),
+    (
+        Failure::NotSolution(Coordinates { row: 0, col: 2 }),
+        "A X is not B; row by row, the first value that differs is in row 1, column 3",
+    ),
     (Failure::Modulus, "no such modulus; see mtxkit solve --help"),
     (Failure::Usage, "no command; see mtxkit --help"),
     (

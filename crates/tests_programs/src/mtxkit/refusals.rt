@@ -55,6 +55,9 @@ const REPEATED: &[u8] = b"%%MatrixMarket matrix coordinate integer general
 1 1 1
 ";
 
+const UNSYMMETRIC: &str =
+    "mtxkit: -: not symmetric; row by row, the first value that differs from its mirror image is in row 1, column 2\n";
+
 const COMPLEX: &[u8] = b"%%MatrixMarket matrix coordinate complex general\n1 1 1\n1 1 5.5 0\n";
 
 // An entry is missing, and none is real.
@@ -152,20 +155,20 @@ pub const REFUSALS: &[Refusal] = &[
         &["symmetric", "-"],
         b"%%MatrixMarket matrix coordinate integer general\n2 2 1\n1 2 1\n",
         1,
-        "mtxkit: not symmetric\n",
+        UNSYMMETRIC,
     ),
     // Rows that no memory has room for.
     (
         &["symmetric", "-"],
         b"%%MatrixMarket matrix coordinate integer general\n1000000000000000000 1 1\n1 1 1\n",
         1,
-        "mtxkit: not symmetric\n",
+        "mtxkit: -: not square: 1000000000000000000 by 1\n",
     ),
     (
         &["symmetric", "-"],
         b"%%MatrixMarket matrix coordinate pattern general\n1000000000000000000 1 1\n1 1\n",
         1,
-        "mtxkit: not symmetric\n",
+        "mtxkit: -: not square: 1000000000000000000 by 1\n",
     ),
     // A skew-symmetric matrix is not symmetric, and is expanded.
     (

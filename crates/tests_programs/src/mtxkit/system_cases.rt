@@ -14,6 +14,17 @@ const A: &str = "2 2 4\n1 1 1\n1 2 2\n2 1 2\n2 2 7\n";
 // The matrix 2 1 / 1 1.
 const TWICE: &str = "2 2 4\n1 1 2\n1 2 1\n2 1 1\n2 2 1\n";
 
+// The matrix 3 1 0 / 1 4 0 / 0 0 0.
+const LATE: &str = "3 3 4\n1 1 3\n1 2 1\n2 1 1\n2 2 4\n";
+
+// The matrix 1 0 1 0 / 0 1 1 1 / 1 1 1 0 / 0 1 0 1, whose rows are on a path in the order 1, 3, 2, 4.
+const PATH: &str =
+    "4 4 10\n1 1 1\n2 2 1\n3 3 1\n4 4 1\n1 3 1\n3 1 1\n2 3 1\n3 2 1\n2 4 1\n4 2 1\n";
+
+// The matrix 2 1 1 1 / 1 1 0 0 / 1 0 1 0 / 1 0 0 1.
+const STAR: &str =
+    "4 4 10\n1 1 2\n1 2 1\n1 3 1\n1 4 1\n2 1 1\n3 1 1\n4 1 1\n2 2 1\n3 3 1\n4 4 1\n";
+
 /// What `mtxkit solve` answers.
 pub const SOLVE_CASES: &[SystemCase] = &[
     (
@@ -23,9 +34,45 @@ pub const SOLVE_CASES: &[SystemCase] = &[
     ),
     // The pivot 2 has no inverse modulo 2^64.
     (
-        &["solve"],
+        &["solve", "--order", "natural"],
         &[TWICE, "2 1 1\n2 1 6\n"],
-        Err("mtxkit: no factorisation L D L^T exists\n"),
+        Err(
+            "mtxkit: 0.mtx: pivot 1, in row 1, has no inverse modulo 2^64; another --mod or --order may have one\n",
+        ),
+    ),
+    // The second pivot is 4 - 1 / 3, which is -1 modulo 7, and the third one is 0.
+    (
+        &["solve", "--order", "natural", "--mod", "7"],
+        &[LATE, "3 1 0\n"],
+        Err(
+            "mtxkit: 0.mtx: pivot 3, in row 3, has no inverse modulo 7; another --mod or --order may have one\n",
+        ),
+    ),
+    // Reverse Cuthill-McKee takes row 3 after row 1.
+    (
+        &["solve", "--order", "rcm"],
+        &[PATH, "4 1 0\n"],
+        Err(
+            "mtxkit: 0.mtx: pivot 2, in row 3, has no inverse modulo 2^64; another --mod or --order may have one\n",
+        ),
+    ),
+    // The pivot of the centre of a star is 2 at first, and -1 after the others.
+    (
+        &["solve", "--order", "natural"],
+        &[STAR, "4 1 1\n1 1 1\n"],
+        Err(
+            "mtxkit: 0.mtx: pivot 1, in row 1, has no inverse modulo 2^64; another --mod or --order may have one\n",
+        ),
+    ),
+    (
+        &["solve"],
+        &[STAR, "4 1 1\n1 1 1\n"],
+        Ok("4 1 4\n1 1 -1\n2 1 1\n3 1 1\n4 1 1\n"),
+    ),
+    (
+        &["solve", "--order", "amd"],
+        &[STAR, "4 1 1\n1 1 1\n"],
+        Ok("4 1 4\n1 1 -1\n2 1 1\n3 1 1\n4 1 1\n"),
     ),
     (
         &["solve", "--mod", "7"],
@@ -46,24 +93,36 @@ pub const SOLVE_CASES: &[SystemCase] = &[
     ),
     // The first pivot is zero.
     (
-        &["solve", "--mod", "13"],
+        &["solve", "--order", "natural", "--mod", "13"],
         &["2 2 2\n1 2 1\n2 1 1\n", "2 1 0\n"],
-        Err("mtxkit: no factorisation L D L^T exists\n"),
+        Err(
+            "mtxkit: 0.mtx: pivot 1, in row 1, has no inverse modulo 13; another --mod or --order may have one\n",
+        ),
+    ),
+    // The values at (2, 3) and (3, 2) differ, and those at (1, 3) and (3, 1) are the same modulo 7.
+    (
+        &["solve", "--mod", "7"],
+        &["3 3 4\n1 3 1\n3 1 8\n2 3 2\n3 2 3\n", "3 1 0\n"],
+        Err(
+            "mtxkit: 0.mtx: not symmetric; row by row, the first value that differs from its mirror image is in row 2, column 3\n",
+        ),
     ),
     (
         &["solve"],
-        &["2 2 2\n1 1 1\n1 2 1\n", "2 1 0\n"],
-        Err("mtxkit: not symmetric\n"),
+        &["3 3 4\n1 3 1\n3 1 8\n2 3 2\n3 2 3\n", "3 1 0\n"],
+        Err(
+            "mtxkit: 0.mtx: not symmetric; row by row, the first value that differs from its mirror image is in row 1, column 3\n",
+        ),
     ),
     (
         &["solve"],
         &[A, "3 1 0\n"],
-        Err("mtxkit: shapes do not fit\n"),
+        Err("mtxkit: shapes do not fit: A is 2 by 2, B is 3 by 1\n"),
     ),
     (
         &["solve"],
         &["2 3 2\n1 1 1\n2 2 1\n", "2 1 0\n"],
-        Err("mtxkit: shapes do not fit\n"),
+        Err("mtxkit: shapes do not fit: A is 2 by 3, B is 2 by 1\n"),
     ),
     // Column by column, each from the top, without zeros.
     (
@@ -91,7 +150,7 @@ pub const CHECK_CASES: &[SystemCase] = &[
     (
         &["check"],
         &[A, "2 1 2\n1 1 1\n2 1 2\n", "2 1 2\n1 1 5\n2 1 9\n"],
-        Err("mtxkit: A X is not B\n"),
+        Err("mtxkit: A X is not B; row by row, the first value that differs is in row 2, column 1\n"),
     ),
     (
         &["check", "--mod", "7"],
@@ -101,7 +160,7 @@ pub const CHECK_CASES: &[SystemCase] = &[
     (
         &["check"],
         &[A, "2 1 0\n", "1 1 0\n"],
-        Err("mtxkit: shapes do not fit\n"),
+        Err("mtxkit: shapes do not fit: A is 2 by 2, X is 2 by 1, B is 1 by 1\n"),
     ),
     (
         &["check"],

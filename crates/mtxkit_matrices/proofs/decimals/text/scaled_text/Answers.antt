@@ -1,7 +1,7 @@
 use Rattle.std.proofs.Common.{◌≢◌, length, sym, ◌∙◌, arith}
 use Rattle.std.proofs.lemmas.Bool.{eqb-true, eqb-false}
-use Rattle.mtxkit_matrices.specs.InnerLines.{IsCut}
-use Rattle.mtxkit_matrices.proofs.LineEnds.{cut_plain, cut_ends, cut_shorter}
+use Rattle.sparse_faults.specs.InnerLines.{IsCut}
+use Rattle.sparse_faults.proofs.LineEnds.{cut_plain, cut_ends, cut_shorter}
 use Rattle.mtxkit_matrices.proofs.ScaleRefusals.{text_failed, ends_blank, ends_unsized}
 use Rattle.mtxkit_matrices.proofs.Rewriting.{text_begins, text_more, text_ends}
 use Rattle.mtxkit_matrices.proofs.decimals.text.scaled_text.Goals as goal

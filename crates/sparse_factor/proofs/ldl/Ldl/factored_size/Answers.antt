@@ -1,0 +1,15 @@
+use Rattle.std.proofs.Common.{ap, subst, ◌∙◌}
+use Rattle.sparse_algebra.specs.Plain.{Plain}
+use Rattle.sparse_coo_dense.specs.CooPlain.{plain_of_coo}
+use Rattle.sparse_factor.specs.Factorisations.{plain_symmetric}
+use Rattle.sparse_factor.specs.LeadingBlocks.{StopsAt}
+use Rattle.sparse_factor.proofs.LeadingBlocks.{columns-list}
+use Rattle.sparse_factor.proofs.ldl.Ldl.factored_size.Goals as goal
+
+pub returns : goal.returns
+returns g c =
+    let R = g.T.Ring.ring in
+    let f = g.T.Ring.value in
+    subst (λ (p : Plain R). StopsAt R f (plain_symmetric R p) c.leading_size.field-0)
+    (ap (plain_of_coo R f) c.in_ok-list.ensures ∙ columns-list R f c.args.a.now)
+    c.leading_size.ensures

@@ -1,0 +1,14 @@
+//! The first line of a Matrix Market text that has a fault.
+#![tactic(auto)]
+
+mod counted_lines;
+mod fault;
+mod line_faults;
+mod lines;
+mod locations;
+mod value_type;
+
+pub use fault::LineFault;
+pub use lines::{after_end, is_comment};
+pub use locations::{Location, text_fault};
+pub use value_type::ValueType;
