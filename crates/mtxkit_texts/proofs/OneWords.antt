@@ -28,7 +28,7 @@ copy-other word n = by (is_utf8 word) refl
 pub copy-index : (word : List ℕ) → is_index word ≡ true → copy_of word ≡ word
 copy-index word i = copy-utf8 word (integer-IsUtf8 word (ap is_index (index-unsigned word i) ∙ i))
 
-copy-one : copy_of one ≡ one
+pub copy-one : copy_of one ≡ one
 copy-one = copy-index one refl
 
 -- ---- entries
@@ -68,10 +68,10 @@ few_words f (row ∷ col ∷ words) h = absurd h
 
 -- ---- an entry that is appended word by word
 
-pub appended : {old row col first second last : List ℕ} → first ≡ old ++ (row ++ (32 ∷ []))
-    → second ≡ first ++ (col ++ (32 ∷ [])) → last ≡ second ++ codes "1 "
-    → last ≡ old ++ (row ++ (32 ∷ (col ++ (32 ∷ codes "1 "))))
-appended {old} {row} {col} e f g = rw (g, f, e) (regroup old row col (codes "1 "))
+pub appended : (old row col : List ℕ) {first second last : List ℕ}
+    → first ≡ old ++ (row ++ (32 ∷ [])) → second ≡ first ++ (col ++ (32 ∷ []))
+    → last ≡ second ++ codes "1 " → last ≡ old ++ (row ++ (32 ∷ (col ++ (32 ∷ codes "1 "))))
+appended old row col e f g = rw (g, f, e) (regroup old row col (codes "1 "))
   where
     regroup : (a b c d : List ℕ) → ((a ++ (b ++ (32 ∷ []))) ++ (c ++ (32 ∷ []))) ++ d
         ≡ a ++ (b ++ (32 ∷ (c ++ (32 ∷ d))))

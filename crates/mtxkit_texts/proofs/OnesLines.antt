@@ -6,14 +6,14 @@ use Rattle.sparse_parser.specs.declared.header.Header.{Header}
 use Rattle.sparse_parser.specs.Grammar.{AreLines}
 use Rattle.sparse_parser.specs.Header.{header_of}
 use Rattle.sparse_parser.specs.InnerReading.{words_of}
-use Rattle.mtxkit_matrices.specs.InnerLines.{IsCut, IsEnded}
-use Rattle.mtxkit_matrices.proofs.CountedLines.{AreLines-first_line}
+use Rattle.sparse_faults.specs.InnerLines.{IsCut, IsEnded}
+use Rattle.sparse_faults.proofs.CountedLines.{AreLines-first_line}
 use Rattle.mtxkit_texts.specs.declared.ones.Stage.{Stage}
 use Rattle.mtxkit_texts.specs.declared.ones.Stage.TheVariants.{Head, Sizes, Entries}
-use Rattle.mtxkit_texts.specs.InnerFirstFaults.{is_skipped}
 use Rattle.mtxkit_texts.specs.InnerOnes.{AreOnesAbove, next_stage, stage_lines, stage_words}
 use Rattle.mtxkit_texts.specs.InnerOnes.{stage_under, words_under}
-use Rattle.mtxkit_texts.specs.Ones.{AreOnesOf, ended, lines_below, lines_under, ones_lines, spaced}
+use Rattle.mtxkit_texts.specs.Ones.{AreOnesOf, ended, has_no_contents, lines_below, lines_under}
+use Rattle.mtxkit_texts.specs.Ones.{ones_lines, spaced}
 
 -- what is written for a line, and then for the lines below it
 stage_lines-first : (stage : Stage) (line : List ℕ) (lines : List (List ℕ))
@@ -25,9 +25,9 @@ stage_lines-first Head line lines = by (header_of (words_of line))
         ≡ spaced (words_under h) ∷ stage_lines (stage_under h) lines
     by None = refl
     by (Some h) = refl
-stage_lines-first (Sizes h) line lines = by (is_skipped true (words_of line)) refl
+stage_lines-first (Sizes h) line lines = by (has_no_contents (words_of line)) refl
   where
-    by : (t : Bool) → is_skipped true (words_of line) ≡ t
+    by : (t : Bool) → has_no_contents (words_of line) ≡ t
         → stage_lines (Sizes h) (line ∷ lines) ≡ spaced (stage_words (Sizes h) (words_of line))
         ∷ stage_lines (next_stage (Sizes h) (words_of line)) lines
     by true e = rw e refl

@@ -1,11 +1,10 @@
 -- A text of ones that is written line by line: what is written for a line, and what holds after some lines.
-use Rattle.std.specs.Prelude.{◌≡◌, ℕ, true, if◌then◌else◌, List, [], ◌∷◌, ◌++◌, Option, Some, None}
+use Rattle.std.specs.Prelude.{◌≡◌, ℕ, if◌then◌else◌, List, [], ◌∷◌, ◌++◌, Option, Some, None}
 use Rattle.sparse_parser.specs.declared.header.Header.{Header}
 use Rattle.sparse_parser.specs.Grammar.{AreLines}
 use Rattle.sparse_parser.specs.Header.{header_of}
-use Rattle.mtxkit_texts.specs.InnerFirstFaults.{is_skipped}
 use Rattle.mtxkit_texts.specs.Ones.{copied, ended, entry_lines, entry_words, head_words}
-use Rattle.mtxkit_texts.specs.Ones.{lines_below, ones_lines}
+use Rattle.mtxkit_texts.specs.Ones.{has_no_contents, lines_below, ones_lines}
 use Rattle.mtxkit_texts.specs.declared.ones.Stage.{Stage}
 use Rattle.mtxkit_texts.specs.declared.ones.Stage.TheVariants.{Head, Sizes, Entries}
 
@@ -24,7 +23,7 @@ stage_under (Some h) = Sizes h
 -- the stage after a line with these words
 abbrev pub next_stage : Stage → List (List ℕ) → Stage
 next_stage Head words = stage_under (header_of words)
-next_stage (Sizes h) words = if is_skipped true words then Sizes h else Entries h
+next_stage (Sizes h) words = if has_no_contents words then Sizes h else Entries h
 next_stage (Entries h) words = Entries h
 
 abbrev pub words_under : Option Header → List (List ℕ)
@@ -34,7 +33,7 @@ words_under (Some h) = head_words h
 -- the words that are written for a line with these words
 abbrev pub stage_words : Stage → List (List ℕ) → List (List ℕ)
 stage_words Head words = words_under (header_of words)
-stage_words (Sizes h) words = if is_skipped true words then [] else copied words
+stage_words (Sizes h) words = if has_no_contents words then [] else copied words
 stage_words (Entries h) words = entry_words h words
 
 -- ---- the text

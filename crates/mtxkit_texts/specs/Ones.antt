@@ -1,6 +1,6 @@
 -- Texts with the value 1 in place of each value: their places are those of the texts.
 use Rattle.std.specs.Prelude.{◌≡◌, ℕ, Bool, true, false, if◌then◌else◌, List, [], ◌∷◌, ◌++◌, map}
-use Rattle.std.specs.Prelude.{codes, Option, Some, None}
+use Rattle.std.specs.Prelude.{codes, slice_index, ◌==◌, Option, Some, None}
 use Rattle.std.specs.Str.{is_utf8}
 use Rattle.sparse_parser.specs.declared.header.Field.{Field}
 use Rattle.sparse_parser.specs.declared.header.Field.TheVariants.{Integer}
@@ -15,7 +15,6 @@ use Rattle.sparse_parser.specs.Header.{header_of}
 use Rattle.sparse_parser.specs.InnerReading.{words_of}
 use Rattle.sparse_parser.specs.Meaning.{is_of_field}
 use Rattle.mtxkit_texts.specs.HeaderLines.{format_name, symmetry_name}
-use Rattle.mtxkit_texts.specs.InnerFirstFaults.{is_skipped}
 
 -- ---- the header and the entries
 
@@ -48,6 +47,11 @@ one_words format field words = no_entry
 
 -- ---- the lines
 
+-- a line with these words is blank or a comment
+abbrev pub has_no_contents : List (List ℕ) → Bool
+has_no_contents [] = true
+has_no_contents (word ∷ words) = slice_index word 0 == 37
+
 -- each word with a blank after it
 abbrev pub spaced : List (List ℕ) → List ℕ
 spaced [] = []
@@ -67,7 +71,7 @@ head_words h = codes "%%MatrixMarket" ∷ codes "matrix" ∷ format_name h.forma
 -- what is written for a line below the size line: nothing if it is blank or a comment
 abbrev pub entry_words : Header → List (List ℕ) → List (List ℕ)
 entry_words h words =
-    if is_skipped true words then [] else copied (one_words h.format h.field words)
+    if has_no_contents words then [] else copied (one_words h.format h.field words)
 
 -- the lines below the size line
 abbrev pub entry_lines : Header → List (List ℕ) → List (List ℕ)
@@ -76,7 +80,7 @@ entry_lines h lines = map (λ line. spaced (entry_words h (words_of line))) line
 -- the lines below the header: the first that is neither blank nor a comment is the size line
 abbrev pub lines_below : Header → List (List ℕ) → List (List ℕ)
 lines_below h [] = []
-lines_below h (line ∷ lines) = if is_skipped true (words_of line) then [] ∷ lines_below h lines
+lines_below h (line ∷ lines) = if has_no_contents (words_of line) then [] ∷ lines_below h lines
     else spaced (copied (words_of line)) ∷ entry_lines h lines
 
 -- the lines from a header on, or an empty line for a line that is no header

@@ -7,12 +7,11 @@ ghost use Rattle.sparse_parser.specs.InnerReading.{words_of};
 ghost use Rattle.sparse_parser.specs.Meaning.{is_of_field};
 ghost use Rattle.mtxkit_texts.specs.declared.ones.Stage.TheVariants.{Head, Sizes, Entries};
 ghost use Rattle.mtxkit_texts.specs.InnerOnes.{HasNoPlace, next_stage, stage_words};
-ghost use Rattle.mtxkit_texts.specs.Ones.{AreOnesOf, copied, copy_of, head_words, one_words, spaced};
-ghost use Rattle.mtxkit_texts.specs.Ones.{unconjugated};
+ghost use Rattle.mtxkit_texts.specs.Ones.{AreOnesOf, copied, copy_of, has_no_contents, head_words};
+ghost use Rattle.mtxkit_texts.specs.Ones.{one_words, spaced, unconjugated};
 
-use crate::counted_lines::is_skipped;
 use crate::fact_lines::{format_name, symmetry_name};
-use mtxkit_matrices::after_end;
+use sparse_faults::{after_end, is_comment};
 use sparse_parser::header::{Field, Format, Header, Symmetry};
 use sparse_parser::lines::{next_word, split_line};
 use std::alloc::{AllocError, Global};
@@ -113,7 +112,7 @@ fn push_sizes(ones: &mut String, header: Header, line: &[u8]) -> Result<Stage, A
     ensures appended { OnOk result (string_bytes ones.new
         ≡ string_bytes ones.old ++ spaced (stage_words (Sizes header) (words_of line.now))) }
 {
-    if is_skipped(true, line) {
+    if has_no_contents(line) {
         return Ok(Stage::Sizes(header));
     }
     push_words(ones, line)?;
@@ -126,10 +125,20 @@ fn push_entry(ones: &mut String, header: Header, line: &[u8]) -> Result<Stage, A
     ensures appended { OnOk result (string_bytes ones.new
         ≡ string_bytes ones.old ++ spaced (stage_words (Entries header) (words_of line.now))) }
 {
-    if !is_skipped(true, line) {
+    if !has_no_contents(line) {
         push_one(ones, header, line)?;
     }
     Ok(Stage::Entries(header))
+}
+
+// Returns whether a line is blank or a comment.
+fn has_no_contents(line: &[u8]) -> bool
+    ensures { result ≡ has_no_contents (words_of line.now) }
+{
+    match next_word(line) {
+        None => true,
+        Some((word, _)) => is_comment(word),
+    }
 }
 
 // Appends the entry with the value 1 for a data line.

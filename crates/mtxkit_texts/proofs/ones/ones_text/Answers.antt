@@ -1,8 +1,8 @@
 use Rattle.std.proofs.Common.{◌≢◌, [], length, sym, ◌∙◌, arith}
 use Rattle.std.proofs.lemmas.Bool.{eqb-true, eqb-false}
 use Rattle.std.proofs.lemmas.List.{nil_from_length}
-use Rattle.mtxkit_matrices.specs.InnerLines.{IsCut}
-use Rattle.mtxkit_matrices.proofs.LineEnds.{cut_ends, cut_shorter}
+use Rattle.sparse_faults.specs.InnerLines.{IsCut}
+use Rattle.sparse_faults.proofs.LineEnds.{cut_ends, cut_shorter}
 use Rattle.mtxkit_texts.proofs.OnesLines.{ones_begin, ones_more, ones_end}
 use Rattle.mtxkit_texts.proofs.ones.ones_text.Goals as goal
 use Rattle.mtxkit_texts.proofs.ones.ones_text.Goals.{After-split_line}
