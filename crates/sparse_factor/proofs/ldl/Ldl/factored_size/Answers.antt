@@ -1,4 +1,5 @@
 use Rattle.std.proofs.Common.{ap, subst, ◌∙◌}
+use Rattle.std.specs.Prelude.{IfOk}
 use Rattle.sparse_algebra.specs.Plain.{Plain}
 use Rattle.sparse_coo_dense.specs.CooPlain.{plain_of_coo}
 use Rattle.sparse_factor.specs.Factorisations.{plain_symmetric}
@@ -10,6 +11,6 @@ pub returns : goal.returns
 returns g c =
     let R = g.T.Ring.ring in
     let f = g.T.Ring.value in
-    subst (λ (p : Plain R). StopsAt R f (plain_symmetric R p) c.leading_size.field-0)
+    subst (λ (p : Plain R). IfOk c.leading_size.result (StopsAt R f (plain_symmetric R p)))
     (ap (plain_of_coo R f) c.in_ok-list.ensures ∙ columns-list R f c.args.a.now)
     c.leading_size.ensures
