@@ -45,7 +45,9 @@ const FILES: &[(&str, &str)] = &[
 pub fn run(rt: &HostRuntime, turn: &mut Turn, case: &str) -> Outcome {
     let modulus = Some(7);
     match case {
-        "info" => run_args(rt, turn, Command::Info { file: A }),
+        "info" => run_args(rt, turn, info(A, Form::Lines)),
+        "info json" => run_args(rt, turn, info(A, Form::Json)),
+        "info real" => run_args(rt, turn, info(R, Form::Lines)),
         "spy" => run_args(rt, turn, picture(Target::Bitmap)),
         "spy svg" => run_args(rt, turn, picture(Target::Svg)),
         "spy text" => run_args(rt, turn, picture(Target::Blocks)),
@@ -69,7 +71,12 @@ pub fn run(rt: &HostRuntime, turn: &mut Turn, case: &str) -> Outcome {
         }
         "fill" => {
             let order = FillOrder::File(ORDER);
-            run_args(rt, turn, Command::Fill { file: A, order })
+            let form = Form::Lines;
+            run_args(rt, turn, Command::Fill { file: A, order, form })
+        }
+        "fill json" => {
+            let (order, form) = (FillOrder::Natural, Form::Json);
+            run_args(rt, turn, Command::Fill { file: A, order, form })
         }
         "eval" => run_args(rt, turn, square()),
         "solve" => run_args(rt, turn, solve(None)),
