@@ -34,7 +34,7 @@ write_status-is kind = inl (omega arith)
 pub error_status-is : (error : CommandError) → IsStatus (error_status error)
 error_status-is (Failed Usage) = inl (omega arith)
 error_status-is (Failed failure) = inl (omega arith)
-error_status-is (Unscaled error) = inl (omega arith)
+error_status-is (Unscaled error least) = inl (omega arith)
 error_status-is (Misordered error) = inl (omega arith)
 error_status-is (Unevaluated error) = inl (omega arith)
 error_status-is (Unwritten kind) = write_status-is kind
@@ -55,8 +55,8 @@ module _ (old new : Option (List ℕ)) (before after : ℕ) where
       → IsErrorReported command error old new before after → HasReport old new before after
   written_of_error command (Failed failure) is told =
       (error_file command (Failed failure), told)
-  written_of_error command (Unscaled error) is told =
-      (error_file command (Unscaled error), told)
+  written_of_error command (Unscaled error least) is told =
+      (error_file command (Unscaled error least), told)
   written_of_error command (Misordered error) is told =
       (error_file command (Misordered error), told)
   written_of_error command (Unevaluated error) is told =
@@ -68,7 +68,7 @@ module _ (old new : Option (List ℕ)) (before after : ℕ) where
       → IsErrorReported command error old new before after → IsSilent old new before after
   silent_of_error command (Failed Usage) is told = absurd (omega (arith, is))
   silent_of_error command (Failed failure) is told = absurd (omega (arith, is))
-  silent_of_error command (Unscaled error) is told = absurd (omega (arith, is))
+  silent_of_error command (Unscaled error least) is told = absurd (omega (arith, is))
   silent_of_error command (Misordered error) is told = absurd (omega (arith, is))
   silent_of_error command (Unevaluated error) is told = absurd (omega (arith, is))
   silent_of_error command (Unwritten kind) is told = silent_at_141 kind is told

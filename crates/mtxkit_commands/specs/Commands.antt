@@ -16,7 +16,7 @@ use Rattle.mtxkit_texts.specs.declared.failure.Failure.{Failure}
 use Rattle.mtxkit_texts.specs.declared.failure.Failure.TheVariants.{Unsaved, OutOfMemory}
 use Rattle.mtxkit_texts.specs.Statuses.{status_of}
 use Rattle.mtxkit_matrices.specs.ScaleFailures.{IsScaleFailure}
-use Rattle.mtxkit_matrices.specs.ScaledTexts.{IsScaledText}
+use Rattle.mtxkit_matrices.specs.ScaledTexts.{IsLeastTextScale, IsScaledText}
 use Rattle.mtxkit_matrices.specs.declared.decimals.error.ScaleError.{ScaleError}
 use Rattle.mtxkit_patterns.specs.declared.order_error.OrderError.{OrderError}
 use Rattle.mtxkit_commands.specs.Reads.{ReadsOne, ReadsTwo, ReadsThree, FailsOne}
@@ -169,15 +169,23 @@ IsFailure (Solve modulus a b) old new failure = IsUnsolved modulus a.now b.now o
 IsFailure (Check modulus a x b) old new failure =
     IsUnchecked modulus a.now x.now b.now old new failure
 
--- the numbers of the file's text are not scaled, for this reason
-abbrev pub IsUnscaled : ℕ → List ℕ → List Reading → List Reading → ScaleError → Type 0
-IsUnscaled scale file old new error =
-    ReadsOne file (λ text. IsScaleFailure scale text error) old new
+-- the numbers of the file's text are not scaled, for this reason; `least` is the least scale with which they are, if
+-- one was found
+abbrev pub IsUnscaled : ℕ → List ℕ → List Reading → List Reading → ScaleError → Option ℕ → Type 0
+IsUnscaled scale file old new error least =
+    ReadsOne file (λ text. IsScaleFailure scale text error × IsLeastTextScale text least) old new
 
 -- the command is `integer`, and the numbers of its file's text are not scaled, for this reason
-abbrev pub IsUnscaledBy : Command → List Reading → List Reading → ScaleError → Type 0
-IsUnscaledBy (Integer file scale) old new error = IsUnscaled scale file.now old new error
-IsUnscaledBy command old new error = ⊥
+abbrev pub IsUnscaledBy : Command → List Reading → List Reading → ScaleError → Option ℕ → Type 0
+IsUnscaledBy (Integer file scale) old new error least =
+    IsUnscaled scale file.now old new error least
+IsUnscaledBy command old new error least = ⊥
+
+-- the error of `integer` for a text that is not scaled for this reason
+abbrev pub IsUnscaledText : List ℕ → ScaleError → CommandError → Type 0
+IsUnscaledText text error (Failed failure) = failure ≡ OutOfMemory
+IsUnscaledText text error (Unscaled why least) = (why ≡ error) × IsLeastTextScale text least
+IsUnscaledText text error other = ⊥
 
 -- the command is one of those about orders, and the order or its matrix is at fault, in this way
 abbrev pub IsMisorderedBy : Command → List Reading → List Reading → OrderError → Type 0
@@ -196,7 +204,7 @@ IsUnevaluatedBy command old new error = ⊥
 -- the same for all errors of commands
 abbrev pub HasNoAnswer : Command → List Reading → List Reading → CommandError → Type 0
 HasNoAnswer command old new (Failed failure) = IsFailure command old new failure
-HasNoAnswer command old new (Unscaled error) = IsUnscaledBy command old new error
+HasNoAnswer command old new (Unscaled error least) = IsUnscaledBy command old new error least
 HasNoAnswer command old new (Misordered error) = IsMisorderedBy command old new error
 HasNoAnswer command old new (Unevaluated error) = IsUnevaluatedBy command old new error
 HasNoAnswer command old new (Unwritten kind) = ⊥
@@ -205,7 +213,8 @@ HasNoAnswer command old new (Unwritten kind) = ⊥
 abbrev pub IsScaleError : ℕ → List ℕ → List Reading → List Reading → CommandError → Type 0
 IsScaleError scale file old new (Failed failure) =
     FailsOne file (λ text f. f ≡ OutOfMemory) old new failure
-IsScaleError scale file old new (Unscaled error) = IsUnscaled scale file old new error
+IsScaleError scale file old new (Unscaled error least) =
+    IsUnscaled scale file old new error least
 IsScaleError scale file old new error = ⊥
 
 -- the same for `eval`
@@ -253,8 +262,8 @@ abbrev pub CanFail : Command → List Reading → List Reading → ℕ → ℕ �
     → CommandError → Type 0
 CanFail command old new before after last (Failed failure) =
     (after ≡ before) × IsUnanswered command old new failure
-CanFail command old new before after last (Unscaled error) =
-    (after ≡ before) × IsUnscaledBy command old new error
+CanFail command old new before after last (Unscaled error least) =
+    (after ≡ before) × IsUnscaledBy command old new error least
 CanFail command old new before after last (Misordered error) =
     (after ≡ before) × IsMisorderedBy command old new error
 CanFail command old new before after last (Unevaluated error) =
@@ -269,7 +278,7 @@ write_status kind = 1
 -- the exit status of an error
 abbrev pub error_status : CommandError → ℕ
 error_status (Failed failure) = status_of failure
-error_status (Unscaled error) = 1
+error_status (Unscaled error least) = 1
 error_status (Misordered error) = 1
 error_status (Unevaluated error) = 1
 error_status (Unwritten kind) = write_status kind

@@ -123,7 +123,7 @@ unscaled_line (scale.Header number fault) = Some number
 unscaled_line (scale.Field number) = Some number
 unscaled_line (scale.Sizes number fault) = Some number
 unscaled_line (scale.Entry number) = Some number
-unscaled_line (scale.Fraction number) = Some number
+unscaled_line (scale.Fraction number least) = Some number
 unscaled_line (scale.Range number) = Some number
 unscaled_line scale.Ended = None
 unscaled_line scale.OutOfMemory = None
@@ -146,7 +146,7 @@ with_line (Some path) (Some number) = Some (path ++ (codes ":" ++ decimal number
 -- the path of the file that an error of the command is about, and the number of its line
 abbrev pub error_file : Command → CommandError → Option (List ℕ)
 error_file command (Failed failure) = with_line (fault_file command failure) (fault_line failure)
-error_file command (Unscaled error) =
+error_file command (Unscaled error least) =
     with_line (Some (first_file command)) (unscaled_line error)
 error_file command (Misordered error) = with_line (file_of command (order_number error)) None
 error_file command (Unevaluated error) = None

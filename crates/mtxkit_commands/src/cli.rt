@@ -77,7 +77,9 @@ fn report_error<E: Sink>(
         CommandError::Failed(failure) => {
             report(alloc, command.file_at_fault(failure), failure, err)
         }
-        CommandError::Unscaled(error) => report_unscaled(alloc, command.first_file(), error, err),
+        CommandError::Unscaled(error, least) => {
+            report_unscaled(alloc, command.first_file(), error, least, err)
+        }
         CommandError::Misordered(error) => {
             report_misordered(alloc, command.file(order_number(error)), error, err)
         }

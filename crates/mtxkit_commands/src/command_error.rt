@@ -14,8 +14,8 @@ use std::io::ErrorKind;
 pub enum CommandError {
     /// A failure that several commands have.
     Failed(Failure),
-    /// The numbers of the file of `mtxkit integer` are not scaled.
-    Unscaled(ScaleError),
+    /// The numbers of the file of `mtxkit integer` are not scaled. The least scale with which all are, if one was found.
+    Unscaled(ScaleError, Option<u32>),
     /// An order, or the matrix that it is for, is at fault.
     Misordered(OrderError),
     /// The expression of `mtxkit eval` has no value that is written.

@@ -1,17 +1,18 @@
 //! The command `mtxkit integer`, which scales decimal numbers, and the lines of its errors.
 
 ghost use Rattle.std.specs.Prelude.{◌≡◌, IfOk, IfErr, Some, string_bytes};
-ghost use Rattle.mtxkit_commands.specs.Commands.{IsScaleAnswer, IsScaleError};
+ghost use Rattle.mtxkit_commands.specs.Commands.{IsScaleAnswer, IsScaleError, IsUnscaledText};
 ghost use Rattle.mtxkit_commands.specs.Names.{unscaled_line, with_line};
 ghost use Rattle.mtxkit_commands.specs.Names.{IsErrorLine, IsReported};
 
 use crate::command_error::CommandError;
 use crate::failure_lines::{push_name, write_line};
 use crate::inputs::{Texts, read_text};
-use mtxkit_matrices::{ScaleError, scaled_text};
+use mtxkit_matrices::{ScaleError, least_scale, scaled_text};
 use mtxkit_texts::Failure;
 use sparse_io::Sink;
 use std::alloc::{AllocError, Global};
+use std::fmt::{self, Display, Formatter, Write};
 
 /// Reads the file, and returns its text with each number multiplied by `10^scale`, as a text of integers.
 pub(crate) fn scaled_of<T: Texts>(
@@ -28,8 +29,21 @@ pub(crate) fn scaled_of<T: Texts>(
     let text = read_text(texts, 1, file)?;
     match scaled_text(alloc, scale, text.as_str().as_bytes()) {
         Ok(written) => Ok(written),
-        Err(ScaleError::OutOfMemory) => Err(CommandError::Failed(Failure::OutOfMemory)),
-        Err(error) => Err(CommandError::Unscaled(error)),
+        Err(error) => Err(unscaled(alloc, text.as_str().as_bytes(), error)),
+    }
+}
+
+// Returns the error of the command for a text that is not scaled.
+fn unscaled(alloc: Global, text: &[u8], error: ScaleError) -> CommandError
+    ensures { IsUnscaledText text.now error result }
+{
+    match error {
+        ScaleError::OutOfMemory => CommandError::Failed(Failure::OutOfMemory),
+        ScaleError::Fraction(_, _) => match least_scale(alloc, text) {
+            Ok(least) => CommandError::Unscaled(error, least),
+            Err(AllocError) => CommandError::Failed(Failure::OutOfMemory),
+        },
+        error => CommandError::Unscaled(error, None),
     }
 }
 
@@ -39,27 +53,53 @@ pub(crate) fn report_unscaled<E: Sink>(
     alloc: Global,
     file: &str,
     error: ScaleError,
+    least: Option<u32>,
     err: &mut E,
 ) -> u8
     ensures status { result ≡ 1 }
     ensures reported { IsReported (with_line (Some file.now) (unscaled_line error))
         (E.accepted err.old) (E.accepted err.new) (E.failures err.old) (E.failures err.new) }
 {
-    write_line(unscaled_line(alloc, file, error), err);
+    write_line(unscaled_line(alloc, file, error, least), err);
     1
 }
 
 // Returns the line for a file whose numbers are not scaled: the program, the file, the number of the line with the
 // fault, if there is one, and the message.
-fn unscaled_line(alloc: Global, file: &str, error: ScaleError) -> Result<String, AllocError>
+fn unscaled_line(
+    alloc: Global,
+    file: &str,
+    error: ScaleError,
+    least: Option<u32>,
+) -> Result<String, AllocError>
     ensures { IfOk result (λ line. IsErrorLine
         (with_line (Some file.now) (unscaled_line error)) (string_bytes line)) }
 {
     let mut line = String::new(alloc);
     push_name(alloc, &mut line, Some(file), line_of(error))?;
-    let why = format!(in alloc; ": {error}\n")?;
+    let why = format!(in alloc; ": {error}{}\n", Hint(error, least))?;
     line.push_str(why.as_str())?;
     Ok(line)
+}
+
+// The least scale that a message names: that of the file, or else that of the value.
+#[derive(Clone, Copy)]
+struct Hint(ScaleError, Option<u32>);
+
+impl Display for Hint {
+    fn fmt<W: Write>(&self, f: &mut Formatter<W>) -> fmt::Result {
+        match (self.0, self.1) {
+            (ScaleError::Fraction(_, _), Some(least)) => {
+                write!(f, "; the least K for the file is {least}")
+            }
+            (ScaleError::Fraction(_, Some(least)), None) => write!(
+                f,
+                "; the least K for this value is {least}, and the file has none"
+            ),
+            (ScaleError::Fraction(_, None), None) => f.write_str(" for any K"),
+            _ => Ok(()),
+        }
+    }
 }
 
 // Returns the number of the line with the fault, if there is one.
@@ -71,7 +111,7 @@ fn line_of(error: ScaleError) -> Option<usize>
         | ScaleError::Field(number)
         | ScaleError::Sizes(number, _)
         | ScaleError::Entry(number)
-        | ScaleError::Fraction(number)
+        | ScaleError::Fraction(number, _)
         | ScaleError::Range(number) => Some(number),
         ScaleError::Ended | ScaleError::OutOfMemory => None,
     }

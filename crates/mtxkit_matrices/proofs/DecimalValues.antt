@@ -1,6 +1,6 @@
 -- The value of a decimal number from its magnitude and sign.
 use Rattle.std.proofs.Common.{◌≡◌, ℕ, ℤ, zero, suc, ◌+◌, ◌^◌, ◌<◌, ◌≤◌, Bool, true, false, not}
-use Rattle.std.proofs.Common.{Option, List, Result, Ok, Err, length, length-drop, refl}
+use Rattle.std.proofs.Common.{Option, Some, None, List, Result, Ok, Err, length, length-drop, refl}
 use Rattle.std.proofs.Common.{arith}
 use Rattle.std.specs.Prelude.{IfOk, IfErr, MatchResult, FitsSigned}
 use Rattle.std.specs.Int.{w128}
@@ -13,10 +13,12 @@ use Rattle.sparse_parser.specs.Grammar.{is_number, is_exponent}
 use Rattle.sparse_parser.proofs.LeadingBytes.{length-after}
 use Rattle.mtxkit_matrices.specs.declared.decimals.number.Misfit.{Misfit}
 use Rattle.mtxkit_matrices.specs.declared.decimals.number.Misfit.TheVariants.{Fraction, Range}
-use Rattle.mtxkit_matrices.specs.Decimals.{IsScaled, IsMisfit, mantissa_of, exponent_of, power_of}
+use Rattle.mtxkit_matrices.specs.Decimals.{IsScaled, IsLeastScale, IsMisfit}
+use Rattle.mtxkit_matrices.specs.Decimals.{mantissa_of, exponent_of, power_of}
 use Rattle.mtxkit_matrices.specs.Decimals.{number_of_digits, places_behind, above_zero, below_zero}
 use Rattle.mtxkit_matrices.specs.InnerDigits.{IsTrimmed}
-use Rattle.mtxkit_matrices.specs.InnerPowers.{HasPower, IsMagnitude, HasNoMagnitude}
+use Rattle.mtxkit_matrices.specs.InnerPowers.{HasPower, IsMagnitude, HasLeastScale}
+use Rattle.mtxkit_matrices.specs.InnerPowers.{HasNoMagnitude}
 use Rattle.mtxkit_matrices.specs.InnerPowers.{signed, up, down}
 
 pub places_few : (mantissa : List ℕ) → places_behind mantissa ≤ length mantissa
@@ -69,18 +71,39 @@ module _ {scale : ℕ} {word mantissa exponent : List ℕ} {behind : ℕ} {negat
       ≡ behind + down negative f.power.magnitude
   loss = rw (← f.mantissa_is, ← f.exponent_is, ← f.behind_is, f.power.power, below-signed) refl
 
-  gain : scale + above_zero (power_of (exponent_of word)) ≡ scale + up negative f.power.magnitude
-  gain = rw (← f.exponent_is, f.power.power, above-signed) refl
+  -- the number of places that it gains at another scale
+  gain : (k : ℕ) → k + above_zero (power_of (exponent_of word)) ≡ k + up negative f.power.magnitude
+  gain k = rw (← f.exponent_is, f.power.power, above-signed) refl
+
+  abbrev IsAt : ℕ → ℕ → Type 0
+  IsAt k m = IsMagnitude (number_of_digits mantissa) behind k negative f.power.magnitude m
+
+  scaled_at : (k m : ℕ) (z : ℤ) → IsAt k m → z ≡ signed (starts_with_minus word) m
+      → IsScaled k word z
+  scaled_at k m z h e =
+      record { magnitude = m; sign = e; value = rw (loss, gain k, ← f.mantissa_is) h }
+
+  magnitude_at : (k : ℕ) (z : ℤ) (s : IsScaled k word z) → IsAt k s.magnitude
+  magnitude_at k z s = rw (loss, gain k, ← f.mantissa_is) at s.value
 
   scaled_from : (m : ℕ) (z : ℤ) → IsOf m → z ≡ signed (starts_with_minus word) m
       → IsScaled scale word z
-  scaled_from m z h e =
-      record { magnitude = m; sign = e; value = rw (loss, gain, ← f.mantissa_is) h }
+  scaled_from m z h e = scaled_at scale m z h e
+
+  least_scaled : (least : Option ℕ)
+      → HasLeastScale (number_of_digits mantissa) behind negative f.power.magnitude least
+      → IsLeastScale word least
+  least_scaled (Some least) h = (
+    (signed (starts_with_minus word) h.0.0, scaled_at least h.0.0 _ h.0.1 refl),
+    λ k lt z s. h.1 k lt s.magnitude (magnitude_at k z s),
+  )
+  least_scaled None h = λ k lt z s. h k lt s.magnitude (magnitude_at k z s)
 
   none_scaled : (why : Misfit)
       → HasNoMagnitude why (number_of_digits mantissa) behind scale negative f.power.magnitude
       → IsMisfit why scale word
-  none_scaled Fraction h = λ z s. h s.magnitude (rw (loss, gain, ← f.mantissa_is) at s.value)
+  none_scaled (Fraction least) h =
+      (λ z s. h.0 s.magnitude (magnitude_at scale z s), least_scaled least h.1)
   none_scaled Range (m, h, large) = (
     signed (starts_with_minus word) m,
     scaled_from m _ h refl,

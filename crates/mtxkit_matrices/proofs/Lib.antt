@@ -17,6 +17,7 @@ pub mod CopiedLines
 mod GrownLists
 mod HeaderLines
 pub mod KeptLines
+mod LeastScales
 mod Rewriting
 pub mod ScaleRefusals
 mod WrittenLines

@@ -1,6 +1,7 @@
 -- Natural numbers times powers of ten.
 use Rattle.std.proofs.Common.{◌≡◌, ◌≢◌, ℕ, ◌+◌, ◌-◌, ◌*◌, ◌^◌, ◌<◌, ◌≤◌, Bool, true, false, not}
-use Rattle.std.proofs.Common.{Option, Result, Ok, Err, refl, sym, ap, ◌∙◌, arith}
+use Rattle.std.proofs.Common.{Option, Some, None, Result, Ok, Err, refl, sym, ap, ◌∙◌, arith}
+use Rattle.std.specs.Option.{SomeIff}
 use Rattle.std.specs.Prelude.{IfOk, IfErr, MatchResult}
 use Rattle.std.proofs.lemmas.Nat.{pow-add}
 use Rattle.std.proofs.lemmas.Grind.{pow_more}
@@ -9,7 +10,8 @@ use Rattle.std.proofs.Math.Nat.{eq_of_mul-eq-mul_right}
 use Rattle.mtxkit_matrices.specs.declared.decimals.number.Misfit.{Misfit}
 use Rattle.mtxkit_matrices.specs.declared.decimals.number.Misfit.TheVariants.{Fraction, Range}
 use Rattle.mtxkit_matrices.specs.InnerDigits.{IsTrimmed}
-use Rattle.mtxkit_matrices.specs.InnerPowers.{IsMagnitude, HasNoMagnitude, extreme, up, down}
+use Rattle.mtxkit_matrices.specs.InnerPowers.{IsMagnitude, HasLeastScale, HasNoMagnitude}
+use Rattle.mtxkit_matrices.specs.InnerPowers.{extreme, up, down}
 
 tens : (k : ℕ) → 0 < 10 ^ k
 tens k =
@@ -79,10 +81,9 @@ module _ {total : ℕ} {part : Option ℕ} {zeros : ℕ} (t : IsTrimmed total pa
       equal : (x y : ℕ) → 0 * x ≡ 0 * y
       equal x y = omega arith
 
-  pub no_fraction : t.value ≢ 0
-      → zeros + scale + up negative size < behind + up (not negative) size
-      → HasNoMagnitude Fraction total behind scale negative size
-  no_fraction some lt m e =
+  no_integer : t.value ≢ 0 → zeros + scale + up negative size < behind + up (not negative) size
+      → (m : ℕ) → IsMagnitude total behind scale negative size m → ⊥
+  no_integer some lt m e =
       let n = up-not negative size in
       is_fraction t.value zeros (scale + up negative size) (behind + down negative size) total m
       t.whole t.trimmed some (omega arith) e
@@ -109,13 +110,37 @@ module _ {total : ℕ} {part : Option ℕ} {zeros : ℕ} (t : IsTrimmed total pa
     no_raised (Ok m) h = tt
     no_raised (Err why) h = rw h.0 (t.value * 10 ^ d, exact, h.1)
 
+-- a number that is not an integer, and the least scale at which it is one
+module _ {total : ℕ} {part : Option ℕ} {zeros : ℕ} (t : IsTrimmed total part zeros)
+    (behind scale more : ℕ) (negative : Bool) (size : ℕ) (some : t.value ≢ 0)
+    (few : zeros + scale + up negative size + more ≡ behind + up (not negative) size)
+    (lt : 0 < more) where
+  below : (less : ℕ) → less < scale + more → (m : ℕ)
+      → IsMagnitude total behind less negative size m → ⊥
+  below less l = no_integer t behind less negative size some (omega arith)
+
+  least_scale : (least : Option ℕ) → SomeIff least (scale + more < 2 ^ 32) (scale + more)
+      → HasLeastScale total behind negative size least
+  least_scale (Some least) k = rw k.1 (
+    (t.value * 10 ^ 0, exact t behind (scale + more) negative size 0 (omega arith)),
+    below,
+  )
+  least_scale None k = λ less l. below less (omega (arith, k))
+
+  pub no_fraction : (least : Option ℕ) → SomeIff least (scale + more < 2 ^ 32) (scale + more)
+      → HasNoMagnitude (Fraction least) total behind scale negative size
+  no_fraction least k =
+      (no_integer t behind scale negative size some (omega arith), least_scale least k)
+
 -- a power of ten whose exponent exceeds 64 bits
 pub no_extreme : {total : ℕ} {part : Option ℕ} {zeros : ℕ} (t : IsTrimmed total part zeros)
     (behind scale : ℕ) (negative : Bool) (size : ℕ) → t.value ≢ 0 → zeros < 2 ^ 63
     → behind < 2 ^ 63 → scale < 2 ^ 32 → ¬ (size < 2 ^ 64)
     → HasNoMagnitude (extreme negative) total behind scale negative size
-no_extreme t behind scale true size some few short low large =
-    no_fraction t behind scale true size some (omega (arith, large))
+no_extreme t behind scale true size some few short low large = (
+  no_integer t behind scale true size some (omega (arith, large)),
+  λ less l. no_integer t behind less true size some (omega (arith, large)),
+)
 no_extreme {zeros} t behind scale false size some few short low large = (
   t.value * 10 ^ (zeros + scale + size - behind),
   exact t behind scale false size (zeros + scale + size - behind) (omega (arith, large)),

@@ -39,7 +39,7 @@ module _ (scale number : ℕ) where
   pub value_failed : (format : Format) (words places : List (List ℕ)) (value : List ℕ)
       → words ≡ places ++ (value ∷ []) → is_decimal_entry format words ≡ true → (e : ScaleError)
       → IsValueFailure scale number value e → IsEntryFailure scale format number words e
-  value_failed format words places value w i (errors.Fraction n) h =
+  value_failed format words places value w i (errors.Fraction n least) h =
       (h.0, record { places = places; value = value; words_are = w; is = i; not = h.1 })
   value_failed format words places value w i (errors.Range n) h =
       (h.0, record { places = places; value = value; words_are = w; is = i; not = h.1 })
@@ -109,7 +109,7 @@ module _ {rest line others : List ℕ} (c : IsCut rest line others) where
     head_failed t (errors.Field n) h = has_line c t.above n h.0 _ (t.kept.1, h.1)
     head_failed t (errors.Sizes n fault) h = absurd h
     head_failed t (errors.Entry n) h = absurd h
-    head_failed t (errors.Fraction n) h = absurd h
+    head_failed t (errors.Fraction n least) h = absurd h
     head_failed t (errors.Range n) h = absurd h
     head_failed t errors.Ended h = absurd h
     head_failed t errors.OutOfMemory h = tt
@@ -122,7 +122,7 @@ module _ {rest line others : List ℕ} (c : IsCut rest line others) where
     sizes_failed header t (errors.Header n fault) a h = absurd h
     sizes_failed header t (errors.Field n) a h = absurd h
     sizes_failed header t (errors.Entry n) a h = absurd h
-    sizes_failed header t (errors.Fraction n) a h = absurd h
+    sizes_failed header t (errors.Fraction n least) a h = absurd h
     sizes_failed header t (errors.Range n) a h = absurd h
     sizes_failed header t errors.Ended a h = absurd h
     sizes_failed header t errors.OutOfMemory a h = tt
@@ -133,7 +133,7 @@ module _ {rest line others : List ℕ} (c : IsCut rest line others) where
         → IsScaleFailure scale text e
     entry_failed header t (errors.Entry n) a h = has_line c t.above n h.0 _
         (header, above_entries scale t.before _ header t.are, content_words _ a, h.1)
-    entry_failed header t (errors.Fraction n) a h = has_line c t.above n h.0 _
+    entry_failed header t (errors.Fraction n least) a h = has_line c t.above n h.0 _
         (header, above_entries scale t.before _ header t.are, content_words _ a, h.1)
     entry_failed header t (errors.Range n) a h = has_line c t.above n h.0 _
         (header, above_entries scale t.before _ header t.are, content_words _ a, h.1)

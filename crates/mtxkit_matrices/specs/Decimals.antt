@@ -1,5 +1,5 @@
 -- The exact value of a decimal number.
-use Rattle.std.specs.Prelude.{◌≡◌, ℕ, ℤ, pos, negsuc, suc, ◌+◌, ◌*◌, ◌^◌, not}
+use Rattle.std.specs.Prelude.{◌≡◌, ℕ, ℤ, pos, negsuc, suc, ◌+◌, ◌*◌, ◌^◌, ◌<◌, not, Option, Some, None}
 use Rattle.std.specs.Prelude.{if◌then◌else◌, List, length, drop, filter}
 use Rattle.std.specs.Char.{is_ascii_digit}
 use Rattle.std.specs.Int.{w128}
@@ -54,7 +54,15 @@ pub record IsScaled (scale : ℕ) (word : List ℕ) (z : ℤ) : Type 0 where
       ≡ number_of_digits (mantissa_of word)
       * 10 ^ (scale + above_zero (power_of (exponent_of word)))
 
--- the scaled value is not an integer, or an integer that does not fit in 128 bits
+-- the least scale at which the value is an integer, or none below 2 ^ 32 if there is none
+abbrev pub IsLeastScale : List ℕ → Option ℕ → Type 0
+IsLeastScale word (Some least) = ((z : ℤ) × IsScaled least word z)
+    × ((scale : ℕ) → scale < least → (z : ℤ) → IsScaled scale word z → ⊥)
+IsLeastScale word None = (scale : ℕ) → scale < 2 ^ 32 → (z : ℤ) → IsScaled scale word z → ⊥
+
+-- the scaled value is not an integer, but one at this least scale; or it is an integer that does not
+-- fit in 128 bits
 abbrev pub IsMisfit : Misfit → ℕ → List ℕ → Type 0
-IsMisfit Fraction scale word = (z : ℤ) → IsScaled scale word z → ⊥
+IsMisfit (Fraction least) scale word =
+    ((z : ℤ) → IsScaled scale word z → ⊥) × IsLeastScale word least
 IsMisfit Range scale word = (z : ℤ) × IsScaled scale word z × (FitsSigned w128 z → ⊥)

@@ -1,5 +1,6 @@
 -- Exponents of ten, and numbers times powers of ten.
-use Rattle.std.specs.Prelude.{◌≡◌, ℕ, ℤ, pos, ◌+◌, ◌*◌, ◌^◌, ◌<◌, Bool, true, false, Option, List}
+use Rattle.std.specs.Prelude.{◌≡◌, ℕ, ℤ, pos, ◌+◌, ◌*◌, ◌^◌, ◌<◌, Bool, true, false, List}
+use Rattle.std.specs.Prelude.{Option, Some, None}
 use Rattle.std.specs.Prelude.{if◌then◌else◌}
 use Rattle.std.specs.Option.{SomeIff}
 use lib.IntN.{neg_ℤ}
@@ -30,15 +31,24 @@ abbrev pub IsMagnitude : ℕ → ℕ → ℕ → Bool → ℕ → ℕ → Type 0
 IsMagnitude total behind scale is_negative size m =
     m * 10 ^ (behind + down is_negative size) ≡ total * 10 ^ (scale + up is_negative size)
 
--- no such number exists, or none that fits in 128 bits
+-- the least scale at which such a number exists, or none below 2 ^ 32 if there is none
+abbrev pub HasLeastScale : ℕ → ℕ → Bool → ℕ → Option ℕ → Type 0
+HasLeastScale total behind is_negative size (Some least) =
+    ((m : ℕ) × IsMagnitude total behind least is_negative size m)
+    × ((scale : ℕ) → scale < least → (m : ℕ) → IsMagnitude total behind scale is_negative size m → ⊥)
+HasLeastScale total behind is_negative size None =
+    (scale : ℕ) → scale < 2 ^ 32 → (m : ℕ) → IsMagnitude total behind scale is_negative size m → ⊥
+
+-- no such number exists, but one at this least scale; or none that fits in 128 bits
 abbrev pub HasNoMagnitude : Misfit → ℕ → ℕ → ℕ → Bool → ℕ → Type 0
-HasNoMagnitude Fraction total behind scale is_negative size =
-    (m : ℕ) → IsMagnitude total behind scale is_negative size m → ⊥
+HasNoMagnitude (Fraction least) total behind scale is_negative size =
+    ((m : ℕ) → IsMagnitude total behind scale is_negative size m → ⊥)
+    × HasLeastScale total behind is_negative size least
 HasNoMagnitude Range total behind scale is_negative size =
     (m : ℕ) × IsMagnitude total behind scale is_negative size m × (m < 2 ^ 128 → ⊥)
 
 -- the misfit of a nonzero number times a power of ten whose exponent exceeds 64 bits, by the sign of
 -- the exponent
 abbrev pub extreme : Bool → Misfit
-extreme true = Fraction
+extreme true = Fraction None
 extreme false = Range

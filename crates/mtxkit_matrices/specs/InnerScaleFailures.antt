@@ -15,8 +15,8 @@ use Rattle.mtxkit_matrices.specs.ScaleFailures.{is_decimal_entry}
 
 -- the value in the line with this number is refused
 abbrev pub IsValueFailure : ℕ → ℕ → List ℕ → ScaleError → Type 0
-IsValueFailure scale number value (errors.Fraction n) =
-    (n ≡ number) × IsMisfit misfits.Fraction scale value
+IsValueFailure scale number value (errors.Fraction n least) =
+    (n ≡ number) × IsMisfit (misfits.Fraction least) scale value
 IsValueFailure scale number value (errors.Range n) =
     (n ≡ number) × IsMisfit misfits.Range scale value
 IsValueFailure scale number value e = ⊥
@@ -38,8 +38,8 @@ IsSizesFailure h number words e = ⊥
 abbrev pub IsEntryFailure : ℕ → Format → ℕ → List (List ℕ) → ScaleError → Type 0
 IsEntryFailure scale format number words (errors.Entry n) =
     (n ≡ number) × (is_decimal_entry format words ≡ false)
-IsEntryFailure scale format number words (errors.Fraction n) =
-    (n ≡ number) × HasMisfit misfits.Fraction scale format words
+IsEntryFailure scale format number words (errors.Fraction n least) =
+    (n ≡ number) × HasMisfit (misfits.Fraction least) scale format words
 IsEntryFailure scale format number words (errors.Range n) =
     (n ≡ number) × HasMisfit misfits.Range scale format words
 IsEntryFailure scale format number words errors.OutOfMemory = Unit {0}

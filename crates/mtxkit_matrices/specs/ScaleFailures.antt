@@ -103,7 +103,8 @@ IsScaleFailure scale text (errors.Header n fault) = HasNoHeader text n fault
 IsScaleFailure scale text (errors.Field n) = HasWrongField text n
 IsScaleFailure scale text (errors.Sizes n fault) = HasNoSizes text n fault
 IsScaleFailure scale text (errors.Entry n) = HasNoEntry scale text n
-IsScaleFailure scale text (errors.Fraction n) = HasNoValue misfits.Fraction scale text n
+IsScaleFailure scale text (errors.Fraction n least) =
+    HasNoValue (misfits.Fraction least) scale text n
 IsScaleFailure scale text (errors.Range n) = HasNoValue misfits.Range scale text n
 IsScaleFailure scale text errors.Ended = EndsEarly text
 IsScaleFailure scale text errors.OutOfMemory = Unit {0}

@@ -1,5 +1,6 @@
 -- Texts of decimal numbers that are written again with integers.
-use Rattle.std.specs.Prelude.{◌≡◌, ◌⊎◌, ℕ, ℤ, Bool, true, false, List, [], ◌∷◌, ◌++◌, Ok}
+use Rattle.std.specs.Prelude.{◌≡◌, ◌⊎◌, ◌<◌, ℕ, ℤ, Bool, true, false, List, [], ◌∷◌, ◌++◌, Ok}
+use Rattle.std.specs.Prelude.{Option, Some, None}
 use Rattle.std.specs.List.{AllByRecursion}
 use Rattle.sparse_parser.specs.declared.header.Format.{Format}
 use Rattle.sparse_parser.specs.declared.header.Format.TheVariants.{Coordinate, Array}
@@ -93,3 +94,13 @@ pub record IsScaledText (scale : ℕ) (text written : List ℕ) : Type 0 where
   pub wrote : IsDocument written (with_integers header) size entries
   pub values : AreScaled scale header.format lines entries
   pub comments : HasLinesOf text written
+
+-- the text can be written with its numbers times 10 ^ scale
+abbrev pub CanBeScaled : ℕ → List ℕ → Type 0
+CanBeScaled scale text = (written : List ℕ) × IsScaledText scale text written
+
+-- the least scale with which the text can be written; of no scale nothing is stated
+abbrev pub IsLeastTextScale : List ℕ → Option ℕ → Type 0
+IsLeastTextScale text (Some least) = CanBeScaled least text
+    × ((scale : ℕ) → scale < least → CanBeScaled scale text → ⊥)
+IsLeastTextScale text None = Unit {0}

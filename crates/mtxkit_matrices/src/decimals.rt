@@ -5,8 +5,10 @@ mod error;
 mod magnitude;
 mod mantissa;
 mod number;
+mod search;
 mod stage;
 mod text;
 
 pub use error::ScaleError;
+pub use search::least_scale;
 pub use text::scaled_text;

@@ -12,7 +12,7 @@ mod systems;
 mod values;
 
 pub use coordinates::{Coordinates, Dimensions};
-pub use decimals::{ScaleError, scaled_text};
+pub use decimals::{ScaleError, least_scale, scaled_text};
 pub use facts::{
     Histogram, Info, answer, bandwidth, count_lanes, counted_lanes, info_of, is_symmetric,
     longest_lane, push_count, push_facts, push_histogram, push_line,

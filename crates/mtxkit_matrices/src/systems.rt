@@ -105,8 +105,7 @@ fn solve_in_order<T: Units>(
     a: &CscMatrix<T>,
     permutation: Permutation,
     b: &CooMatrix<T>,
-) -> Result<DMatrix<T>, SystemError>
-{
+) -> Result<DMatrix<T>, SystemError> {
     let order = permutation.clone(alloc)?;
     match Ldl::factor_in_order(alloc, a, permutation) {
         Ok(factors) => {

@@ -9,6 +9,7 @@ mod LineTriplets
 mod LineWords
 -- the search
 mod DocumentSizes
+mod FaultNumbers
 mod FirstFault
 mod PassedLines
 mod SearchedLines

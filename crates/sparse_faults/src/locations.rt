@@ -49,6 +49,7 @@ pub(crate) struct Sizes<'a> {
 pub fn text_fault(text: &str, values: ValueType) -> Option<Location>
     ensures fault { IfSome result
         (λ location. IsFirstFault (scalar_as values) text.now location.line) }
+    ensures counted { IfSome result (λ location. 0 < location.line) }
     ensures none { result ≡ None → HasMatrix (scalar_as values) text.now }
 {
     let sizes = match sizes_of(text.as_bytes()) {

@@ -1,6 +1,6 @@
 //! What a text of decimal numbers becomes, times a power of ten.
 
-use mtxkit_matrices::{ScaleError, scaled_text};
+use mtxkit_matrices::{ScaleError, least_scale, scaled_text};
 use std::alloc::{AllocError, Global};
 
 // A number, a power of ten, and the integer that is written or the error; computed by Python's `fractions`.
@@ -14,7 +14,7 @@ const NUMBERS: &[(&str, u32, &str)] = &[
     (
         "1.5",
         0,
-        "line 3: the value times 10^K is not an integer; K may be too small",
+        "line 3: the value times 10^K is not an integer; least 1",
     ),
     (".5", 1, "5"),
     ("5.", 0, "5"),
@@ -25,7 +25,7 @@ const NUMBERS: &[(&str, u32, &str)] = &[
     (
         "1e-3",
         2,
-        "line 3: the value times 10^K is not an integer; K may be too small",
+        "line 3: the value times 10^K is not an integer; least 3",
     ),
     ("1200e-2", 0, "12"),
     ("0012.3400", 2, "1234"),
@@ -67,7 +67,7 @@ const NUMBERS: &[(&str, u32, &str)] = &[
     (
         "1e-99999999999999999999",
         0,
-        "line 3: the value times 10^K is not an integer; K may be too small",
+        "line 3: the value times 10^K is not an integer; least none",
     ),
     ("1e38", 0, "100000000000000000000000000000000000000"),
     (
@@ -80,7 +80,7 @@ const NUMBERS: &[(&str, u32, &str)] = &[
     (
         "400000000000000000000000000000000000000000.5",
         0,
-        "line 3: the value times 10^K is not an integer; K may be too small",
+        "line 3: the value times 10^K is not an integer; least 1",
     ),
     (
         "3.0e0",
@@ -175,7 +175,7 @@ const TEXTS: &[(&str, u32, &str)] = &[
     (
         "%%MatrixMarket matrix coordinate real general\n2 2 2\n%\n1 1 0.5\n2 2 0.25\n",
         1,
-        "line 5: the value times 10^K is not an integer; K may be too small",
+        "line 5: the value times 10^K is not an integer; least 2",
     ),
     (
         "%%MatrixMarket matrix coordinate real general\n2 2 2\n1 1 1e37\n2 2 -1e38\n",
@@ -184,8 +184,17 @@ const TEXTS: &[(&str, u32, &str)] = &[
     ),
 ];
 
-// The message of an error, after the line at fault.
+// The message of an error, after the line at fault, and the least power of ten that makes the value an integer.
 fn message(alloc: Global, error: ScaleError) -> Result<String, AllocError> {
+    match error {
+        ScaleError::Fraction(line, Some(least)) => {
+            return format!(in alloc; "line {line}: {error}; least {least}");
+        }
+        ScaleError::Fraction(line, None) => {
+            return format!(in alloc; "line {line}: {error}; least none");
+        }
+        _ => {}
+    }
     match error.line() {
         Some(line) => format!(in alloc; "line {line}: {error}"),
         None => format!(in alloc; "{error}"),
@@ -231,6 +240,42 @@ fn numbers_are_scaled(rt: HostRuntime) {
     for case in NUMBERS {
         let is_scaled = is_scaled(rt.alloc(), case);
         assert!(rt; matches!(is_scaled, Ok(true)), "{} {}", case.0, case.1);
+    }
+}
+
+// A text, and the least power of ten that makes integers of its values, or none.
+const LEAST: &[(&str, Option<u32>)] = &[
+    (
+        "%%MatrixMarket matrix coordinate real general\n2 2 1\n1 1 7e2\n",
+        Some(0),
+    ),
+    (
+        "%%MatrixMarket matrix array real general\n1 5\n.5\n-0.1250\n2\n1.25e-2\n0.000e-77\n",
+        Some(4),
+    ),
+    (
+        "%%MatrixMarket matrix array real general\n1 2\n0.5\n1e38\n",
+        None,
+    ),
+    (
+        "%%MatrixMarket matrix array real general\n1 2\n0.5\n1e-99999999999999999999\n",
+        None,
+    ),
+    (
+        "%%MatrixMarket matrix array real general\n1 2\n0.5\n0.25 1\n",
+        None,
+    ),
+    (
+        "%%MatrixMarket matrix array complex general\n1 1\n0.5 0\n",
+        None,
+    ),
+];
+
+#[test]
+fn least_powers_of_ten_are_found(rt: HostRuntime) {
+    for &(text, wanted) in LEAST {
+        let found = least_scale(rt.alloc(), text.as_bytes());
+        assert!(rt; matches!(found, Ok(least) if least == wanted), "{text}");
     }
 }
 

@@ -155,7 +155,7 @@ fn scaled_at(word: &[u8], scale: u32, number: usize) -> Result<i128, ScaleError>
 {
     match scaled(word, scale) {
         Ok(integer) => Ok(integer),
-        Err(Misfit::Fraction) => Err(ScaleError::Fraction(number)),
+        Err(Misfit::Fraction(least)) => Err(ScaleError::Fraction(number, least)),
         Err(Misfit::Range) => Err(ScaleError::Range(number)),
     }
 }

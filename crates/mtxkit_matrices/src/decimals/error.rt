@@ -17,8 +17,8 @@ pub enum ScaleError {
     Sizes(usize, LineFault),
     /// This line is not a data line for the header.
     Entry(usize),
-    /// The value in this line, scaled, is not an integer.
-    Fraction(usize),
+    /// The value in this line, scaled, is not an integer. The least scale at which it is one, if there is one.
+    Fraction(usize, Option<u32>),
     /// The value in this line, scaled, does not fit in 128 bits.
     Range(usize),
     /// The text ends before its size line.
@@ -35,7 +35,7 @@ impl ScaleError {
             | ScaleError::Field(number)
             | ScaleError::Sizes(number, _)
             | ScaleError::Entry(number)
-            | ScaleError::Fraction(number)
+            | ScaleError::Fraction(number, _)
             | ScaleError::Range(number) => Some(number),
             ScaleError::Ended | ScaleError::OutOfMemory => None,
         }
@@ -47,7 +47,7 @@ impl ScaleError {
             ScaleError::Field(_) =>
                 "the values are not decimal numbers but complex ones or a pattern",
             ScaleError::Entry(_) => "no data line that fits the header",
-            ScaleError::Fraction(_) => "the value times 10^K is not an integer; K may be too small",
+            ScaleError::Fraction(_, _) => "the value times 10^K is not an integer",
             ScaleError::Range(_) => "the value times 10^K does not fit in 128 bits",
             ScaleError::Ended => "the text ends before its size line",
             ScaleError::OutOfMemory => "out of memory",

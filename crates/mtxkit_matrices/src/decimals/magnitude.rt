@@ -1,6 +1,6 @@
 //! Multiplies natural numbers by powers of ten.
 
-ghost use Rattle.std.specs.Prelude.{◌≡◌, ◌≢◌, ◌<◌, ◌*◌, ◌^◌, ℕ, nat_eq, IfOk, IfErr, MatchResult};
+ghost use Rattle.std.specs.Prelude.{◌≡◌, ◌≢◌, ◌<◌, ◌+◌, ◌*◌, ◌^◌, ℕ, nat_eq, IfOk, IfErr, MatchResult};
 ghost use Rattle.std.specs.Option.{SomeIff};
 ghost use Rattle.mtxkit_matrices.specs.InnerDigits.{IsTrimmed};
 ghost use Rattle.mtxkit_matrices.specs.InnerPowers.{HasNoMagnitude, IsMagnitude, extreme, up};
@@ -67,9 +67,19 @@ fn shifted(
     let gain = (digits.zeros as u128) + u128::from(scale) + up(is_negative, size);
     let loss = (behind as u128) + up(!is_negative, size);
     if gain < loss {
-        return Err(Misfit::Fraction);
+        return Err(Misfit::Fraction(raised_scale(scale, loss - gain)));
     }
     raised_part(digits.part, gain - loss)
+}
+
+// Returns a scale plus the number of places that it is too small by, if that fits in 32 bits.
+fn raised_scale(scale: u32, more: u128) -> Option<u32>
+    ensures { SomeIff result (scale + more < 2 ^ 32) (scale + more) }
+{
+    match u128::from(scale).checked_add(more) {
+        Some(scale) => u32::try_from(scale).ok(),
+        None => None,
+    }
 }
 
 // Returns why a nonzero number times a power of ten whose exponent exceeds 64 bits is refused.
@@ -77,7 +87,7 @@ fn extreme(is_negative: bool) -> Misfit
     ensures { result ≡ extreme is_negative }
 {
     if is_negative {
-        Misfit::Fraction
+        Misfit::Fraction(None)
     } else {
         Misfit::Range
     }

@@ -17,8 +17,8 @@ use sparse_parser::numbers::{after_sign, index, starts_with_minus};
 /// Why a number times a power of ten is refused.
 #[derive(Clone, Copy, Debug)]
 pub enum Misfit {
-    /// It is not an integer.
-    Fraction,
+    /// It is not an integer. The least exponent of ten that makes it one, if that is at least 0 and below 2^32.
+    Fraction(Option<u32>),
     /// It is an integer that does not fit in 128 bits.
     Range,
 }

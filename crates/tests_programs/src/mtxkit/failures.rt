@@ -38,7 +38,10 @@ const TEXTS: &[(Failure, &str)] = &[
         "not symmetric; row by row, the first value that differs from its mirror image is in row 2, column 5",
     ),
     (
-        Failure::Shapes(Dimensions { rows: 3, cols: 2 }, Dimensions { rows: 4, cols: 1 }),
+        Failure::Shapes(
+            Dimensions { rows: 3, cols: 2 },
+            Dimensions { rows: 4, cols: 1 },
+        ),
         "shapes do not fit: A is 3 by 2, B is 4 by 1",
     ),
     (
@@ -54,7 +57,13 @@ const TEXTS: &[(Failure, &str)] = &[
         "pivot 3, in row 7, has no inverse modulo 2^64; another --mod or --order may have one",
     ),
     (
-        Failure::NoFactors(Some(7), Pivot { number: 0, row: 18446744073709551615 }),
+        Failure::NoFactors(
+            Some(7),
+            Pivot {
+                number: 0,
+                row: 18446744073709551615,
+            },
+        ),
         "pivot 1, in row 18446744073709551616, has no inverse modulo 7; another --mod or --order may have one",
     ),
     (

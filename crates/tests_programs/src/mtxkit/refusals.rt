@@ -87,7 +87,25 @@ pub const REFUSALS: &[Refusal] = &[
         &["integer", "-"],
         REAL,
         1,
-        "mtxkit: -:3: the value times 10^K is not an integer; K may be too small\n",
+        "mtxkit: -:3: the value times 10^K is not an integer; the least K for the file is 1\n",
+    ),
+    (
+        &["integer", "--scale", "1", "-"],
+        b"%%MatrixMarket matrix array real general\n1 3\n0.5\n0.25\n0.125\n",
+        1,
+        "mtxkit: -:4: the value times 10^K is not an integer; the least K for the file is 3\n",
+    ),
+    (
+        &["integer", "-"],
+        b"%%MatrixMarket matrix array real general\n1 2\n0.5\n1e38\n",
+        1,
+        "mtxkit: -:3: the value times 10^K is not an integer; the least K for this value is 1, and the file has none\n",
+    ),
+    (
+        &["integer", "-"],
+        b"%%MatrixMarket matrix array real general\n1 1\n1e-99999999999999999999\n",
+        1,
+        "mtxkit: -:3: the value times 10^K is not an integer for any K\n",
     ),
     (
         &["integer", "--scale", "38", "-"],

@@ -4,7 +4,8 @@ use Rattle.mtxkit_matrices.proofs.decimals.magnitude.shifted.Goals as goal
 
 pub returns-then-gain-loss-clause-refused : goal.returns-then-gain-loss-clause-refused
 returns-then-gain-loss-clause-refused c = λ total t some.
-    no_fraction t c.args.behind c.args.scale c.args.is_negative c.args.size some (omega arith)
+    no_fraction t c.args.behind c.args.scale _ c.args.is_negative c.args.size some (omega arith)
+    (omega arith) c.raised_scale.result c.raised_scale.ensures
 
 pub returns-clause-value : goal.returns-clause-value
 returns-clause-value c = λ total t.
