@@ -9,12 +9,14 @@ use Rattle.sparse_parser.specs.declared.header.Field.{Field}
 use Rattle.sparse_parser.specs.declared.header.Field.TheVariants.{Real, Complex, Integer, Pattern}
 use Rattle.sparse_parser.specs.declared.header.Header.{Header}
 use Rattle.sparse_parser.specs.Meaning.{Means}
-use Rattle.mtxkit_texts.specs.AnyField.{IsUnsupported}
+use Rattle.sparse_algebra.specs.declared.scalar.wide.W128.{W128}
+use Rattle.sparse_compressed.specs.Compressed.{Compressed}
+use Rattle.mtxkit_texts.specs.AnyField.{IsOnesFailure, IsUnsupported, MeansOnesText}
 use Rattle.mtxkit_texts.specs.Faults.{IsTextFault, IsMismatch}
 use Rattle.mtxkit_texts.specs.Headers.{header_in, is_supported, is_supported_field}
 use Rattle.mtxkit_texts.specs.Headers.{is_pattern, is_pattern_field}
-use Rattle.mtxkit_texts.specs.Loaded.{IsLoadFailure, IsWholeFailure, scalar_read}
-use Rattle.mtxkit_texts.specs.Ones.{AreOnesOf, IsOnesText}
+use Rattle.mtxkit_texts.specs.Loaded.{IsLoadFailure, IsWholeFailure, MeansMatrix, scalar_read}
+use Rattle.mtxkit_texts.specs.Ones.{AreOnesOf, IsOnesText, with_ones}
 use Rattle.mtxkit_texts.specs.declared.failure.Failure.{Failure}
 use Rattle.mtxkit_texts.specs.declared.failure.Failure.TheVariants.{NotSupported}
 use Rattle.mtxkit_texts.proofs.DocumentHeaders.{header_in-document}
@@ -79,3 +81,26 @@ ones_written text ones u a = by u.means
         (sym (ap is_supported
         (header_in-document text header (size ∷ lines) document.headed)) ∙ u.field)
         text ones size lines document a
+
+module _ (text ones : List ℕ) (u : IsUnsupported text) (a : AreOnesOf text ones) where
+  ones_carried : IsUnsupported ones → ⊥
+  ones_carried v =
+      let o = ones_written text ones u a in
+      let h = header_in-document ones (with_ones o.header) _ o.wrote.headed in
+      let f : is_supported (header_in ones) ≡ true = rw h refl in
+      let g = v.field in
+      cc
+
+  pub ones_meant : {entries : ℕ} {m : Compressed W128} → MeansMatrix ones entries m
+      → MeansOnesText text entries m
+  ones_meant m = record { unsupported = u; ones = ones; of = ones_written text ones u a; meant = m }
+
+  pub ones_refused : (number : ℕ) (failure : Failure) → IsLoadFailure number ones failure
+      → IsOnesFailure number text failure
+  ones_refused number failure is = record {
+    unsupported = u;
+    ones = ones;
+    of = ones_written text ones u a;
+    carried = λ e. ones_carried (not_carried ones number number (rw e at is));
+    is = is;
+  }

@@ -28,11 +28,13 @@ pub record MeansOnesText (text : List ℕ) (entries : ℕ) (m : Compressed W128)
 abbrev pub MeansPlaces : List ℕ → ℕ → Compressed W128 → Type 0
 MeansPlaces text entries m = MeansMatrix text entries m ⊎ MeansOnesText text entries m
 
--- the values of the text are real or complex; the text with the value 1 in place of each of them is refused
+-- the values of the text are real or complex; the text with the value 1 in place of each of them is refused, which is
+-- never that values are real or complex
 pub record IsOnesFailure (number : ℕ) (text : List ℕ) (failure : Failure) : Type 0 where
   pub unsupported : IsUnsupported text
   pub ones : List ℕ
   pub of : IsOnesText text ones
+  pub carried : failure ≢ NotSupported number
   pub is : IsLoadFailure number ones failure
 
 -- why `load_places` fails for the text with this number: an allocation failed, `load` fails for another reason than
