@@ -22,8 +22,8 @@ pub fn places_text(alloc: Global, text: &str) -> Result<String, Failure>
     ensures written { IfOk result (λ written. WritesPlaces text.now (string_bytes written)) }
     ensures refused { IfErr result (IsPlacesFailure 1 text.now) }
 {
-    let loaded = load_places(alloc, 1, text)?;
-    Ok(write_pattern(alloc, loaded.matrix.pattern())?)
+    let places = load_places(alloc, 1, text)?;
+    Ok(write_pattern(alloc, places.matrix.pattern())?)
 }
 
 /// Returns the text of the pattern of a text's matrix, row by row. An entry whose value is zero is kept.

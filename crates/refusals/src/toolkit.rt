@@ -7,7 +7,7 @@ use crate::page::Page;
 use case_words::turn::Turn;
 use mtxkit_commands::{Command, FillOrder, Inputs, Target, Values, run as run_command};
 use mtxkit_patterns::Method;
-use mtxkit_texts::Screen;
+use mtxkit_texts::{Form, Screen};
 use nalgebra_sparse::expr::OutputOrder;
 use nalgebra_sparse::io::Out;
 use std::fs;
@@ -18,6 +18,9 @@ const A: &str = "matrix.mtx";
 const X: &str = "solution.mtx";
 
 const B: &str = "sides.mtx";
+
+// A file whose values are not read.
+const R: &str = "real.mtx";
 
 // An order of the rows and columns of A.
 const ORDER: &str = "order.mtx";
@@ -34,6 +37,10 @@ const FILES: &[(&str, &str)] = &[
     (
         B,
         "%%MatrixMarket matrix coordinate integer general\n2 1 2\n1 1 1\n2 1 2\n",
+    ),
+    (
+        R,
+        "%%MatrixMarket matrix coordinate real symmetric\n2 2 2\n1 1 0.5\n2 1 1e6\n",
     ),
     (
         ORDER,
@@ -87,6 +94,13 @@ pub fn run(rt: &HostRuntime, turn: &mut Turn, case: &str) -> Outcome {
         }
         _ => Outcome::Unknown,
     }
+}
+
+// Facts about a file.
+fn info(file: &'static str, form: Form) -> Command<'static>
+    ensures { IsSized result }
+{
+    Command::Info { file, form }
 }
 
 // The square of A.

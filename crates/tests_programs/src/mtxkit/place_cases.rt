@@ -84,10 +84,10 @@ pub const PLACE_CASES: &[Case] = &[
         &["fill", "-"],
         "%%MatrixMarket matrix coordinate complex hermitian\n2 2 2\n1 1 1 0\n2 1 0 2.5\n",
         "places: 3
-places of the lower triangle: 3
+places of the lower triangle: 2
 places of the factor: 3
-fill: 0
-factor to lower triangle: 1.00
+fill: 1
+factor to lower triangle: 1.50
 multiplications: 1
 longest column: 2
 height of the elimination tree: 2
