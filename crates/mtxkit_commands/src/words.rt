@@ -81,7 +81,11 @@ fn info_of<'a>(words: &ArgMatches<'a>) -> Option<Command<'a>>
 fn form_of(words: &ArgMatches<'_>) -> Form
     ensures { GivesForm (found_of words.now) result }
 {
-    if words.get_flag("json") { Form::Json } else { Form::Lines }
+    if words.get_flag("json") {
+        Form::Json
+    } else {
+        Form::Lines
+    }
 }
 
 fn spy_of<'a>(words: &ArgMatches<'a>) -> Option<Command<'a>>

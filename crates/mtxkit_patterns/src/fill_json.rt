@@ -29,7 +29,12 @@ fn push_places(alloc: Global, json: &mut String, counts: FillCounts) -> Result<(
 {
     let places = format!(in alloc; "{}", counts.places)?;
     push_first(json, "places", places.as_str())?;
-    push_number(alloc, json, "places_of_the_lower_triangle", counts.lower as u128)?;
+    push_number(
+        alloc,
+        json,
+        "places_of_the_lower_triangle",
+        counts.lower as u128,
+    )?;
     push_number(alloc, json, "places_of_the_factor", counts.factor as u128)
 }
 
@@ -50,6 +55,11 @@ fn push_costs(alloc: Global, json: &mut String, counts: FillCounts) -> Result<()
 {
     push_number(alloc, json, "multiplications", counts.products)?;
     push_number(alloc, json, "longest_column", counts.longest as u128)?;
-    push_number(alloc, json, "height_of_the_elimination_tree", counts.height as u128)?;
+    push_number(
+        alloc,
+        json,
+        "height_of_the_elimination_tree",
+        counts.height as u128,
+    )?;
     push_end(json)
 }

@@ -53,6 +53,8 @@ pub(crate) fn load_pattern(
     ensures meant { IfOk result (MeansPattern text.now) }
     ensures refused { IfErr result (IsPlacesFailure number text.now) }
 {
-    let (pattern, _values) = load_places(alloc, number, text)?.matrix.into_pattern_and_values();
+    let (pattern, _values) = load_places(alloc, number, text)?
+        .matrix
+        .into_pattern_and_values();
     Ok(pattern)
 }

@@ -125,8 +125,7 @@ size_copied (a ∷ b ∷ []) e =
     (rw (copy-index a p.0, copy-index b p.1) refl, (index_word a p.0, (index_word b p.1, tt)))
 size_copied (a ∷ b ∷ c ∷ []) e =
     let p = and_parts _ _ e in
-    let q = and_parts _ _ p.0 in
-    (
+    let q = and_parts _ _ p.0 in (
       rw (copy-index a q.0, copy-index b q.1, copy-index c p.1) refl,
       (index_word a q.0, (index_word b q.1, (index_word c p.1, tt))),
     )

@@ -25,11 +25,7 @@ pub(crate) fn json_of(alloc: Global, facts: &TextFacts) -> Result<String, AllocE
 }
 
 // Appends the members for the header.
-fn push_header(
-    alloc: Global,
-    json: &mut String,
-    header: Option<Header>,
-) -> Result<(), AllocError>
+fn push_header(alloc: Global, json: &mut String, header: Option<Header>) -> Result<(), AllocError>
     ensures { OnOk result
         (string_bytes json.new ≡ string_bytes json.old ++ json_names header) }
 {

@@ -69,7 +69,11 @@ fn push_places(alloc: Global, lines: &mut String, facts: &Info) -> Result<(), Al
     push_count(alloc, lines, "empty rows", facts.empty_rows)?;
     push_count(alloc, lines, "empty columns", facts.empty_cols)?;
     push_count(alloc, lines, "bandwidth", facts.bandwidth)?;
-    push_line(lines, "symmetric pattern", answer(facts.has_symmetric_pattern))
+    push_line(
+        lines,
+        "symmetric pattern",
+        answer(facts.has_symmetric_pattern),
+    )
 }
 
 // Appends the lines for the header.

@@ -175,7 +175,11 @@ fn push_coordinate(ones: &mut String, field: Field, line: &[u8]) -> Result<(), A
 fn value_text(field: Field, line: &[u8]) -> &'static str
     ensures { result.now ≡ spaced (copied (one_words Array field (words_of line.now))) }
 {
-    if are_values(field, line) { "1 " } else { "1 1 " }
+    if are_values(field, line) {
+        "1 "
+    } else {
+        "1 1 "
+    }
 }
 
 // Returns the first two words of a line and the rest of the line, if it has two.

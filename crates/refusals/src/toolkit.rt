@@ -79,11 +79,27 @@ pub fn run(rt: &HostRuntime, turn: &mut Turn, case: &str) -> Outcome {
         "fill" => {
             let order = FillOrder::File(ORDER);
             let form = Form::Lines;
-            run_args(rt, turn, Command::Fill { file: A, order, form })
+            run_args(
+                rt,
+                turn,
+                Command::Fill {
+                    file: A,
+                    order,
+                    form,
+                },
+            )
         }
         "fill json" => {
             let (order, form) = (FillOrder::Natural, Form::Json);
-            run_args(rt, turn, Command::Fill { file: A, order, form })
+            run_args(
+                rt,
+                turn,
+                Command::Fill {
+                    file: A,
+                    order,
+                    form,
+                },
+            )
         }
         "eval" => run_args(rt, turn, square()),
         "solve" => run_args(rt, turn, solve(None)),
