@@ -43,14 +43,14 @@ pub fn fill_text(
     }
 }
 
-/// Returns the facts about the fill of the square matrix of a text, in the order that another text means. The values may
-/// be real or complex.
+/// Returns the facts about the fill of the square matrix of a text, in the order that another text means. The values
+/// may be real or complex.
 ///
 /// # Errors
 ///
-/// Returns the errors of [`read_order`] for text 1, those of [`load_places`](mtxkit_texts::load_places) for text 2, `NotSquare` if the
-/// matrix is not square, and otherwise `OtherLength` if the order has another length than the matrix has rows. Otherwise
-/// fails only if an allocation fails.
+/// Returns the errors of [`read_order`] for text 1, those of [`load_places`](mtxkit_texts::load_places) for text 2,
+/// `NotSquare` if the matrix is not square, and otherwise `OtherLength` if the order has another length than the
+/// matrix has rows. Otherwise fails only if an allocation fails.
 pub fn fill_text_in_order(
     alloc: Global,
     form: Form,

@@ -16,8 +16,8 @@ use std::alloc::Global;
 ///
 /// # Errors
 ///
-/// Returns the errors of [`load_places`], and `NotSquare` if the matrix is not square. Otherwise fails only if an allocation
-/// fails.
+/// Returns the errors of [`load_places`], and `NotSquare` if the matrix is not square. Otherwise fails only if an
+/// allocation fails.
 pub fn order_text(alloc: Global, method: Method, text: &str) -> Result<String, OrderError>
     ensures written { IfOk result (λ written. WritesOrder text.now (string_bytes written)) }
     ensures refused { IfErr result (IsNoSquare 1 text.now) }

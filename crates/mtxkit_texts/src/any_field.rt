@@ -19,8 +19,8 @@ use std::alloc::Global;
 ///
 /// # Errors
 ///
-/// Returns the errors of [`load`](crate::load) except `NotSupported`: if the values are real or complex, returns `Input`
-/// if an entry has another number of values than the header's field, or an error in its row and column.
+/// Returns the errors of [`load`](crate::load) except `NotSupported`: if the values are real or complex, returns
+/// `Input` if an entry has another number of values than the header's field, or an error in its row and column.
 pub fn load_places(alloc: Global, number: usize, text: &str) -> Result<Loaded, Failure>
     ensures meant { IfOk result (λ l. MeansPlaces text.now l.entries l.matrix) }
     ensures sound { IfOk result (λ l. IsSound l.matrix) }

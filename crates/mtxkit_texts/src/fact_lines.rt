@@ -13,8 +13,8 @@ use mtxkit_matrices::{Info, answer, push_count, push_facts, push_histogram, push
 use sparse_parser::header::{Field, Format, Header, Symmetry};
 use std::alloc::{AllocError, Global};
 
-/// Returns what `mtxkit info` writes about a text: its header, its shape, its number of entries, and the facts about its
-/// matrix. If its values are real or complex, the facts about values are left out.
+/// Returns what `mtxkit info` writes about a text: its header, its shape, its number of entries, and the facts about
+/// its matrix. If its values are real or complex, the facts about values are left out.
 ///
 /// Returns the errors of [`facts_of`](crate::facts_of).
 pub fn info_text(alloc: Global, form: Form, text: &str) -> Result<String, Failure>

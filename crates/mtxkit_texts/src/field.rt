@@ -14,8 +14,8 @@ use crate::values::load_values;
 use sparse_io::{Banner, save_to_matrix_market_str_with};
 use std::alloc::Global;
 
-/// Returns the text of the pattern that a text means, row by row, also if the values are real or complex. An entry whose
-/// value is zero is kept.
+/// Returns the text of the pattern that a text means, row by row, also if the values are real or complex. An entry
+/// whose value is zero is kept.
 ///
 /// Returns the errors of [`load_places`](crate::load_places).
 pub fn places_text(alloc: Global, text: &str) -> Result<String, Failure>
