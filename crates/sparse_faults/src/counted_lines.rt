@@ -45,8 +45,8 @@ pub(crate) fn first_content(
     Err(number)
 }
 
-/// Returns whether a line is blank, or a comment if the flag is set.
-pub(crate) fn is_skipped(skips_comments: bool, line: &[u8]) -> bool
+// Returns whether a line is blank, or a comment if the flag is set.
+fn is_skipped(skips_comments: bool, line: &[u8]) -> bool
     ensures { result ≡ is_skipped skips_comments (words_of line.now) }
 {
     match next_word(line) {
