@@ -4,6 +4,7 @@ mod cases;
 mod eval_cases;
 mod failures;
 mod info_cases;
+mod json_cases;
 mod line_cases;
 mod order_cases;
 mod place_cases;
