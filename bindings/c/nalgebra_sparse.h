@@ -120,7 +120,9 @@ enum {
     /* A handle is empty. */
     NALGEBRA_SPARSE_EMPTY_HANDLE = 17,
     /* The shapes of the operands do not fit. */
-    NALGEBRA_SPARSE_SHAPE_MISMATCH = 18
+    NALGEBRA_SPARSE_SHAPE_MISMATCH = 18,
+    /* The operands have different moduli. */
+    NALGEBRA_SPARSE_RING_MISMATCH = 19
 };
 
 /* The triangles of nalgebra_sparse_fill. */
@@ -655,7 +657,8 @@ int32_t nalgebra_sparse_write(
  * Transposes, multiples, sums and products copy no operand; a solve with a triangle and a factorisation copy the
  * matrix, each solve copies its right-hand side, and a product with a dense matrix copies the dense matrix. Their
  * contracts are equations between the plain matrices behind handles (crates/sparse_c/src/handles.rt and the files in
- * crates/sparse_c/src/handles). No call over handles computes modulo another number.
+ * crates/sparse_c/src/handles). Handles of matrices modulo another number are of another type: see
+ * nalgebra_sparse_ring_matrix.
  *
  *     nalgebra_sparse_matrix a = NALGEBRA_SPARSE_NO_MATRIX, copy = NALGEBRA_SPARSE_NO_MATRIX;
  *     nalgebra_sparse_matrix square = NALGEBRA_SPARSE_NO_MATRIX;
@@ -888,6 +891,110 @@ int32_t nalgebra_sparse_factors_clone(nalgebra_sparse_factors *f, nalgebra_spars
 
 /* Empties a handle of factors. The factors that it held are freed with the last handle that shares them. */
 void nalgebra_sparse_factors_free(nalgebra_sparse_factors *f);
+
+/* Handles of matrices modulo a listed number.
+ *
+ * Such a handle has a matrix that the library owns together with its modulus, which is one of those of the calls whose
+ * names end in _mod; or none. What is said above about handles of matrices is true of these, but for the copies: each
+ * call copies the arrays of its operands. Calls with two operands compute modulo the modulus that both have, and refuse
+ * operands with different ones. The type of matrices modulo 2^64 is another, so a compiler refuses to mix them.
+ *
+ *     nalgebra_sparse_ring_matrix a = NALGEBRA_SPARSE_NO_RING_MATRIX, b = NALGEBRA_SPARSE_NO_RING_MATRIX;
+ *     status = nalgebra_sparse_ring_matrix_from_rows(101, 2, 2, offsets, 3, indices, 2, values, 2, &a);
+ *     status = nalgebra_sparse_ring_matrix_transpose(&a, &b);
+ *     nalgebra_sparse_ring_matrix_free(&a), nalgebra_sparse_ring_matrix_free(&b);
+ *
+ * Statuses: OUT_OF_MEMORY; EMPTY_HANDLE exactly if an operand is empty, before each status but OUT_OF_MEMORY;
+ * RING_MISMATCH if two operands have different moduli; then SHAPE_MISMATCH if their shapes do not fit; and those that a
+ * call names.
+ */
+typedef struct {
+    void *matrix;
+} nalgebra_sparse_ring_matrix;
+
+/* An empty handle. */
+#define NALGEBRA_SPARSE_NO_RING_MATRIX {NULL}
+
+/* Stores in `out` the matrix with these arrays by rows, modulo `modulus`. Statuses: UNKNOWN_CHOICE; the first fault of
+ * the arrays, as for nalgebra_sparse_transpose. The arrays are copied.
+ */
+int32_t nalgebra_sparse_ring_matrix_from_rows(
+    uint64_t modulus, size_t rows, size_t cols,
+    const size_t *offsets, size_t offsets_len,
+    const size_t *indices, size_t indices_len,
+    const int64_t *values, size_t values_len,
+    nalgebra_sparse_ring_matrix *out);
+
+/* Stores in `out` the matrix of triplets, modulo `modulus`: an entry for each row and column in the lists, with the sum
+ * of the values there. Statuses: UNKNOWN_CHOICE; INVALID_STRUCTURE if the lists have different lengths;
+ * INDEX_OUT_OF_BOUNDS.
+ */
+int32_t nalgebra_sparse_ring_matrix_from_triplets(
+    uint64_t modulus, size_t rows, size_t cols,
+    const size_t *row_indices, size_t row_indices_len,
+    const size_t *col_indices, size_t col_indices_len,
+    const int64_t *values, size_t values_len,
+    nalgebra_sparse_ring_matrix *out);
+
+/* Writes the modulus of the matrix that `a` holds, and its numbers of rows, columns and entries. */
+int32_t nalgebra_sparse_ring_matrix_sizes(
+    nalgebra_sparse_ring_matrix *a,
+    uint64_t *out_modulus, size_t *out_rows, size_t *out_cols, size_t *out_places);
+
+/* Writes the matrix that `a` holds by rows, with values from 0 to modulus - 1: out_offsets needs rows + 1 numbers, and
+ * out_indices and out_values one for each entry. *out_places becomes the number of entries, also at TOO_SMALL.
+ * Statuses: TOO_SMALL.
+ */
+int32_t nalgebra_sparse_ring_matrix_read(
+    nalgebra_sparse_ring_matrix *a,
+    size_t *out_offsets, size_t out_offsets_len,
+    size_t *out_indices, size_t out_indices_len,
+    int64_t *out_values, size_t out_values_len,
+    size_t *out_places);
+
+/* Stores in `out` the transpose of the matrix that `a` holds. */
+int32_t nalgebra_sparse_ring_matrix_transpose(nalgebra_sparse_ring_matrix *a, nalgebra_sparse_ring_matrix *out);
+
+/* Stores in `out` the product of a number and the matrix that `a` holds, with the same pattern. */
+int32_t nalgebra_sparse_ring_matrix_scale(
+    int64_t factor, nalgebra_sparse_ring_matrix *a, nalgebra_sparse_ring_matrix *out);
+
+/* Stores in `out` the sum a + b of two matrices with the same shape, on the union of their patterns. */
+int32_t nalgebra_sparse_ring_matrix_add(
+    nalgebra_sparse_ring_matrix *a, nalgebra_sparse_ring_matrix *b, nalgebra_sparse_ring_matrix *out);
+
+/* Stores in `out` the difference a - b of two matrices with the same shape, on the union of their patterns. */
+int32_t nalgebra_sparse_ring_matrix_subtract(
+    nalgebra_sparse_ring_matrix *a, nalgebra_sparse_ring_matrix *b, nalgebra_sparse_ring_matrix *out);
+
+/* Stores in `out` the sum alpha a + beta b of multiples of two matrices with the same shape, on the union of their
+ * patterns.
+ */
+int32_t nalgebra_sparse_ring_matrix_add_scaled(
+    int64_t alpha, nalgebra_sparse_ring_matrix *a,
+    int64_t beta, nalgebra_sparse_ring_matrix *b,
+    nalgebra_sparse_ring_matrix *out);
+
+/* Stores in `out` the product a b, with an entry (i, j) wherever some k has an entry (i, k) in a and (k, j) in b. `a`
+ * has as many columns as `b` has rows.
+ */
+int32_t nalgebra_sparse_ring_matrix_multiply(
+    nalgebra_sparse_ring_matrix *a, nalgebra_sparse_ring_matrix *b, nalgebra_sparse_ring_matrix *out);
+
+/* Writes the product of the matrix that `a` holds and a dense matrix with `cols` columns to `out_values`, column by
+ * column, with values from 0 to modulus - 1. Otherwise like nalgebra_sparse_matrix_multiply_dense. Statuses:
+ * INVALID_STRUCTURE if the dense matrix has another number of values; TOO_SMALL.
+ */
+int32_t nalgebra_sparse_ring_matrix_multiply_dense(
+    nalgebra_sparse_ring_matrix *a, size_t cols,
+    const int64_t *b_values, size_t b_values_len,
+    int64_t *out_values, size_t out_values_len);
+
+/* Stores in `out` the matrix that `a` holds: both handles share it, and each must be freed. No array is copied. */
+int32_t nalgebra_sparse_ring_matrix_clone(nalgebra_sparse_ring_matrix *a, nalgebra_sparse_ring_matrix *out);
+
+/* Empties a handle. The matrix that it held is freed with the last handle that shares it. */
+void nalgebra_sparse_ring_matrix_free(nalgebra_sparse_ring_matrix *a);
 
 #include "nalgebra_sparse_inline.h"
 #include "nalgebra_sparse_files.h"

@@ -35,6 +35,7 @@ static inline const char *nalgebra_sparse_status_text(int32_t status) {
     case NALGEBRA_SPARSE_UNREADABLE: return "the bytes of a text are not UTF-8";
     case NALGEBRA_SPARSE_EMPTY_HANDLE: return "a handle has no matrix";
     case NALGEBRA_SPARSE_SHAPE_MISMATCH: return "the shapes of the operands do not fit";
+    case NALGEBRA_SPARSE_RING_MISMATCH: return "the operands have different moduli";
     case NALGEBRA_SPARSE_FILE_ERROR: return "a file can't be opened, read or written";
     default: return "an unknown status";
     }

@@ -182,7 +182,7 @@ static void check_nulls(void) {
 
 static void check_texts_of_statuses(void) {
     char version[40];
-    for (int32_t k = 0; k <= 18; k++)
+    for (int32_t k = 0; k <= 19; k++)
         for (int32_t j = -2; j < k; j++) CHECK(strcmp(nalgebra_sparse_status_text(k), nalgebra_sparse_status_text(j)) != 0);
     CHECK(strcmp(nalgebra_sparse_status_text(0), "done") == 0);
     CHECK(strcmp(nalgebra_sparse_status_text(NALGEBRA_SPARSE_SINGULAR), "a value that must have an inverse has none") == 0);

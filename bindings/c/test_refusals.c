@@ -13,6 +13,7 @@ enum { ROOM = 32, TEXT = 256 };
 /* All that a call may write to. */
 typedef struct {
     size_t offsets[ROOM], indices[ROOM], rows, cols, count;
+    uint64_t modulus;
     uint32_t narrow[2][ROOM];
     int64_t values[ROOM], diagonal[ROOM];
     uint8_t text[TEXT];
@@ -107,8 +108,9 @@ static const char LINES[] = "%%MatrixMarket matrix coordinate integer symmetric\
 /* Operands behind handles, which are created before the first call, and the handles of results. */
 static nalgebra_sparse_matrix a = NALGEBRA_SPARSE_NO_MATRIX, b = NALGEBRA_SPARSE_NO_MATRIX, out = NALGEBRA_SPARSE_NO_MATRIX;
 static nalgebra_sparse_factors f = NALGEBRA_SPARSE_NO_FACTORS, g = NALGEBRA_SPARSE_NO_FACTORS;
+static nalgebra_sparse_ring_matrix c = NALGEBRA_SPARSE_NO_RING_MATRIX, d = NALGEBRA_SPARSE_NO_RING_MATRIX, e = NALGEBRA_SPARSE_NO_RING_MATRIX;
 
-/* Each call with handles, with a result in `out` or `g`, or in arrays. */
+/* Each call with handles, with a result in `out`, `g` or `e`, or in arrays. */
 #define HANDLE_CALLS(CALL)                                       \
     CALL(matrix_from_rows, 3, 3, MATRIX, &out)                   \
     CALL(matrix_from_triplets, 3, 3, LISTS, &out)                \
@@ -135,17 +137,31 @@ static nalgebra_sparse_factors f = NALGEBRA_SPARSE_NO_FACTORS, g = NALGEBRA_SPAR
     CALL(factors_solve, &f, 2, t->values, 6)                     \
     CALL(factors_sizes, &f, &t->rows, &t->count)                 \
     CALL(factors_read, &f, TO_FACTORS)                           \
-    CALL(factors_clone, &f, &g)
+    CALL(factors_clone, &f, &g)                                  \
+    CALL(ring_matrix_from_rows, 7, 3, 3, MATRIX, &e)             \
+    CALL(ring_matrix_from_triplets, 7, 3, 3, LISTS, &e)          \
+    CALL(ring_matrix_sizes, &c, &t->modulus, &t->rows, &t->cols, &t->count) \
+    CALL(ring_matrix_read, &c, TO_MATRIX)                        \
+    CALL(ring_matrix_transpose, &c, &e)                          \
+    CALL(ring_matrix_scale, 5, &c, &e)                           \
+    CALL(ring_matrix_add, &c, &d, &e)                            \
+    CALL(ring_matrix_subtract, &c, &d, &e)                       \
+    CALL(ring_matrix_add_scaled, 2, &c, -3, &d, &e)              \
+    CALL(ring_matrix_multiply, &c, &d, &e)                       \
+    CALL(ring_matrix_multiply_dense, &c, 2, SIDES, 6, TO_VALUES) \
+    CALL(ring_matrix_clone, &c, &e)
 
-/* Reads what a call has put behind `out`, solves with what it has put behind `g`, and frees both. These requests are
- * not counted, and none is refused. */
+/* Reads what a call has put behind `out` and `e`, solves with what it has put behind `g`, and frees all. These requests
+ * are not counted, and none is refused. */
 static int32_t shown(int32_t status, target *t) {
     size_t made = requests;
     refused = SIZE_MAX;
     if (out.matrix != NULL && nalgebra_sparse_matrix_read(&out, TO_MATRIX) != 0) exit(1);
     if (g.factors != NULL && nalgebra_sparse_factors_solve(&g, 1, t->diagonal, 3) != 0) exit(1);
+    if (e.matrix != NULL && nalgebra_sparse_ring_matrix_read(&e, TO_MATRIX) != 0) exit(1);
     nalgebra_sparse_matrix_free(&out);
     nalgebra_sparse_factors_free(&g);
+    nalgebra_sparse_ring_matrix_free(&e);
     requests = made;
     return status;
 }
@@ -183,13 +199,14 @@ int main(void) {
     refused = SIZE_MAX;
     if (nalgebra_sparse_matrix_from_rows(3, 3, MATRIX, &a) != 0 || nalgebra_sparse_matrix_transpose(&a, &b) != 0) return 1;
     if (nalgebra_sparse_matrix_factor_in_order(&a, ORDER, 3, &f) != 0) return 1;
+    if (nalgebra_sparse_ring_matrix_from_rows(7, 3, 3, MATRIX, &c) != 0 || nalgebra_sparse_ring_matrix_transpose(&c, &d) != 0) return 1;
     memset(&blank, 77, sizeof blank);
     for (size_t call = 0; call < COUNT; call++) {
         int32_t status = run(call, SIZE_MAX, &answer);
         size_t count = requests;
         int asks = TABLE[call].run != matrix_sizes_call && TABLE[call].run != matrix_read_call &&
                    TABLE[call].run != matrix_read_32_call && TABLE[call].run != factors_sizes_call &&
-                   TABLE[call].run != text_fault_call;
+                   TABLE[call].run != ring_matrix_sizes_call && TABLE[call].run != text_fault_call;
         if (status != 0 || (count != 0) != asks || memcmp(&answer, &blank, sizeof blank) == 0) {
             fprintf(stderr, "%s: status %d after %zu requests\n", TABLE[call].name, (int)status, count);
             return 1;
@@ -207,6 +224,7 @@ int main(void) {
     }
     refused = SIZE_MAX;
     nalgebra_sparse_matrix_free(&a), nalgebra_sparse_matrix_free(&b), nalgebra_sparse_factors_free(&f);
+    nalgebra_sparse_ring_matrix_free(&c), nalgebra_sparse_ring_matrix_free(&d);
     printf("c: %d calls, %zu refused requests: %zu out of memory, with nothing written\n", (int)COUNT, all, failures);
     return 0;
 }

@@ -17,13 +17,13 @@ import scipy.sparse as sp
 here = os.path.dirname(os.path.abspath(__file__))
 sys.path.insert(0, here)
 import nalgebra_sparse as ns  # noqa: E402
-from nalgebra_sparse import _calls, _exact, _factorisation, _matrices, _owned, _systems, _texts  # noqa: E402
+from nalgebra_sparse import _calls, _exact, _factorisation, _matrices, _owned, _ring_factors, _systems, _texts  # noqa: E402
 
 NONE = np.empty(0, np.int64)
 ONE = np.array([0])
 PLAIN = np.array([[5, 2, 0], [0, 7, 1]])
 NUMBERS = {"size": 0, "modulus": 7, "value": 1, "choice": 0, "flag": False, "text": b"", "out_size": ctypes.c_size_t()}
-HANDLES = {"handle": _calls.Handle(), "factors": _calls.FactorHandle()}
+HANDLES = {"handle": _calls.Handle(), "factors": _calls.FactorHandle(), "ring": _calls.RingHandle(), "out_modulus": ctypes.c_uint64()}
 ARRAYS = {"indices": NONE, "values": NONE, "out_indices": NONE, "out_values": NONE, "out_text": np.empty(0, np.uint8)}
 ARRAYS["out_narrow"] = np.empty(0, np.int32)
 SAMPLES = {**NUMBERS, **HANDLES, **ARRAYS}
@@ -127,7 +127,7 @@ def check_table():
     header = open(os.path.join(here, "..", "c", "nalgebra_sparse.h"), encoding="utf-8").read()
     plain = {"size_t": ctypes.c_size_t, "bool": ctypes.c_bool, "int32_t": ctypes.c_int32}
     plain.update({"int64_t": ctypes.c_int64, "uint64_t": ctypes.c_uint64, "nalgebra_sparse_matrix": _calls.Handle})
-    plain["nalgebra_sparse_factors"] = _calls.FactorHandle
+    plain.update({"nalgebra_sparse_factors": _calls.FactorHandle, "nalgebra_sparse_ring_matrix": _calls.RingHandle})
     declared = re.findall(r"^int32_t nalgebra_sparse_(\w+)\(([^)]*)\);", header, re.M)
     assert {name for name, _ in declared} == set(_calls._TABLE)
     for name, words in declared:
@@ -222,7 +222,7 @@ def check_package():
     """The version is that of the file VERSION, each name of `__all__` exists, and the examples run, also the README's."""
     assert ns.__version__ == open(os.path.join(here, "..", "..", "VERSION"), encoding="ascii").read().strip()
     examples = 0
-    for module in (ns, _exact, _factorisation, _matrices, _owned, _systems, _texts):
+    for module in (ns, _exact, _factorisation, _matrices, _owned, _ring_factors, _systems, _texts):
         failed, tried = doctest.testmod(module, extraglobs={"Exact": ns.Exact})
         assert not failed
         examples += tried

@@ -142,7 +142,7 @@ def changed(matrix):
 
 
 MISTAKES = {
-    (_lifting, "factor_symmetric"): lambda found: (found[0], 2 * found[1]),
+    (_lifting, "factored"): lambda found: (found[0], 2 * found[1]),
     (_lifting, "solve_lower"): lambda found: found ^ 1,
     (_lifting, "multiply_dense"): lambda found: found + 1,
     (_lifting, "matmul"): changed,

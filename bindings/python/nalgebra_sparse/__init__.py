@@ -11,8 +11,8 @@ lock.
 Assembly, sums, products, division, solves and factors are also computed modulo a prime: `modulus` is one of `MODULI`.
 An integer then means its residue, also if it is negative, and the values of a result are from 0 to modulus - 1.
 
-`Exact` is a matrix that the library owns, with operators and solves: its arrays are checked once, and the operators
-copy no operand. Its values are integers modulo 2^64.
+`Exact` is a matrix that the library owns, with operators and solves: its arrays are checked once. Its values are
+integers modulo 2^64, and the operators copy no operand; or modulo a prime, with `modulus`.
 
 Calls on symmetric matrices test the symmetry, unless `assume_symmetric=True` is given: then they read the entries on
 and above the diagonal alone.
@@ -36,7 +36,8 @@ import os
 # Before the other modules, which take it from here.
 MODULI = (2, 3, 5, 7, 11, 13, 101, 65537, 998244353, 1000000007, 2305843009213693951)
 
-from ._errors import DuplicateEntry, Error, IndexOutOfBounds, InvalidStructure, InvalidText, Singular, UnknownModulus  # noqa: E402
+from ._errors import DuplicateEntry, Error, IndexOutOfBounds, InvalidStructure, InvalidText  # noqa: E402
+from ._errors import RingMismatch, Singular, UnknownModulus  # noqa: E402
 from ._exact import Exact, Factorisation  # noqa: E402
 from ._matrices import add, add_scaled, assemble_csc, assemble_csr, divide, matmul, multiply_dense, subtract, transpose  # noqa: E402
 from ._operands import integer as _integer  # noqa: E402
@@ -53,6 +54,7 @@ __all__ = [
     "IndexOutOfBounds",
     "InvalidStructure",
     "InvalidText",
+    "RingMismatch",
     "Singular",
     "UnknownModulus",
     "add",

@@ -42,6 +42,12 @@ class FactorHandle(ctypes.Structure):
     _fields_ = [("factors", ctypes.c_void_p)]
 
 
+class RingHandle(ctypes.Structure):
+    """A handle of a matrix modulo a listed number, which the library owns: null means none."""
+
+    _fields_ = [("matrix", ctypes.c_void_p)]
+
+
 class Kind(NamedTuple):
     """A kind of argument: the types of the call's parameters for it, and the function that computes their values from
     an argument."""
@@ -98,6 +104,8 @@ _KINDS = {
     "out_text": _array(True, np.uint8),
     "handle": _instance(ctypes.POINTER(Handle), Handle, lambda handle: (ctypes.byref(handle),)),
     "factors": _instance(ctypes.POINTER(FactorHandle), FactorHandle, lambda handle: (ctypes.byref(handle),)),
+    "ring": _instance(ctypes.POINTER(RingHandle), RingHandle, lambda handle: (ctypes.byref(handle),)),
+    "out_modulus": _instance(ctypes.POINTER(ctypes.c_uint64), ctypes.c_uint64, lambda modulus: (ctypes.byref(modulus),)),
     "out_size": _instance(ctypes.POINTER(ctypes.c_size_t), ctypes.c_size_t, lambda size: (ctypes.byref(size),)),
 }
 
@@ -168,6 +176,18 @@ _TABLE = {
     "factors_sizes": "factors out_size out_size",
     "factors_read": f"factors {_FACTORS}",
     "factors_clone": "factors factors",
+    "ring_matrix_from_rows": f"modulus size size {_LANES} ring",
+    "ring_matrix_from_triplets": f"modulus size size {_TRIPLETS} ring",
+    "ring_matrix_sizes": "ring out_modulus out_size out_size out_size",
+    "ring_matrix_read": f"ring {_RESULT}",
+    "ring_matrix_transpose": "ring ring",
+    "ring_matrix_scale": "value ring ring",
+    "ring_matrix_add": "ring ring ring",
+    "ring_matrix_subtract": "ring ring ring",
+    "ring_matrix_add_scaled": "value ring value ring ring",
+    "ring_matrix_multiply": "ring ring ring",
+    "ring_matrix_multiply_dense": "ring size values out_values",
+    "ring_matrix_clone": "ring ring",
 }
 
 
@@ -208,7 +228,11 @@ def _freeing(name: str, kind: Any) -> Any:
     return function
 
 
-_FREE = {Handle: _freeing("matrix_free", Handle), FactorHandle: _freeing("factors_free", FactorHandle)}
+_FREE = {
+    Handle: _freeing("matrix_free", Handle),
+    FactorHandle: _freeing("factors_free", FactorHandle),
+    RingHandle: _freeing("ring_matrix_free", RingHandle),
+}
 
 
 def free(handle: Any) -> None:

@@ -24,11 +24,17 @@ class DuplicateEntry(Error):
 
 class Singular(Error):
     """A value that must have an inverse has none. The message names the ring: the integers modulo 2^64, or modulo a
-    prime."""
+    prime. If it is the pivot of a symmetric matrix, `column` is the index of its column."""
+
+    column: Optional[int] = None
 
 
 class UnknownModulus(Error):
     """The modulus is not one of `MODULI`."""
+
+
+class RingMismatch(Error):
+    """The operands have different moduli."""
 
 
 class TooSmall(Error):
@@ -61,6 +67,7 @@ _REFUSALS: dict[int, tuple[type[Exception], str]] = {
     16: (InvalidText, "the bytes of a text are not UTF-8"),
     17: (Error, "a handle has no matrix"),
     18: (Error, "the shapes of the operands do not fit"),
+    19: (RingMismatch, "the operands have different moduli"),
 }
 
 # The messages of errors of an order.
@@ -71,20 +78,35 @@ _OF_ORDERS = {
 }
 
 
-def _singular(name: str, modulus: Optional[int]) -> str:
-    """Returns the message of a `Singular`: what has no inverse, in which ring, and what else may solve the system."""
-    ring = "2^64" if modulus is None else str(modulus)
-    if "divide" in name:
-        fault = f"the divisor has no inverse modulo {ring}"
-    elif name == "matrix_factor_in_order":
-        fault = f"the matrix has no factorisation L D L^T modulo {ring} in this order: a pivot has no inverse"
-    elif "factor" in name or "symmetric" in name:
-        fault = f"the matrix has no factorisation L D L^T modulo {ring}: a pivot has no inverse, and singular_column tells which one"
-    else:
-        fault = f"an entry of the diagonal is not stored, or has no inverse modulo {ring}"
+def ring_of(modulus: Optional[int]) -> str:
+    """Returns the number modulo which a ring computes, as a text."""
+    return "2^64" if modulus is None else str(modulus)
+
+
+def _singular(fault: str, modulus: Optional[int]) -> str:
+    """Returns the message of a `Singular`: what has no inverse, and what else may solve the system."""
     if modulus is None:
         return f"{fault} (even numbers have none); modulus= takes a prime of MODULI instead, and solve_rational solves over the fractions"
     return f"{fault}; modulus= takes another prime of MODULI, and solve_rational solves over the fractions"
+
+
+def _fault(name: str, modulus: Optional[int]) -> str:
+    """Returns what has no inverse, if a call ends with SINGULAR, and in which ring."""
+    ring = ring_of(modulus)
+    if "divide" in name:
+        return f"the divisor has no inverse modulo {ring}"
+    if "factor" in name or "symmetric" in name:
+        return f"the matrix has no factorisation L D L^T modulo {ring}: a pivot has no inverse"
+    return f"an entry of the diagonal is not stored, or has no inverse modulo {ring}"
+
+
+def singular_at(column: int, modulus: Optional[int], in_order: bool = False) -> Singular:
+    """Returns the error of a symmetric matrix whose factorisation stops at a column."""
+    order = " in this order" if in_order else ""
+    fault = f"the matrix has no factorisation L D L^T modulo {ring_of(modulus)}{order}: the pivot of column {column} has no inverse"
+    error = Singular(_singular(fault, modulus))
+    error.column = column
+    return error
 
 
 def error_of(status: int, name: str = "", modulus: Optional[int] = None) -> Exception:
@@ -96,4 +118,4 @@ def error_of(status: int, name: str = "", modulus: Optional[int] = None) -> Exce
     kind, message = _REFUSALS.get(status, (Error, f"the call ended with status {status}"))
     if name == "matrix_factor_in_order":
         message = _OF_ORDERS.get(status, message)
-    return kind(_singular(name, modulus) if kind is Singular else message)
+    return kind(_singular(_fault(name, modulus), modulus) if kind is Singular else message)

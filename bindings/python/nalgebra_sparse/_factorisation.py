@@ -5,7 +5,7 @@ import contextlib
 import ctypes
 import threading
 import weakref
-from typing import Any, Iterator
+from typing import Any, Iterator, Optional
 
 import numpy as np
 import scipy.sparse as sp
@@ -90,6 +90,11 @@ class Factorisation:
 
     def __reduce__(self) -> Any:
         raise TypeError("a Factorisation cannot be pickled: pickle the matrix, and factor it again")
+
+    @property
+    def modulus(self) -> Optional[int]:
+        """None: the factors are those modulo 2^64. Modulo a prime, it is the prime."""
+        return None
 
     @property
     def shape(self) -> tuple[int, int]:

@@ -11,7 +11,7 @@ import scipy.sparse as sp
 from ._errors import Error, Singular
 from ._matrices import matmul, multiply_dense
 from ._operands import Integers, integer
-from ._systems import factor_symmetric, solve_lower
+from ._systems import factored, solve_lower
 
 # The greatest sum of absolute values in a row. A residual then fits in 64 bits.
 _MOST_IN_A_ROW = 2**62
@@ -23,8 +23,8 @@ def _factors(rows: sp.csr_matrix, turned: sp.csr_matrix, symmetric: bool, modulu
     if symmetric:
         with contextlib.suppress(Singular):
             # The arrays of a symmetric matrix by rows are those by columns.
-            return (*factor_symmetric(rows.T, modulus, assume_symmetric=True), None)
-    return (*factor_symmetric(matmul(turned, rows, modulus).T, modulus, assume_symmetric=True), turned)
+            return (*factored(rows.T, modulus), None)
+    return (*factored(matmul(turned, rows, modulus).T, modulus), turned)
 
 
 class Solver:

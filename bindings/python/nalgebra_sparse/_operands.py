@@ -47,6 +47,14 @@ def integer(name: str, number: Any) -> int:
     return int(number)
 
 
+def inside(index: Any, size: int) -> int:
+    """Returns an index from 0 to below a size. A negative one counts from the end."""
+    number = integer("an index", index)
+    if not -size <= number < size:
+        raise IndexError(f"the index {number} is out of bounds for a size of {size}")
+    return number % size
+
+
 def flag(name: str, value: Any) -> bool:
     """Returns a boolean of Python. Other values that Python accepts as true or false, such as a text or NaN, are
     refused."""
@@ -198,11 +206,14 @@ def check_symmetric(difference: Any) -> None:
         )
 
 
-def modular(name: str, modulus: Any) -> tuple[Any, ...]:
-    """Returns the name of a call, and with a modulus the name of its call with a modulus and the modulus."""
-    if modulus is None:
-        return (name,)
+def modulus_of(modulus: Any) -> int:
+    """Returns a modulus as an integer of Python. The library knows which ones it takes."""
     number = integer("modulus", modulus)
     if not 0 <= number < 2**64:
         raise error_of(UNKNOWN_MODULUS)
-    return f"{name}_mod", number
+    return number
+
+
+def modular(name: str, modulus: Any) -> tuple[Any, ...]:
+    """Returns the name of a call, and with a modulus the name of its call with a modulus and the modulus."""
+    return (name,) if modulus is None else (f"{name}_mod", modulus_of(modulus))

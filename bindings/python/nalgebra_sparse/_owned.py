@@ -4,28 +4,30 @@ from __future__ import annotations
 import ctypes
 import threading
 import weakref
-from typing import Any, Optional, TypeVar
+from typing import Any, Optional, TypeVar, Union
 
 import numpy as np
 import scipy.sparse as sp
 
-from ._calls import Handle, call, free
-from ._errors import Error, InvalidStructure
+from ._calls import Handle, RingHandle, call, free
+from ._errors import Error, InvalidStructure, RingMismatch, ring_of
 from ._factorisation import own
-from ._operands import Integers, Matrix, lanes_of, shape_of, sorted_arrays, triplets_of
+from ._operands import Integers, Matrix, lanes_of, modulus_of, shape_of, sorted_arrays, triplets_of
 from ._results import empty, is_narrow, matrix_of
-from ._text_lines import read_text
+from ._text_lines import read_text, triplets_of_text
 
 Self = TypeVar("Self", bound="Owned")
 
 
 class Owned:
-    """A matrix of integers modulo 2^64 behind a handle. `Exact` is this with operators."""
+    """A matrix of integers modulo 2^64, or modulo a prime, behind a handle. `Exact` is this with operators."""
 
-    __slots__ = ("_handle", "_lock", "_shape", "_nnz", "__weakref__")
+    __slots__ = ("_handle", "_lock", "_modulus", "_shape", "_nnz", "__weakref__")
 
-    _handle: Handle
+    # A handle of one of two types, and the prime for the second.
+    _handle: Union[Handle, RingHandle]
     _lock: Any
+    _modulus: Optional[int]
     _shape: tuple[int, int]
     _nnz: int
 
@@ -33,41 +35,58 @@ class Owned:
         raise TypeError("call Exact.from_scipy, Exact.from_triplets or Exact.from_text")
 
     @classmethod
-    def _made(cls: type[Self], name: str, *arguments: Any) -> Self:
+    def _made(cls: type[Self], name: str, modulus: Optional[int], *arguments: Any) -> Self:
         """Returns the matrix that a call puts behind the handle which is its last argument."""
         self = object.__new__(cls)
-        self._handle, self._lock = Handle(), threading.RLock()
-        (read_text if name == "matrix_from_text" else call)(name, *arguments, self._handle)
+        self._handle, self._lock, self._modulus = Handle() if modulus is None else RingHandle(), threading.RLock(), modulus
+        (read_text if name == "from_text" else call)(self._call(name), *arguments, self._handle)
         weakref.finalize(self, free, self._handle)
         rows, cols, places = ctypes.c_size_t(), ctypes.c_size_t(), ctypes.c_size_t()
-        call("matrix_sizes", self._handle, rows, cols, places)
+        found = () if modulus is None else (ctypes.c_uint64(),)
+        call(self._call("sizes"), self._handle, *found, rows, cols, places)
         self._shape, self._nnz = (rows.value, cols.value), places.value
         return self
 
+    @classmethod
+    def _created(cls: type[Self], name: str, modulus: Any, *arguments: Any) -> Self:
+        """Returns the matrix of a call that takes no handle. With a modulus, this is the first argument of the call."""
+        if modulus is None:
+            return cls._made(name, None, *arguments)
+        number = modulus_of(modulus)
+        return cls._made(name, number, number, *arguments)
+
+    def _call(self, name: str) -> str:
+        """Returns the name of a call over handles of the type of this one."""
+        return f"matrix_{name}" if self._modulus is None else f"ring_matrix_{name}"
+
     def _own(self) -> Any:
-        return own("matrix_clone", self._handle, self._lock)
+        return own(self._call("clone"), self._handle, self._lock)
 
     def _with(self: Self, name: str, *factors: int) -> Self:
         with self._own() as a:
-            return type(self)._made(name, *factors, a)
+            return type(self)._made(name, self._modulus, *factors, a)
 
     def _and(self: Self, name: str, other: Self, *factors: int) -> Self:
         with self._own() as a, other._own() as b:
-            return type(self)._made(name, *factors[:1], a, *factors[1:], b)
+            return type(self)._made(name, self._modulus, *factors[:1], a, *factors[1:], b)
 
     def _arrays(self) -> tuple[Integers, Integers, Integers]:
         """Returns a copy of the offsets, the indices and the values of the matrix by rows, with 32 bits for each index
         and offset where the sizes fit, and 64 otherwise."""
         narrow = is_narrow(self._shape, self._nnz)
-        name, dtype = ("matrix_read_32", np.int32) if narrow else ("matrix_read", np.int64)
+        # No call writes the arrays of a matrix modulo a prime with 32 bits.
+        name, dtype = ("read_32", np.int32) if narrow and self._modulus is None else ("read", np.int64)
         offsets, indices, values = empty(self._shape[0] + 1, dtype), empty(self._nnz, dtype), empty(self._nnz)
         with self._own() as a:
-            call(name, a, offsets, indices, values, ctypes.c_size_t())
+            call(self._call(name), a, offsets, indices, values, ctypes.c_size_t())
+        if narrow:
+            offsets, indices = offsets.astype(np.int32, copy=False), indices.astype(np.int32, copy=False)
         return offsets, indices, values
 
     @classmethod
-    def from_scipy(cls: type[Self], matrix: Matrix) -> Self:
-        """Returns the matrix with the entries of a SciPy matrix by rows or by columns, whose arrays are copied.
+    def from_scipy(cls: type[Self], matrix: Matrix, modulus: Optional[int] = None) -> Self:
+        """Returns the matrix with the entries of a SciPy matrix by rows or by columns, whose arrays are copied. They are
+        integers modulo 2^64, or modulo `modulus`.
 
         The indices of a row or column may be in any order, as those of SciPy's products are: if they are not sorted,
         the copy is. Repeated entries are refused with `DuplicateEntry`; `sum_duplicates()` of SciPy adds them up.
@@ -78,21 +97,28 @@ class Owned:
         >>> unsorted = sp.csr_array((np.array([5, 4]), np.array([1, 0]), np.array([0, 2])), (1, 2))
         >>> Exact.from_scipy(unsorted).toarray().tolist()
         [[4, 5]]
+        >>> Exact.from_scipy(unsorted, modulus=3).toarray().tolist()
+        [[1, 2]]
         """
         lanes = lanes_of("matrix", matrix, "csr", "csc")
         try:
-            made = cls._made("matrix_from_rows", *lanes.sizes, *lanes.arrays)
+            made = cls._created("from_rows", modulus, *lanes.sizes, *lanes.arrays)
         except InvalidStructure:
             # The indices of SciPy's products are not sorted. If that is not what is wrong, this raises the same error.
-            made = cls._made("matrix_from_rows", *lanes.sizes, *sorted_arrays(lanes))
+            made = cls._created("from_rows", modulus, *lanes.sizes, *sorted_arrays(lanes))
         return made if matrix.format == "csr" else made.transpose()
 
     @classmethod
     def from_triplets(
-        cls: type[Self], shape: tuple[int, int], row_indices: Integers, col_indices: Integers, values: Integers
+        cls: type[Self],
+        shape: tuple[int, int],
+        row_indices: Integers,
+        col_indices: Integers,
+        values: Integers,
+        modulus: Optional[int] = None,
     ) -> Self:
-        """Returns the matrix of triplets, where values with the same row and column are added. An entry is kept if its
-        sum is 0.
+        """Returns the matrix of triplets, where values with the same row and column are added, modulo 2^64 or modulo
+        `modulus`. An entry is kept if its sum is 0.
 
         >>> import numpy as np
         >>> a = Exact.from_triplets((2, 2), np.array([0, 0, 1]), np.array([0, 0, 1]), np.array([1, 2, 7]))
@@ -100,20 +126,22 @@ class Owned:
         [[3, 0], [0, 7]]
         """
         rows, cols = shape_of("shape", shape)
-        return cls._made("matrix_from_triplets", rows, cols, *triplets_of(row_indices, col_indices, values))
+        return cls._created("from_triplets", modulus, rows, cols, *triplets_of(row_indices, col_indices, values))
 
     @classmethod
-    def from_text(cls: type[Self], text: bytes) -> Self:
+    def from_text(cls: type[Self], text: bytes, modulus: Optional[int] = None) -> Self:
         """Returns the matrix of the bytes of a Matrix Market text with integers, where values with the same row and
-        column are added.
+        column are added, modulo 2^64 or modulo `modulus`.
 
         >>> a = Exact.from_text(b"%%MatrixMarket matrix coordinate integer symmetric\\n2 2 2\\n1 1 4\\n2 1 -3\\n")
         >>> a.toarray().tolist()
         [[4, -3], [-3, 0]]
         """
+        if modulus is not None:
+            return cls.from_triplets(*triplets_of_text(text), modulus=modulus)
         if not isinstance(text, bytes):
             raise TypeError(f"text must be bytes, not {type(text).__name__}")
-        made = cls._made("matrix_from_text", bytes(text))
+        made = cls._made("from_text", None, bytes(text))
         shape_of("the shape of the text", made._shape)
         return made
 
@@ -127,6 +155,8 @@ class Owned:
         1 2 1
         1 2 4
         """
+        if self._modulus is not None:
+            return type(self).from_scipy(self.tocsr()).to_text()
         # A line has at most 63 bytes, and there are at most three lines before those of the entries.
         text, length = empty(64 * (self._nnz + 3), np.uint8), ctypes.c_size_t()
         with self._own() as a:
@@ -178,13 +208,23 @@ class Owned:
         return self._nnz
 
     @property
+    def modulus(self) -> Optional[int]:
+        """The prime modulo which the matrix computes, or None: then it computes modulo 2^64.
+
+        >>> import numpy as np
+        >>> Exact.from_triplets((1, 1), np.array([0]), np.array([0]), np.array([9]), modulus=7).modulus
+        7
+        """
+        return self._modulus
+
+    @property
     def dtype(self) -> np.dtype[np.int64]:
-        """The type of the values: `int64`, which wraps."""
+        """The type of the values: `int64`, which wraps. Modulo a prime, the values are from 0 to `modulus` - 1."""
         return np.dtype(np.int64)
 
     def transpose(self: Self) -> Self:
         """Returns the transpose."""
-        return self._with("matrix_transpose")
+        return self._with("transpose")
 
     @property
     def T(self: Self) -> Self:  # noqa: N802
@@ -192,28 +232,34 @@ class Owned:
         return self.transpose()
 
     def __copy__(self: Self) -> Self:
-        return self._with("matrix_clone")
+        return self._with("clone")
 
     def __deepcopy__(self: Self, memo: Any) -> Self:
         return self.__copy__()
 
     def __reduce__(self) -> Any:
-        return type(self).from_scipy, (self.tocsr(),)
+        return type(self).from_scipy, (self.tocsr(), self._modulus)
 
     def __repr__(self) -> str:
         rows, cols = self._shape
-        return f"<Exact: {rows} by {cols} with {self._nnz} stored entries, modulo 2^64>"
+        return f"<Exact: {rows} by {cols} with {self._nnz} stored entries, modulo {ring_of(self._modulus)}>"
 
-    @classmethod
-    def _operand(cls: type[Self], other: Any) -> Optional[Self]:
+    def _operand(self: Self, other: Any) -> Optional[Self]:
         """Returns the operand of an operator as a matrix of this class: itself, or the one with the entries of a SciPy
-        matrix; None if it is not a matrix."""
+        matrix, which have the modulus of this one; None if it is not a matrix."""
         if sp.issparse(other):
-            return cls.from_scipy(other)
-        return other if isinstance(other, cls) else None
+            return type(self).from_scipy(other, self._modulus)
+        return other if isinstance(other, type(self)) else None
+
+    def _same_ring(self: Self, other: Self) -> None:
+        """Raises an error unless both matrices have the same modulus. The library refuses two primes, too."""
+        if self._modulus != other._modulus:
+            rings = f"modulo {ring_of(self._modulus)} and modulo {ring_of(other._modulus)}"
+            raise RingMismatch(f"the operands are {rings}: from_scipy(matrix.tocsr(), modulus=..) takes one of them to the other ring")
 
     def __eq__(self, other: Any) -> Any:
-        """Says whether two matrices have the same shape, entries at the same rows and columns, and the same values.
+        """Says whether two matrices have the same modulus and shape, entries at the same rows and columns, and the same
+        values.
 
         An entry with the value 0 is not the same as none: the difference of two matrices that differ in such entries
         has the value 0 everywhere.
@@ -221,12 +267,12 @@ class Owned:
         operand = self._operand(other)
         if operand is None:
             return NotImplemented
-        if (self._shape, self._nnz) != (operand._shape, operand._nnz):
+        if (self._modulus, self._shape, self._nnz) != (operand._modulus, operand._shape, operand._nnz):
             return False
         return all(map(np.array_equal, self._arrays(), operand._arrays()))
 
     def __hash__(self) -> int:
-        return hash((self._shape, self._nnz))
+        return hash((self._modulus, self._shape, self._nnz))
 
     def __bool__(self) -> bool:
         # As a SciPy matrix does.

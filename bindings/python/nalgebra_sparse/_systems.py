@@ -1,13 +1,14 @@
 """Solves, fill and factors. Matrices are square and by columns."""
 from __future__ import annotations
 
+import contextlib
 import ctypes
-from typing import Any, Optional
+from typing import Any, Iterator, Optional
 
 import numpy as np
 
 from ._calls import call
-from ._errors import Error
+from ._errors import Error, Singular, singular_at
 from ._matrices import subtract, transpose
 from ._operands import Integers, Lanes, Matrix, check_symmetric, dense_of, flag, modular, square_of
 from ._results import empty, matrix_of, with_room
@@ -58,7 +59,8 @@ def solve_symmetric(matrix: Matrix, b: Integers, modulus: Optional[int] = None, 
     [1, 6]
     """
     require_symmetric(matrix, modulus, assume_symmetric)
-    return _solved("solve_symmetric", modulus, matrix, b)
+    with _column_named(matrix, modulus):
+        return _solved("solve_symmetric", modulus, matrix, b)
 
 
 _TRIANGLES = {"upper": 0, "lower": 1, "both": 2}
@@ -108,6 +110,24 @@ def factor_symmetric(matrix: Matrix, modulus: Optional[int] = None, assume_symme
     ([[1, 0], [2, 1]], [1, 3])
     """
     require_symmetric(matrix, modulus, assume_symmetric)
+    with _column_named(matrix, modulus):
+        return factored(matrix, modulus)
+
+
+@contextlib.contextmanager
+def _column_named(matrix: Matrix, modulus: Optional[int]) -> Iterator[None]:
+    """Raises, in place of a `Singular`, one that names the column at which the factorisation of the matrix stops."""
+    try:
+        yield
+        return
+    except Singular:
+        column = _column_of(matrix, modulus)
+    raise singular_at(column, modulus)
+
+
+def factored(matrix: Matrix, modulus: Optional[int]) -> tuple[Matrix, Integers]:
+    """Returns the factors of the symmetric matrix with the entries of a matrix on and above the diagonal. Its `Singular`
+    does not name the column."""
     name, *start = modular("factor_symmetric", modulus)
     size, lanes = square_of("matrix", matrix)
     room = _fill_places(size, "upper", lanes)
@@ -130,8 +150,14 @@ def singular_column(matrix: Matrix, assume_symmetric: bool = False, modulus: Opt
     1
     """
     require_symmetric(matrix, modulus, assume_symmetric)
+    column = _column_of(matrix, modulus)
+    return column if column < matrix.shape[1] else None
+
+
+def _column_of(matrix: Matrix, modulus: Optional[int]) -> int:
+    """Returns that column, or the number of columns if there are factors."""
     name, *start = modular("factor_symmetric_pivot", modulus)
     size, lanes = square_of("matrix", matrix)
     column = ctypes.c_size_t()
     call(name, *start, size, *lanes.arrays, column)
-    return column.value if column.value < size else None
+    return column.value

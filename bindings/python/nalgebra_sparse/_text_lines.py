@@ -4,8 +4,10 @@ from __future__ import annotations
 import ctypes
 from typing import Any, Optional
 
-from ._calls import status_of
+from ._calls import call, status_of
 from ._errors import NOT_UTF8, IndexOutOfBounds, InvalidText, error_of
+from ._operands import Integers, shape_of
+from ._results import empty
 
 _DONE = 0
 
@@ -22,6 +24,18 @@ def read_text(name: str, text: bytes, *arguments: Any) -> None:
     located = type(error)(f"line {line}: {error}")
     located.line = line
     raise located
+
+
+def triplets_of_text(text: bytes) -> tuple[tuple[int, int], Integers, Integers, Integers]:
+    """Returns the shape of a text, and the rows, the columns and the values of its triplets."""
+    if not isinstance(text, bytes):
+        raise TypeError(f"text must be bytes, not {type(text).__name__}")
+    rows, cols, count = ctypes.c_size_t(), ctypes.c_size_t(), ctypes.c_size_t()
+    read_text("read_sizes", bytes(text), rows, cols, count)
+    shape = shape_of("the shape of the text", (rows.value, cols.value))
+    i, j, values = empty(count.value), empty(count.value), empty(count.value)
+    call("read", bytes(text), i, j, values, count)
+    return shape, i, j, values
 
 
 def _faulty_line(text: bytes) -> Optional[int]:

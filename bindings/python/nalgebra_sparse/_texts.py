@@ -1,18 +1,16 @@
 """Texts and files in Matrix Market format."""
 from __future__ import annotations
 
-import ctypes
 import os
 from typing import Any, BinaryIO, Union
 
 import numpy as np
 import scipy.sparse as sp
 
-from ._calls import call
 from ._operands import shape_of, triplets_of
 from ._owned import Owned
-from ._results import empty, with_room
-from ._text_lines import read_text
+from ._results import with_room
+from ._text_lines import triplets_of_text
 
 # A path, or a binary file that is open.
 File = Union[str, "os.PathLike[str]", BinaryIO]
@@ -28,13 +26,7 @@ def read(text: bytes) -> sp.coo_matrix:
     >>> a.row.tolist(), a.col.tolist(), a.data.tolist()
     ([0, 1, 0], [0, 0, 1], [4, -3, -3])
     """
-    if not isinstance(text, bytes):
-        raise TypeError(f"text must be bytes, not {type(text).__name__}")
-    rows, cols, count = ctypes.c_size_t(), ctypes.c_size_t(), ctypes.c_size_t()
-    read_text("read_sizes", bytes(text), rows, cols, count)
-    shape = shape_of("the shape of the text", (rows.value, cols.value))
-    i, j, values = empty(count.value), empty(count.value), empty(count.value)
-    call("read", bytes(text), i, j, values, count)
+    shape, i, j, values = triplets_of_text(text)
     return sp.coo_matrix((values, (i, j)), shape)
 
 

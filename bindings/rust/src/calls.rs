@@ -444,6 +444,61 @@ extern "C" {
     pub fn nalgebra_sparse_factors_clone(f: *mut FactorHandle, out: *mut FactorHandle) -> i32;
 
     pub fn nalgebra_sparse_factors_free(f: *mut FactorHandle);
+
+    pub fn nalgebra_sparse_ring_matrix_from_rows(
+        modulus: u64, rows: usize, cols: usize,
+        offsets: *const usize, offsets_len: usize,
+        indices: *const usize, indices_len: usize,
+        values: *const i64, values_len: usize,
+        out: *mut RingHandle,
+    ) -> i32;
+
+    pub fn nalgebra_sparse_ring_matrix_from_triplets(
+        modulus: u64, rows: usize, cols: usize,
+        row_indices: *const usize, row_indices_len: usize,
+        col_indices: *const usize, col_indices_len: usize,
+        values: *const i64, values_len: usize,
+        out: *mut RingHandle,
+    ) -> i32;
+
+    pub fn nalgebra_sparse_ring_matrix_sizes(
+        a: *mut RingHandle, out_modulus: *mut u64,
+        out_rows: *mut usize, out_cols: *mut usize, out_places: *mut usize,
+    ) -> i32;
+
+    pub fn nalgebra_sparse_ring_matrix_read(
+        a: *mut RingHandle,
+        out_offsets: *mut usize, out_offsets_len: usize,
+        out_indices: *mut usize, out_indices_len: usize,
+        out_values: *mut i64, out_values_len: usize,
+        out_places: *mut usize,
+    ) -> i32;
+
+    pub fn nalgebra_sparse_ring_matrix_transpose(a: *mut RingHandle, out: *mut RingHandle) -> i32;
+
+    pub fn nalgebra_sparse_ring_matrix_scale(factor: i64, a: *mut RingHandle, out: *mut RingHandle) -> i32;
+
+    pub fn nalgebra_sparse_ring_matrix_add(a: *mut RingHandle, b: *mut RingHandle, out: *mut RingHandle) -> i32;
+
+    pub fn nalgebra_sparse_ring_matrix_subtract(a: *mut RingHandle, b: *mut RingHandle, out: *mut RingHandle) -> i32;
+
+    pub fn nalgebra_sparse_ring_matrix_add_scaled(
+        alpha: i64, a: *mut RingHandle,
+        beta: i64, b: *mut RingHandle,
+        out: *mut RingHandle,
+    ) -> i32;
+
+    pub fn nalgebra_sparse_ring_matrix_multiply(a: *mut RingHandle, b: *mut RingHandle, out: *mut RingHandle) -> i32;
+
+    pub fn nalgebra_sparse_ring_matrix_multiply_dense(
+        a: *mut RingHandle, cols: usize,
+        b_values: *const i64, b_values_len: usize,
+        out_values: *mut i64, out_values_len: usize,
+    ) -> i32;
+
+    pub fn nalgebra_sparse_ring_matrix_clone(a: *mut RingHandle, out: *mut RingHandle) -> i32;
+
+    pub fn nalgebra_sparse_ring_matrix_free(a: *mut RingHandle);
 }
 
 /// `nalgebra_sparse_matrix` of the header: null means no matrix.
@@ -458,4 +513,11 @@ pub struct Handle {
 #[derive(Debug)]
 pub struct FactorHandle {
     pub factors: *mut std::ffi::c_void,
+}
+
+/// `nalgebra_sparse_ring_matrix` of the header: null means no matrix.
+#[repr(C)]
+#[derive(Debug)]
+pub struct RingHandle {
+    pub matrix: *mut std::ffi::c_void,
 }

@@ -38,6 +38,8 @@ pub enum Error {
     Unreadable,
     /// The shapes of the operands do not fit.
     ShapeMismatch,
+    /// The operands have different moduli.
+    RingMismatch,
     /// The matrix is not symmetric. Only the checked calls test this.
     NotSymmetric,
     /// The library returns a status that this version of the crate does not know.
@@ -64,6 +66,7 @@ impl fmt::Display for Error {
             Error::NonSquare => "a symmetric or skew-symmetric matrix is not square",
             Error::Unreadable => "the bytes of a text are not UTF-8",
             Error::ShapeMismatch => "the shapes of the operands do not fit",
+            Error::RingMismatch => "the operands have different moduli",
             Error::NotSymmetric => "the matrix is not symmetric",
         })
     }
@@ -95,6 +98,7 @@ pub(crate) fn answer(status: i32) -> Result<(), Error> {
         15 => Err(Error::NonSquare),
         16 => Err(Error::Unreadable),
         18 => Err(Error::ShapeMismatch),
+        19 => Err(Error::RingMismatch),
         // After 5 a call is repeated with the size that it tells, and the handle of a `Matrix` is never empty, which
         // is 17.
         _ => Err(Error::UnknownStatus(status)),

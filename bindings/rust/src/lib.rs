@@ -10,6 +10,7 @@ mod moduli;
 mod operations;
 mod operators;
 mod orders;
+mod ring_matrix;
 mod room;
 mod shared;
 mod symmetric;
@@ -27,6 +28,7 @@ pub use moduli::{
 };
 pub use operations::{add, add_scaled, assemble_csc, assemble_csr, divide, multiply, multiply_dense, subtract, transpose};
 pub use orders::Order;
+pub use ring_matrix::RingMatrix;
 pub use symmetric::{factor_symmetric_checked, factor_symmetric_mod_checked, solve_symmetric_checked, solve_symmetric_mod_checked};
 pub use systems::{fill, solve_lower, solve_symmetric, System, Triangle};
 pub use texts::{faulty_line, read, write, Triplets};

@@ -3,7 +3,7 @@
 use std::ptr;
 use std::sync::{Mutex, MutexGuard, PoisonError};
 
-use crate::calls::{self, FactorHandle, Handle};
+use crate::calls::{self, FactorHandle, Handle, RingHandle};
 use crate::error::answer;
 use crate::Error;
 
@@ -56,6 +56,22 @@ impl Kind for FactorHandle {
     unsafe fn free(handle: *mut Self) {
         // SAFETY: as the caller ensures.
         unsafe { calls::nalgebra_sparse_factors_free(handle) }
+    }
+}
+
+impl Kind for RingHandle {
+    fn empty() -> Self {
+        RingHandle { matrix: ptr::null_mut() }
+    }
+
+    unsafe fn share(from: *mut Self, to: *mut Self) -> i32 {
+        // SAFETY: as the caller ensures.
+        unsafe { calls::nalgebra_sparse_ring_matrix_clone(from, to) }
+    }
+
+    unsafe fn free(handle: *mut Self) {
+        // SAFETY: as the caller ensures.
+        unsafe { calls::nalgebra_sparse_ring_matrix_free(handle) }
     }
 }
 

@@ -31,6 +31,7 @@ number_of refusals.NonSquare = pos 15
 number_of refusals.Unreadable = pos 16
 number_of refusals.EmptyHandle = pos 17
 number_of refusals.ShapeMismatch = pos 18
+number_of refusals.RingMismatch = pos 19
 
 -- a status from which it follows that the operands have no fault: 0, TooSmall or Singular
 abbrev pub FindsNoFault : ℤ → Type 0

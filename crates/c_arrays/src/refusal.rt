@@ -51,6 +51,8 @@ pub enum Refusal {
     EmptyHandle,
     /// The shapes of the matrices behind handles do not match.
     ShapeMismatch,
+    /// The matrices behind handles have different moduli.
+    RingMismatch,
 }
 
 impl Refusal {
@@ -77,6 +79,7 @@ impl Refusal {
             Refusal::Unreadable => 16,
             Refusal::EmptyHandle => 17,
             Refusal::ShapeMismatch => 18,
+            Refusal::RingMismatch => 19,
         }
     }
 

@@ -4,5 +4,6 @@ pub mod Dense
 pub mod Factored
 pub mod Ordered
 pub mod Owned
+pub mod Rings
 pub mod Solved
 pub mod Texts

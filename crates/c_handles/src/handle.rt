@@ -6,9 +6,12 @@ ghost use Rattle.sparse_compressed.specs.Compressed.{Compressed};
 ghost use Rattle.c_handles.specs.Owned.{held_code, in_block, owns_at, value_of};
 ghost use Rattle.c_handles.specs.contracts.handle.SharedFactors.{the_row as factors_row};
 ghost use Rattle.c_handles.specs.contracts.handle.SharedMatrix.{the_row as matrix_row};
+ghost use Rattle.c_handles.specs.contracts.handle.SharedRingMatrix.{the_row as ring_row};
 ghost use Rattle.c_handles.specs.declared.held_factors.HeldFactors.{HeldFactors as HeldFactorsValue};
+ghost use Rattle.c_handles.specs.declared.ring_matrix.RingMatrix.{RingMatrix as RingMatrixValue};
 
 use crate::held_factors::HeldFactors;
+use crate::ring_matrix::RingMatrix;
 use sparse_algebra::scalar::W64;
 use sparse_csr_csc::csr::CsrMatrix;
 use std::alloc::Global;
@@ -189,6 +192,81 @@ impl FactorHandle {
         }
         Some(Block {
             at: at as *mut SharedFactors,
+        })
+    }
+}
+
+/// A CSR matrix over the residues modulo a number, and this number, which several handles may share.
+#[derive(Drop)]
+pub struct SharedRingMatrix {
+    pub(crate) matrix: Arc<RingMatrix>,
+}
+
+impl Model for SharedRingMatrix {
+    ghost use Rattle.c_handles.specs.contracts.ring_matrix.RingMatrix.{the_row as ring_row};
+    ghost use Rattle.c_handles.specs.declared.ring_matrix.RingMatrix.{RingMatrix as RingMatrixValue};
+    ghost use Rattle.std.specs.Arc.{arc_value};
+
+    ghost Value = { RingMatrixValue };
+
+    ghost coded = { ring_row.coded };
+
+    ghost view = { λ s. arc_value s.matrix };
+}
+
+/// The handle of a matrix over residues: an opaque pointer for C, which owns a heap block with the matrix. An empty
+/// handle is null.
+#[repr(C)]
+pub struct RingHandle {
+    at: *mut (),
+    pub ghost value: { Option RingMatrixValue } by { held_code ring_row },
+}
+
+impl Model for RingHandle {
+    ghost also_owns = { λ h. owns_at ring_row h.at h.value };
+}
+
+// A `SharedRingMatrix` may be sent to another thread, and so may the block that holds it.
+unsafe impl Send for RingHandle {}
+
+impl RingHandle {
+    /// Returns an empty handle.
+    pub(crate) fn empty() -> RingHandle
+        ensures { result.value ≡ None }
+    {
+        RingHandle {
+            at: ptr::null_mut(),
+        }
+    }
+
+    /// Converts a block with a matrix to a handle.
+    pub(crate) fn of(block: Block<SharedRingMatrix>) -> RingHandle
+        ensures { result.value ≡ Some block.value }
+    {
+        let Block { at } = block;
+        RingHandle { at: at as *mut () }
+    }
+
+    /// Returns a box with the matrix, or `None` if the handle is empty.
+    pub(crate) fn into_box(self, alloc: Global) -> Option<Box<SharedRingMatrix>>
+        ensures { value_of result ≡ self.value }
+    {
+        match self.into_block() {
+            None => None,
+            Some(block) => Some(block.into_box(alloc)),
+        }
+    }
+
+    // Returns the block with the matrix, or `None` if the handle is empty.
+    fn into_block(self) -> Option<Block<SharedRingMatrix>>
+        ensures { MatchOption result (self.value ≡ None) (λ b. self.value ≡ Some b.value) }
+    {
+        let RingHandle { at } = self;
+        if at.is_null() {
+            return None;
+        }
+        Some(Block {
+            at: at as *mut SharedRingMatrix,
         })
     }
 }

@@ -24,6 +24,9 @@ use std::io;
 use std::process::ExitCode;
 use std::rt::Files;
 
+const NEGATIVE_SCALE: &str =
+    "\nK is 0 or more: mtxkit multiplies the numbers by 10^K, and does not divide them.\n";
+
 /// Runs the command that the arguments give, and returns the exit status. The file `-` is read from `stdin`.
 ///
 /// The first argument is the program's name. An argument that is not UTF-8 is wrong usage. The result and help are
@@ -206,11 +209,21 @@ fn explain<W: Sink, E: Sink>(alloc: Global, error: &clap::Error, out: &mut W, er
     if error.use_stderr() {
         // An error in writing the text is ignored.
         let _ = write_all_to(err, text.as_bytes());
+        let _ = write_all_to(err, addition(text.as_str()).as_bytes());
         return 2;
     }
     match write_all_to(out, text.as_bytes()) {
         Ok(()) => 0,
         Err(kind) => report_write(alloc, kind, err),
+    }
+}
+
+// Returns what is added to a message of `clap`: one about a negative power of ten says what is done with it.
+fn addition(message: &str) -> &'static str {
+    if message.contains("'--scale <K>': -") {
+        NEGATIVE_SCALE
+    } else {
+        ""
     }
 }
 

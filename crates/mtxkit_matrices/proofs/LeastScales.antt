@@ -57,13 +57,14 @@ module _ (line : List ℕ) (behind : List (List ℕ)) (words : List (List ℕ)) 
 
 module _ (scale : ℕ) where
   scaled_here : (format : Format) (read : List (List (List ℕ))) (words : List (List ℕ))
-      (more entries : List (List (List ℕ))) → AreScaled scale format (read ++ (words ∷ more)) entries
+      (others entries : List (List (List ℕ)))
+      → AreScaled scale format (read ++ (words ∷ others)) entries
       → (entry : List (List ℕ)) × IsScaledEntry scale format words entry
-  scaled_here format [] words more [] h = absurd h
-  scaled_here format [] words more (entry ∷ entries) h = (entry, h.0)
-  scaled_here format (first ∷ read) words more [] h = absurd h
-  scaled_here format (first ∷ read) words more (entry ∷ entries) h =
-      scaled_here format read words more entries h.1
+  scaled_here format [] words others [] h = absurd h
+  scaled_here format [] words others (entry ∷ entries) h = (entry, h.0)
+  scaled_here format (first ∷ read) words others [] h = absurd h
+  scaled_here format (first ∷ read) words others (entry ∷ entries) h =
+      scaled_here format read words others entries h.1
 
   -- the value of the line is an integer
   value_here : (format : Format) (places : List (List ℕ)) (value : List ℕ) (entry : List (List ℕ))
@@ -88,7 +89,7 @@ module _ (scale : ℕ) where
 
 pub no_less : (text : List ℕ) (n scale least : ℕ) → HasNoValue (Fraction (Some least)) scale text n
     → (less : ℕ) → less < least → CanBeScaled less text → ⊥
-no_less text n scale least (line, words, l, are, h, below, content, misfit) less lt (written, t) =
+no_less text n scale least (line, words, l, are, (h, below, content, misfit)) less lt (written, t) =
     misfit.not.1.1 less lt value.0 value.1
   where
     headed : IsHeaded text h ((below.size ∷ below.read) ++ (words ∷ contents_in l.behind))

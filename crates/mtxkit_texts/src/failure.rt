@@ -92,7 +92,7 @@ impl Display for Failure {
         let reason = self.reason();
         match self {
             Failure::Unread(_, error) | Failure::Unsaved(error) => write!(f, "{error}"),
-            Failure::Input(_, _, location) => Display::fmt(&location.fault, f),
+            Failure::Input(_, _, location) => Display::fmt(location, f),
             Failure::NotSquare(size) => write!(f, "{reason}: {size}"),
             Failure::NotSymmetric(at) | Failure::NotSolution(at) => {
                 write!(f, "{reason} is in {at}")

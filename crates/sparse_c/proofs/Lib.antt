@@ -2,6 +2,8 @@ mod ValidOperands
 mod Combined
 mod Factoring
 mod HeldFactors
+mod HeldMatrices
+mod HeldResults
 mod Quotients
 mod Solving
 mod Unreadable

@@ -2,7 +2,9 @@ pub mod Combinations
 pub mod Dense
 pub mod Factors
 pub mod Fills
+pub mod HeldRings
 pub mod InnerModulusLaws
+pub mod InnerTaskLaws
 pub mod Moduli
 pub mod Orders
 pub mod Pivots
@@ -12,4 +14,5 @@ pub mod Scalars
 pub mod Solved
 pub mod Symmetric
 pub mod Systems
+pub mod Tasks
 pub mod Texts

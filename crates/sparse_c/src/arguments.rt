@@ -82,6 +82,14 @@ pub(crate) struct Quotient<'a> {
     ghost in_range: { FitsSigned w64 divisor },
 }
 
+/// A CSR matrix, and the integer that it is multiplied by.
+#[derive(Drop)]
+pub(crate) struct Multiple<'a> {
+    pub(crate) factor: i64,
+    pub(crate) a: Lanes<'a>,
+    ghost in_range: { FitsSigned w64 factor },
+}
+
 /// A square CSC matrix. Its entries on and above the diagonal are those of the symmetric matrix to be factored.
 #[derive(Drop)]
 pub(crate) struct Factored<'a> {

@@ -14,6 +14,7 @@ ghost use Rattle.c_handles.specs.Narrow.{IsUnwrittenNarrow};
 
 pub(crate) mod operations;
 pub(crate) mod orders;
+pub(crate) mod rings;
 pub(crate) mod systems;
 pub(crate) mod texts;
 

@@ -3,6 +3,7 @@
 ghost use Rattle.sparse_parser.specs.Errors.{kind_of_cause};
 ghost use Rattle.sparse_faults.specs.LineFaults.{IsFaultOfKind};
 
+use crate::quote::Quote;
 use sparse_parser::error::Cause;
 use std::fmt::{self, Debug, Display, Formatter, Write};
 
@@ -107,6 +108,42 @@ impl LineFault {
                 "an entry above the diagonal; a symmetry takes the lower triangle",
             LineFault::OnDiagonal => "a skew-symmetric matrix has no entries on the diagonal",
         }
+    }
+}
+
+impl LineFault {
+    // Writes the message with the word that has the fault.
+    pub(crate) fn quote<W: Write>(self, word: Quote, f: &mut Formatter<W>) -> fmt::Result {
+        match self {
+            LineFault::Header => quote_header(self, word, f),
+            LineFault::Size => write!(
+                f,
+                "{word} is no size; expected rows, columns and, in the format coordinate, entries"
+            ),
+            LineFault::Entry => write!(f, "{word} is no number"),
+            LineFault::IndexTooLarge => write!(f, "the index {word} does not fit in 64 bits"),
+            LineFault::Value => write!(f, "{word} is no integer of 128 bits"),
+            LineFault::NarrowValue => write!(f, "{word} is no integer of 64 bits"),
+            _ => Display::fmt(&self, f),
+        }
+    }
+}
+
+// Writes the message about a word of a header.
+fn quote_header<W: Write>(fault: LineFault, word: Quote, f: &mut Formatter<W>) -> fmt::Result {
+    match word.position() {
+        1 => write!(f, "no object is named {word}; expected matrix"),
+        2 => write!(f, "no format is named {word}; expected coordinate or array"),
+        3 => write!(
+            f,
+            "no field is named {word}; expected real, complex, integer or pattern"
+        ),
+        4 => write!(
+            f,
+            "no symmetry is named {word}; expected general, symmetric, skew-symmetric or hermitian"
+        ),
+        5 => write!(f, "the header has a sixth word, {word}"),
+        _ => Display::fmt(&fault, f),
     }
 }
 

@@ -12,18 +12,31 @@ ghost use Rattle.sparse_faults.specs.ValueTypes.{scalar_as};
 use crate::counted_lines::{first_content, last_line};
 use crate::fault::LineFault;
 use crate::line_faults::{Search, line_fault};
+use crate::quote::{Quote, word_at_fault};
 use crate::value_type::ValueType;
 use sparse_parser::error::Cause;
 use sparse_parser::header::Header;
 use sparse_parser::size::Size;
+use std::fmt::{self, Display, Formatter, Write};
 
-/// A line of a text and its fault.
+/// A line of a text and its fault. `Display` writes the message of the fault, without the number of the line.
 #[derive(Clone, Copy, Debug)]
 pub struct Location {
     /// The number of the line, counted from 1; that of the last line if the text ends too early.
     pub line: usize,
     /// The fault.
     pub fault: LineFault,
+    /// The word that has the fault, if one has.
+    pub word: Option<Quote>,
+}
+
+impl Display for Location {
+    fn fmt<W: Write>(&self, f: &mut Formatter<W>) -> fmt::Result {
+        match self.word {
+            Some(word) => self.fault.quote(word, f),
+            None => Display::fmt(&self.fault, f),
+        }
+    }
 }
 
 // The header of a text, the number of its line, and the text below it.
@@ -81,6 +94,7 @@ fn sizes_of(text: &[u8]) -> Result<Sizes<'_>, Location>
         Err(end) => return Err(Location {
             line: last_line(end),
             fault: LineFault::Size,
+            word: None,
         }),
     };
     match Size::from_line(head.header, found.line) {
@@ -94,6 +108,7 @@ fn sizes_of(text: &[u8]) -> Result<Sizes<'_>, Location>
         None => Err(Location {
             line: found.number,
             fault: LineFault::Size,
+            word: word_at_fault(LineFault::Size, found.line),
         }),
     }
 }
@@ -108,6 +123,7 @@ fn head_of(text: &[u8]) -> Result<Head<'_>, Location>
         Err(end) => return Err(Location {
             line: last_line(end),
             fault: LineFault::Header,
+            word: None,
         }),
     };
     match Header::from_line(found.line) {
@@ -119,6 +135,7 @@ fn head_of(text: &[u8]) -> Result<Head<'_>, Location>
         None => Err(Location {
             line: found.number,
             fault: LineFault::Header,
+            word: word_at_fault(LineFault::Header, found.line),
         }),
     }
 }
@@ -135,6 +152,7 @@ fn sizes_fault(sizes: Sizes<'_>, cause: Cause) -> Location
     Location {
         line,
         fault: LineFault::of_size(cause),
+        word: None,
     }
 }
 
@@ -153,10 +171,12 @@ fn entries_fault(sizes: Sizes<'_>, size: Size, count: usize, values: ValueType) 
         Some(wanted) => return Some(Location {
             line,
             fault: LineFault::Count(wanted, count),
+            word: None,
         }),
         None => return Some(Location {
             line,
             fault: LineFault::TooMany,
+            word: None,
         }),
     }
     match first_fault(Search::Entries(sizes.header, values), sizes.below, line + 1) {
@@ -188,7 +208,8 @@ fn first_fault(search: Search, text: &[u8], first: usize) -> Result<usize, Locat
         if let Some(fault) = line_fault(search, found.line) {
             return Err(Location {
                 line: found.number,
-                fault,
+                fault: fault,
+                word: word_at_fault(fault, found.line),
             });
         }
         rest = found.below;

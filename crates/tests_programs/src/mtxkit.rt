@@ -253,6 +253,18 @@ fn each_refusal_has_its_line(rt: HostRuntime) {
     }
 }
 
+// Whether a negative power of ten is refused, with this at the end.
+fn is_not_divided(rt: &HostRuntime, end: &str) -> Result<bool, AllocError> {
+    let answer = answered(rt, &["integer", "--scale", "-1", "-"], &[], &[])?;
+    Ok(answer.status == ExitCode::from(2) && answer.err.ends_with(end.as_bytes()))
+}
+
+#[test]
+fn negative_powers_of_ten_have_words_of_their_own(rt: HostRuntime) {
+    let end = "\nK is 0 or more: mtxkit multiplies the numbers by 10^K, and does not divide them.\n";
+    assert!(rt; matches!(is_not_divided(&rt, end), Ok(true)));
+}
+
 // The error of a write, and the status and the line of a command whose output fails so.
 const UNWRITTEN: [(i32, u8, &str); 3] = [
     (

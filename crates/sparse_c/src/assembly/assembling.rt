@@ -33,7 +33,10 @@ impl<'a> Call<OutputArrays<'a>> for Triplets<'_> {
 }
 
 // Returns the CSR matrix of the triplets, or the CSR matrix of its transpose, which has the arrays of the CSC matrix.
-fn assembled<T: Number>(alloc: Global, triplets: Triplets<'_>) -> Result<CsrMatrix<T>, Refusal>
+pub(crate) fn assembled<T: Number>(
+    alloc: Global,
+    triplets: Triplets<'_>,
+) -> Result<CsrMatrix<T>, Refusal>
     ensures plain { IfOk result
         (λ m. plain_of_rows T.ring T.value m ≡ assembly_of T.ring triplets.entry) }
     ensures sound { let t = triplets.entry in OnOk result

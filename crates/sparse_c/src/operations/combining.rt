@@ -62,7 +62,7 @@ fn scales<T: Number>(how: Combination, alpha: i64, beta: i64) -> Option<(T, T)>
 }
 
 // Returns the combination of two CSR matrices.
-fn combined<T: Number>(alloc: Global, pair: Pair<'_>) -> Result<CsrMatrix<T>, Refusal>
+pub(crate) fn combined<T: Number>(alloc: Global, pair: Pair<'_>) -> Result<CsrMatrix<T>, Refusal>
     requires { CanCombine pair }
     ensures plain { IfOk result
         (λ m. plain_of_rows T.ring T.value m ≡ combination_of T.ring pair.entry) }

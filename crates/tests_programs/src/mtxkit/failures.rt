@@ -13,6 +13,7 @@ const TEXTS: &[(Failure, &str)] = &[
             Location {
                 line: 3,
                 fault: LineFault::Count(4, 5),
+                word: None,
             },
         ),
         "4 entries expected, 5 found",

@@ -22,6 +22,27 @@ pub const LINE_CASES: &[LineCase] = &[
         "\n\n%%MatrixMarket matrix\n1 1 0\n",
         "3: no header; expected %%MatrixMarket matrix and a format, a field and a symmetry",
     ),
+    // A word of a header that has another name is quoted, up to 24 bytes of it.
+    (
+        "%%matrixmarket vector coordinate integer general\n",
+        "1: no object is named 'vector'; expected matrix",
+    ),
+    (
+        "%%MatrixMarket matrix Coordinates integer general\n",
+        "1: no format is named 'Coordinates'; expected coordinate or array",
+    ),
+    (
+        "%%MatrixMarket MATRIX coordinate integr general\n",
+        "1: no field is named 'integr'; expected real, complex, integer or pattern",
+    ),
+    (
+        "%%MatrixMarket matrix array integer symmetric-or-unsymmetric-as-it-comes\n",
+        "1: no symmetry is named 'symmetric-or-unsymmetric..'; expected general, symmetric, skew-symmetric or hermitian",
+    ),
+    (
+        "%%MatrixMarket matrix array integer general \u{b5}\\\n",
+        "1: the header has a sixth word, '\\xc2\\xb5\\'",
+    ),
     (
         "%%MatrixMarket matrix coordinate integer hermitian\n1 1 0\n",
         "1: only complex matrices are hermitian",
@@ -32,6 +53,14 @@ pub const LINE_CASES: &[LineCase] = &[
     ),
     (
         "%%MatrixMarket matrix coordinate integer general\n% none\n",
+        "2: no size line; expected rows, columns and, in the format coordinate, entries",
+    ),
+    (
+        "%%MatrixMarket matrix coordinate integer general\n2 2 -1\n",
+        "2: '-1' is no size; expected rows, columns and, in the format coordinate, entries",
+    ),
+    (
+        "%%MatrixMarket matrix coordinate integer general\n2\n",
         "2: no size line; expected rows, columns and, in the format coordinate, entries",
     ),
     (
@@ -49,6 +78,10 @@ pub const LINE_CASES: &[LineCase] = &[
     // The grammar of all lines comes first.
     (
         "%%MatrixMarket matrix coordinate integer symmetric\n2 3 1\n1 one 1\n",
+        "3: 'one' is no number",
+    ),
+    (
+        "%%MatrixMarket matrix coordinate integer general\n2 3 1\n1 1 1 1 1\n",
         "3: no entry; expected numbers",
     ),
     (
@@ -90,11 +123,11 @@ pub const LINE_CASES: &[LineCase] = &[
     ),
     (
         "%%MatrixMarket matrix coordinate integer general\n2 2 1\n1 18446744073709551616 1\n",
-        "3: an index does not fit in 64 bits",
+        "3: the index '18446744073709551616' does not fit in 64 bits",
     ),
     (
         "%%MatrixMarket matrix coordinate integer general\n2 2 1\n1 1 1.5\n",
-        "3: the value is no integer of 128 bits",
+        "3: '1.5' is no integer of 128 bits",
     ),
     (
         "%%MatrixMarket matrix coordinate integer skew-symmetric\n2 2 1\n2 1 -170141183460469231731687303715884105728\n",

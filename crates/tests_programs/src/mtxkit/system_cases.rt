@@ -166,14 +166,14 @@ pub const CHECK_CASES: &[SystemCase] = &[
         &["check"],
         &[A, "2 1 x\n", "2 1 0\n"],
         Err(
-            "mtxkit: 1.mtx:2: no size line; expected rows, columns and, in the format coordinate, entries\n",
+            "mtxkit: 1.mtx:2: 'x' is no size; expected rows, columns and, in the format coordinate, entries\n",
         ),
     ),
     (
         &["check"],
         &[A, "2 1 0\n", "2 1 x\n"],
         Err(
-            "mtxkit: 2.mtx:2: no size line; expected rows, columns and, in the format coordinate, entries\n",
+            "mtxkit: 2.mtx:2: 'x' is no size; expected rows, columns and, in the format coordinate, entries\n",
         ),
     ),
 ];

@@ -1,6 +1,6 @@
 use Rattle.std.proofs.Common.{refl, true, sym, ◌∙◌}
 use Rattle.sparse_faults.proofs.LineWords.{index_is, within_pair}
-use Rattle.sparse_faults.proofs.line_faults.bounds_fault.Goals as goal
+use Rattle.sparse_faults.proofs.bounds.bounds_fault.Goals as goal
 
 pub returns-in-Two : goal.returns-in-Two
 returns-in-Two c =
