@@ -117,7 +117,8 @@ fn push_rows(alloc: Global, json: &mut String, rows: &Histogram) -> Result<(), A
     json.push_str(",\"rows_by_their_places\":[")?;
     push_bars(alloc, json, rows)?;
     json.push_str("]")?;
-    push_end(json)
+    push_end(json)?;
+    Ok(())
 }
 
 // Appends an object for each count of the histogram.
