@@ -15,7 +15,8 @@ _mtxkit() {
     order) [ "$COMP_CWORD" -ne 2 ] || words="amd rcm" ;;
     fill) words="--order --json" ;;
     eval) words="--mod --rows --columns" ;;
-    solve | check) words="--mod" ;;
+    solve) words="--mod --order" ;;
+    check) words="--mod" ;;
     help)
         mapfile -t COMPREPLY < <(compgen -W "info spy copy field integer symmetric order permute fill eval solve check" -- "$word")
         return

@@ -16,4 +16,5 @@ complete -c mtxkit -n '__fish_seen_subcommand_from eval' -l columns -d 'column b
 complete -c mtxkit -n '__fish_seen_subcommand_from integer' -l scale -x -d 'the power of ten'
 complete -c mtxkit -n '__fish_seen_subcommand_from order' -a 'amd rcm' -d 'how the order is computed'
 complete -c mtxkit -n '__fish_seen_subcommand_from fill' -l order -r -a 'natural amd rcm' -d 'an order, or its file'
+complete -c mtxkit -n '__fish_seen_subcommand_from solve' -l order -x -a 'amd natural rcm' -d 'the order of elimination'
 complete -c mtxkit -n '__fish_seen_subcommand_from eval solve check' -l mod -x -a '2 3 5 7 11 13 101 65537 998244353 1000000007 2305843009213693951' -d 'a listed prime'

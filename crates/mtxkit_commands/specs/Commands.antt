@@ -15,6 +15,7 @@ use Rattle.mtxkit_texts.specs.Shown.{ShowsBitmap, ShowsBlocks, ShowsSvg}
 use Rattle.mtxkit_texts.specs.declared.failure.Failure.{Failure}
 use Rattle.mtxkit_texts.specs.declared.failure.Failure.TheVariants.{Unsaved, OutOfMemory}
 use Rattle.mtxkit_texts.specs.Statuses.{status_of}
+use Rattle.mtxkit_matrices.specs.declared.orders.EliminationOrder.{EliminationOrder}
 use Rattle.mtxkit_matrices.specs.ScaleFailures.{IsScaleFailure}
 use Rattle.mtxkit_matrices.specs.ScaledTexts.{IsLeastTextScale, IsScaledText}
 use Rattle.mtxkit_matrices.specs.declared.decimals.error.ScaleError.{ScaleError}
@@ -110,7 +111,7 @@ IsAnswer (Fill file order form) old new written =
     IsFillAnswer order form file.now old new written
 IsAnswer (Eval modulus order words files) old new written =
     IsEvalAnswer modulus order words.now (paths files.now) old new written
-IsAnswer (Solve modulus a b) old new written = IsSolveAnswer modulus a.now b.now old new written
+IsAnswer (Solve modulus order a b) old new written = IsSolveAnswer modulus a.now b.now old new written
 IsAnswer (Check modulus a x b) old new written =
     IsCheckAnswer modulus a.now x.now b.now old new written
 
@@ -120,10 +121,11 @@ IsFieldFailureOf Integers text failure = IsValuesFailure 1 text failure
 IsFieldFailureOf Pattern text failure = IsPlacesFailure 1 text failure
 
 -- why `solve` fails: one of the files of A and B cannot be read, or the system of their texts is not solved
-abbrev pub IsUnsolved : Option ℕ → List ℕ → List ℕ → List Reading → List Reading → Failure → Type 0
-IsUnsolved modulus a b old new failure = IsUnread 1 a old new failure
+abbrev pub IsUnsolved : Option ℕ → EliminationOrder → List ℕ → List ℕ → List Reading → List Reading
+    → Failure → Type 0
+IsUnsolved modulus order a b old new failure = IsUnread 1 a old new failure
     ⊎ (IsSecondUnread a b old new failure
-    ⊎ ReadsTwo a b (λ first second. IsSolveFailure modulus first second failure) old new)
+    ⊎ ReadsTwo a b (λ first second. IsSolveFailure modulus order first second failure) old new)
 
 -- why `check` fails: one of the files of A, X and B cannot be read, or their texts do not confirm that A X = B
 abbrev pub IsUnchecked : Option ℕ → List ℕ → List ℕ → List ℕ → List Reading → List Reading → Failure
@@ -165,7 +167,8 @@ IsFailure (Permute order file) old new failure =
 IsFailure (Fill file order form) old new failure = IsFillFailure order file.now old new failure
 IsFailure (Eval modulus order words files) old new failure =
     IsEvalFailed modulus words.now (paths files.now) old new failure
-IsFailure (Solve modulus a b) old new failure = IsUnsolved modulus a.now b.now old new failure
+IsFailure (Solve modulus order a b) old new failure =
+    IsUnsolved modulus order a.now b.now old new failure
 IsFailure (Check modulus a x b) old new failure =
     IsUnchecked modulus a.now x.now b.now old new failure
 

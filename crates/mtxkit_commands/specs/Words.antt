@@ -8,6 +8,8 @@ use Rattle.sparse_expr.specs.declared.calculator.OutputOrder.TheVariants.{Rows}
 use Rattle.mtxkit_texts.specs.declared.facts.Form.{Form}
 use Rattle.mtxkit_texts.specs.declared.facts.Form.TheVariants.{Lines}
 use Rattle.mtxkit_commands.specs.Names.{target_file, paths}
+use Rattle.mtxkit_matrices.specs.declared.orders.EliminationOrder.{EliminationOrder}
+use Rattle.mtxkit_matrices.specs.declared.orders.EliminationOrder.TheVariants as elimination
 use Rattle.mtxkit_patterns.specs.declared.square.Method.{Method}
 use Rattle.mtxkit_patterns.specs.declared.square.Method.TheVariants.{MinimumDegree}
 use Rattle.mtxkit_patterns.specs.declared.square.Method.TheVariants.{ReverseCuthillMckee}
@@ -36,7 +38,7 @@ command_name (Order file method) = codes "order"
 command_name (Permute order file) = codes "permute"
 command_name (Fill file order form) = codes "fill"
 command_name (Eval modulus order words files) = codes "eval"
-command_name (Solve modulus a b) = codes "solve"
+command_name (Solve modulus order a b) = codes "solve"
 command_name (Check modulus a x b) = codes "check"
 
 -- the argument for these values
@@ -75,6 +77,17 @@ IsOrderNamed name (fill.File path) = path.now ≡ name
 abbrev pub GivesOrder : Option (List ℕ) → FillOrder → Type 0
 GivesOrder None order = order ≡ fill.Natural
 GivesOrder (Some name) order = IsOrderNamed name order
+
+-- the name of an order of elimination
+abbrev pub elimination_name : EliminationOrder → List ℕ
+elimination_name elimination.Natural = codes "natural"
+elimination_name elimination.MinimumDegree = codes "amd"
+elimination_name elimination.ReverseCuthillMckee = codes "rcm"
+
+-- the order of elimination has the name that is given, or is minimum degree if none is
+abbrev pub GivesElimination : Option (List ℕ) → EliminationOrder → Type 0
+GivesElimination None order = order ≡ elimination.MinimumDegree
+GivesElimination (Some name) order = name ≡ elimination_name order
 
 -- the argument with this name is this text
 abbrev pub IsArgument : Found → List ℕ → List ℕ → Type 0
@@ -117,8 +130,9 @@ GivesCommand words (Eval modulus order expression files) =
     IsArgument words (codes "EXPR") expression.now × AreArguments words (codes "FILE") (paths files.now)
     × (one_text words (codes "columns") ≡ None → order ≡ Rows)
     × (one_text words (codes "mod") ≡ None → modulus ≡ None)
-GivesCommand words (Solve modulus a b) = IsArgument words (codes "A") a.now
+GivesCommand words (Solve modulus order a b) = IsArgument words (codes "A") a.now
     × IsArgument words (codes "B") b.now × (one_text words (codes "mod") ≡ None → modulus ≡ None)
+    × GivesElimination (first_value words (codes "order")) order
 GivesCommand words (Check modulus a x b) = IsArgument words (codes "A") a.now
     × IsArgument words (codes "X") x.now × IsArgument words (codes "B") b.now
     × (one_text words (codes "mod") ≡ None → modulus ≡ None)

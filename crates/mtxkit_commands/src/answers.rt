@@ -90,7 +90,7 @@ fn solution_of<T: Texts>(
     ensures answer { IfOk result (λ answer. IsSolveAnswer modulus a.now b.now
         (T.readings texts.old) (T.readings texts.new) (string_bytes answer)) }
     ensures failed { IfErr result
-        (IsUnsolved modulus a.now b.now (T.readings texts.old) (T.readings texts.new)) }
+        (IsUnsolved modulus order a.now b.now (T.readings texts.old) (T.readings texts.new)) }
 {
     let first = read_text(texts, 1, a)?;
     let second = read_text(texts, 2, b)?;

@@ -10,7 +10,8 @@ ghost use Rattle.sparse_expr.specs.declared.calculator.OutputOrder.TheVariants.{
 ghost use Rattle.mtxkit_commands.specs.Commands.{IsSized};
 ghost use Rattle.mtxkit_commands.specs.Names.{target_file};
 ghost use Rattle.mtxkit_commands.specs.Words.{command_name, field_name, size_given};
-ghost use Rattle.mtxkit_commands.specs.Words.{GivesCommand, GivesForm, GivesMethod, GivesOrder, IsNamedFile};
+ghost use Rattle.mtxkit_commands.specs.Words.{GivesCommand, GivesElimination, GivesForm};
+ghost use Rattle.mtxkit_commands.specs.Words.{GivesMethod, GivesOrder, IsNamedFile};
 
 use crate::command_line::command_line;
 use crate::commands::{Command, FillOrder, Target, Values};

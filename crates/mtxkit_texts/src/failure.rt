@@ -72,7 +72,8 @@ impl Failure {
             Failure::Wide(_) => "a value or a sum of repeated entries does not fit in 64 bits",
             Failure::Overflow(_) => "a sum of repeated entries does not fit in 128 bits",
             Failure::NotSquare(_) => "not square",
-            Failure::NotSymmetric(_) => "not symmetric; row by row, the first value that differs from its mirror image",
+            Failure::NotSymmetric(_) =>
+                "not symmetric; row by row, the first value that differs from its mirror image",
             Failure::Shapes(_, _) | Failure::ProductShapes(_, _, _) => "shapes do not fit",
             Failure::NoFactors(_, _) => "another --mod or --order may have one",
             Failure::NotSolution(_) => "A X is not B; row by row, the first value that differs",
@@ -102,7 +103,11 @@ impl Display for Failure {
                 write!(f, "{reason}: A is {a}, X is {x}, B is {b}")
             }
             Failure::NoFactors(modulus, pivot) => {
-                write!(f, "{pivot} has no inverse modulo {}; {reason}", Modulus(*modulus))
+                write!(
+                    f,
+                    "{pivot} has no inverse modulo {}; {reason}",
+                    Modulus(*modulus)
+                )
             }
             Failure::Write(kind) => write!(f, "{reason}: {kind}"),
             _ => f.write_str(reason),
