@@ -26,7 +26,7 @@ const JSON_CASES: &[JsonCase] = &[
         &["fill", "--order", "amd", "--json", "-"],
         SYMMETRIC,
         "/height_of_the_elimination_tree",
-        3,
+        2,
     ),
 ];
 
