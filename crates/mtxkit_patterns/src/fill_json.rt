@@ -1,6 +1,8 @@
 //! Writes the counts of `mtxkit fill` in JSON.
 
-ghost use Rattle.std.specs.Prelude.{◌≡◌, ◌++◌, IfOk, OnOk, string_bytes};
+ghost use Rattle.std.specs.Prelude.{◌≡◌, ◌++◌, IfOk, OnOk, codes, string_bytes};
+ghost use Rattle.std.specs.Fmt.{decimal};
+ghost use Rattle.mtxkit_texts.specs.Json.{first_member};
 ghost use Rattle.mtxkit_patterns.specs.FillJson.{cost_members, fill_json, fill_members};
 ghost use Rattle.mtxkit_patterns.specs.FillJson.{place_members};
 
@@ -27,8 +29,7 @@ fn push_places(alloc: Global, json: &mut String, counts: FillCounts) -> Result<(
     ensures { OnOk result
         (string_bytes json.new ≡ string_bytes json.old ++ place_members counts) }
 {
-    let places = format!(in alloc; "{}", counts.places)?;
-    push_first(json, "places", places.as_str())?;
+    push_own_places(alloc, json, counts.places)?;
     push_number(
         alloc,
         json,
@@ -36,6 +37,15 @@ fn push_places(alloc: Global, json: &mut String, counts: FillCounts) -> Result<(
         counts.lower as u128,
     )?;
     push_number(alloc, json, "places_of_the_factor", counts.factor as u128)
+}
+
+// Appends the beginning of the object, and the member of the places of the matrix.
+fn push_own_places(alloc: Global, json: &mut String, places: usize) -> Result<(), AllocError>
+    ensures { OnOk result (string_bytes json.new
+        ≡ string_bytes json.old ++ first_member (codes "places") (decimal places)) }
+{
+    let number = format!(in alloc; "{places}")?;
+    push_first(json, "places", number.as_str())
 }
 
 // Appends the members of the fill.
