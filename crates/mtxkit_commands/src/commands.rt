@@ -171,7 +171,7 @@ impl<'a> Command<'a> {
         }
     }
 
-    fn second_file(self) -> Option<&'a str>
+    pub(crate) fn second_file(self) -> Option<&'a str>
         ensures { option_map (λ path. path.now) result ≡ second_file self.entry }
     {
         match self {
@@ -183,7 +183,7 @@ impl<'a> Command<'a> {
         }
     }
 
-    fn third_file(self) -> Option<&'a str>
+    pub(crate) fn third_file(self) -> Option<&'a str>
         ensures { option_map (λ path. path.now) result ≡ third_file self.entry }
     {
         match self {
@@ -192,7 +192,7 @@ impl<'a> Command<'a> {
         }
     }
 
-    /// Returns the path of the file that a failure of the command is about, if it is about one.
+    /// Returns the path of the file that a failure of the command is about, if it is about one alone.
     pub fn file_at_fault(self, failure: Failure) -> Option<&'a str>
         ensures { option_map (λ path. path.now) result ≡ fault_file self.entry failure }
     {
