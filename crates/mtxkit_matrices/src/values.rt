@@ -83,8 +83,7 @@ pub fn has_symmetric_values<T: Ring>(
 }
 
 // Returns the row and the column of the first value that is not zero, row by row.
-fn first_nonzero<T: Ring>(matrix: &CsrMatrix<T>) -> Option<Coordinates>
-{
+fn first_nonzero<T: Ring>(matrix: &CsrMatrix<T>) -> Option<Coordinates> {
     for (row, col, value) in matrix.triplet_iter() {
         if *value != T::zero() {
             return Some(Coordinates { row, col });
