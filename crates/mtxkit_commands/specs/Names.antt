@@ -13,6 +13,8 @@ use Rattle.mtxkit_patterns.specs.declared.order_error.OrderError.TheVariants as 
 use Rattle.mtxkit_texts.specs.declared.failure.Failure.{Failure}
 use Rattle.mtxkit_texts.specs.declared.failure.Failure.TheVariants.{Unread, Input, NotSupported}
 use Rattle.mtxkit_texts.specs.declared.failure.Failure.TheVariants.{Wide, Overflow, Unsaved}
+use Rattle.mtxkit_texts.specs.declared.failure.Failure.TheVariants.{NotSquare, NotSymmetric}
+use Rattle.mtxkit_texts.specs.declared.failure.Failure.TheVariants.{NoFactors}
 use Rattle.mtxkit_commands.specs.declared.command_error.CommandError.{CommandError}
 use Rattle.mtxkit_commands.specs.declared.command_error.CommandError.TheVariants.{Failed}
 use Rattle.mtxkit_commands.specs.declared.command_error.CommandError.TheVariants.{Unscaled}
@@ -56,7 +58,7 @@ first_path [] = []
 first_path (file ∷ files) = file
 
 abbrev pub first_file : Command → List ℕ
-first_file (Info file) = file.now
+first_file (Info file form) = file.now
 first_file (Spy file size target) = file.now
 first_file (Copy file) = file.now
 first_file (Field file values) = file.now
@@ -64,15 +66,15 @@ first_file (Integer file scale) = file.now
 first_file (Symmetric file) = file.now
 first_file (Order file method) = file.now
 first_file (Permute order file) = order.now
-first_file (Fill file order) = first_of_fill order file.now
+first_file (Fill file order form) = first_of_fill order file.now
 first_file (Eval modulus order words files) = first_path (paths files.now)
-first_file (Solve modulus a b) = a.now
+first_file (Solve modulus order a b) = a.now
 first_file (Check modulus a x b) = a.now
 
 abbrev pub second_file : Command → Option (List ℕ)
 second_file (Permute order file) = Some file.now
-second_file (Fill file order) = second_of_fill order file.now
-second_file (Solve modulus a b) = Some b.now
+second_file (Fill file order form) = second_of_fill order file.now
+second_file (Solve modulus order a b) = Some b.now
 second_file (Check modulus a x b) = Some x.now
 second_file command = None
 
@@ -109,6 +111,9 @@ fault_file command (Input number kind location) = file_of command number
 fault_file command (NotSupported number) = file_of command number
 fault_file command (Wide number) = file_of command number
 fault_file command (Overflow number) = file_of command number
+fault_file command (NotSquare size) = file_of command 1
+fault_file command (NotSymmetric at) = file_of command 1
+fault_file command (NoFactors modulus pivot) = file_of command 1
 fault_file command (Unsaved error) = saved_file command
 fault_file command failure = None
 
