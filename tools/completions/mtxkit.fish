@@ -5,6 +5,7 @@ complete -c mtxkit -n "not __fish_seen_subcommand_from $commands" -f -a "$comman
 complete -c mtxkit -l help -d 'what the program or the command does'
 complete -c mtxkit -n "not __fish_seen_subcommand_from $commands" -l version -d 'its version'
 complete -c mtxkit -n '__fish_seen_subcommand_from help' -f -a "$commands"
+complete -c mtxkit -n '__fish_seen_subcommand_from info fill' -l json -d 'an object in JSON'
 complete -c mtxkit -n '__fish_seen_subcommand_from spy' -l size -x -d 'cells of a side'
 complete -c mtxkit -n '__fish_seen_subcommand_from spy' -s o -r -d 'the file to write'
 complete -c mtxkit -n '__fish_seen_subcommand_from spy' -l svg -d 'a picture for browsers'

@@ -59,7 +59,7 @@ first_path [] = []
 first_path (file ∷ files) = file
 
 abbrev pub first_file : Command → List ℕ
-first_file (Info file) = file.now
+first_file (Info file form) = file.now
 first_file (Spy file size target) = file.now
 first_file (Copy file) = file.now
 first_file (Field file values) = file.now
@@ -67,14 +67,14 @@ first_file (Integer file scale) = file.now
 first_file (Symmetric file) = file.now
 first_file (Order file method) = file.now
 first_file (Permute order file) = order.now
-first_file (Fill file order) = first_of_fill order file.now
+first_file (Fill file order form) = first_of_fill order file.now
 first_file (Eval modulus order words files) = first_path (paths files.now)
 first_file (Solve modulus order a b) = a.now
 first_file (Check modulus a x b) = a.now
 
 abbrev pub second_file : Command → Option (List ℕ)
 second_file (Permute order file) = Some file.now
-second_file (Fill file order) = second_of_fill order file.now
+second_file (Fill file order form) = second_of_fill order file.now
 second_file (Solve modulus order a b) = Some b.now
 second_file (Check modulus a x b) = Some x.now
 second_file command = None

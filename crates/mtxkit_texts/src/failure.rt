@@ -19,7 +19,7 @@ pub enum Failure {
     Unread(usize, io::Error),
     /// The text with this number has an error of this kind, at this line and with this fault.
     Input(usize, MatrixMarketErrorKind, Location),
-    /// The text with this number has real or complex values, which `mtxkit` does not read.
+    /// The text with this number has real or complex values, and the command needs values.
     NotSupported(usize),
     /// An integer of the text with this number, or a sum of integers with the same row and column, does not fit in 64
     /// bits.
@@ -68,7 +68,7 @@ impl Failure {
             Failure::Unread(_, _) => "the file cannot be read",
             Failure::Input(_, _, _) => "the text is at fault",
             Failure::NotSupported(_) =>
-                "real and complex values are not carried, nor is their pattern",
+                "real and complex values are not carried, only their pattern",
             Failure::Wide(_) => "a value or a sum of repeated entries does not fit in 64 bits",
             Failure::Overflow(_) => "a sum of repeated entries does not fit in 128 bits",
             Failure::NotSquare(_) => "not square",

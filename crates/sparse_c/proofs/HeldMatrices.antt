@@ -1,6 +1,7 @@
 -- Matrices with a modulus behind handles: what calls over them state follows from what tasks state.
 -- - `no_fault`: a sound matrix has no fault
--- - `not_stored`, `stored`, `unlisted-not_stored`: what `store` states, without a result and with one
+-- - `task_finds_fault`: the status of an error of a task is none of those that find no fault
+-- - `held_parts`: a handle holds the matrix with the parts that were read
 -- - `computed_from_one`, `computed_from_two`: a task over the matrices of handles
 use Rattle.std.proofs.Common.{◌≡◌, ◌≢◌, ◌⊎◌, ◌<◌, ℕ, ℤ, pos, inl, inr, ap, sym, subst, ◌∙◌}
 use Rattle.std.proofs.Common.{refl, arith}
@@ -22,9 +23,12 @@ use Rattle.sparse_c.specs.Scalars.{modulo}
 use Rattle.sparse_c.specs.Tasks.{result_of, AreOperands, IsFaultOfTask, Returns}
 use Rattle.sparse_c.specs.declared.arguments.Combination.{Combination}
 use Rattle.sparse_c.specs.declared.handles.rings.tasks.Task.{Task}
+use Rattle.sparse_c.specs.declared.handles.rings.tasks.Task.TheVariants.{Rows, Assemble}
+use Rattle.sparse_c.specs.declared.handles.rings.tasks.Task.TheVariants.{Transpose, Scale, Combine}
+use Rattle.c_arrays.proofs.ValidStatuses.{list_finds_fault, matrix_finds_fault, pair_finds_fault}
 use Rattle.c_arrays.specs.Arrays.{plain_by_rows}
 use Rattle.c_arrays.specs.Refused.{IsFaultOf, IsFaultOfPair, IsOutOfMemoryOr}
-use Rattle.c_arrays.specs.Statuses.{number_of}
+use Rattle.c_arrays.specs.Statuses.{number_of, FindsNoFault}
 use Rattle.c_arrays.specs.declared.refusal.Refusal.{Refusal}
 use Rattle.c_arrays.specs.declared.refusal.Refusal.TheVariants.{UnknownChoice}
 use Rattle.c_handles.specs.Held.{Answers}
@@ -57,70 +61,69 @@ no_sorted_fault m sound ValueCount first = first.1 sound.count
 pub no_fault : (m : Compressed ℤ) (e : Refusal) → IsSound m → IsFaultOf m e → ⊥
 no_fault m e sound fault = no_sorted_fault m sound fault.first.fault fault.first.first
 
--- ---- the result of a task, stored in a handle
+-- ---- the error of a task
 
-module _ (m : ℕ) (task : Task) (after : Option (Compressed ℤ)) (status : ℤ) where
-  pub not_stored : {X : Type 0} {Done : Type 0} (x : X) → after ≡ None
-      → Returns (modulo m) task None after status
-      → Answers status (IsFaultModulo m (IsFaultOfTask task)) (x ≡ x) Done
-  not_stored x none (inl done) = absurd (none-some done.1.1.0 (sym none ∙ done.1.1.1))
-  not_stored x none (inr refused) = inr (refused.0, refused.1, refused.2, refl)
-
-  pub stored : (handle : Option RingMatrix) (x : Compressed ℤ) → after ≡ Some x
-      → handle ≡ Some (record { modulus = m; matrix = x })
-      → Returns (modulo m) task None after status
-      → AreOperands task × HoldsModulo m handle (result_of (mod_ring m) task)
-  stored handle x is put (inl done) = (
-    done.1.0,
-    (
-      record { modulus = m; matrix = x },
-      put,
-      refl,
-      ap (plain_by_rows (mod_ring m)) (same_Some x done.1.1.0 (sym is ∙ done.1.1.1)) ∙ done.1.1.2,
-    ),
-  )
-  stored handle x is put (inr refused) = absurd (none-some x (sym refused.3 ∙ is))
-
-  -- with an unlisted modulus there is no result
-  pub unlisted-not_stored : (x : Compressed ℤ) → after ≡ Some x → status ≡ number_of UnknownChoice
-      → Returns (modulo m) task None after status → ⊥
-  unlisted-not_stored x is unknown (inl done) =
-      let seven : 7 ≢ 0 = omega arith in seven (ap nat_abs (sym unknown ∙ done.0))
-  unlisted-not_stored x is unknown (inr refused) = none-some x (sym refused.3 ∙ is)
+pub task_finds_fault : (task : Task) (e : Refusal) → IsFaultOfTask task e → FindsNoFault (number_of e) → ⊥
+task_finds_fault (Rows a) e fault = matrix_finds_fault a e fault
+task_finds_fault (Assemble t) e fault =
+    list_finds_fault t.rows t.cols t.row_indices.now t.col_indices.now t.values.now e fault
+task_finds_fault (Transpose a) e fault = matrix_finds_fault a e fault
+task_finds_fault (Scale q) e fault = matrix_finds_fault q.a e fault
+task_finds_fault (Combine p) e fault = pair_finds_fault p.a p.b e fault
 
 -- ---- tasks over the matrices of handles
 
--- an error of a task over sound operands is that of an unlisted modulus
-sound_fault : {Fault Other : Refusal → Type 0} (m : ℕ) (e : Refusal) → (Fault e → ⊥)
-    → (IsUnlisted m e → Other e) → IsOutOfMemoryOr (IsFaultModulo m Fault) e
-    → IsOutOfMemoryOr Other e
-sound_fault m e none other (inl memory) = inl memory
-sound_fault m e none other (inr (inl unlisted)) = inr (other unlisted)
-sound_fault m e none other (inr (inr fault)) = absurd (none fault)
+-- the parts of the matrix that a handle holds make up what it holds
+pub held_parts : (handle : Option RingMatrix) (s x y : RingMatrix) (l : Compressed ℤ) → handle ≡ Some s
+    → x ≡ s → y ≡ s → l ≡ y.matrix
+    → handle ≡ Some (record { modulus = x.modulus; matrix = l })
+held_parts handle s x y l is same also arrays =
+    let rows : l ≡ s.matrix = arrays ∙ ap (λ (z : RingMatrix). z.matrix) also in
+    let read : RingMatrix = record { modulus = x.modulus; matrix = l } in
+    let parts : read ≡ s = (λ k. record { modulus = (same k).modulus; matrix = rows k }) in
+    is ∙ ap Some (sym parts)
 
 -- a call with sound operands states the same with another error in place of an unlisted modulus
-widened : {Fault Other : Refusal → Type 0} {U Sound Done : Type 0} (m : ℕ) (status : ℤ)
-    → ((e : Refusal) → Fault e → ⊥) → ((e : Refusal) → IsUnlisted m e → Other e)
-    → Answers status (IsFaultModulo m Fault) U (Sound × Done) → Answers status Other U Done
-widened m status none other (inl done) = inl (done.0, done.1.1)
-widened m status none other (inr refused) = inr (
+widened : (Fault Other : Refusal → Type 0) {U Sound Done : Type 0} (m : ℕ) {status seen : ℤ}
+    → seen ≡ status → ((e : Refusal) → Fault e → ⊥) → ((e : Refusal) → IsUnlisted m e → Other e)
+    → Answers status (IsFaultModulo m Fault) U (Sound × Done) → Answers seen Other U Done
+widened Fault Other m same none other (inl done) = inl (same ∙ done.0, done.1.1)
+widened Fault Other m same none other (inr refused) = inr (
   refused.0,
-  refused.1,
-  sound_fault m refused.0 (none refused.0) (other refused.0) refused.2,
+  same ∙ refused.1,
+  elim refused.2 [
+    | inl memory ↦ inl memory
+    | inr wrong ↦ elim wrong [
+      | inl unlisted ↦ inr (other refused.0 unlisted)
+      | inr fault ↦ absurd (none refused.0 fault)
+    ]
+  ],
   refused.3,
 )
 
-module _ {U : Type 0} (out : Option RingMatrix) (status : ℤ) where
+-- two sound matrices have no fault
+no_pair : (l r : Compressed ℤ) → IsSound l → IsSound r → (e : Refusal) → IsFaultOfPair l r e → ⊥
+no_pair l r sound valid e (inl fault) = no_fault l e sound fault
+no_pair l r sound valid e (inr fault) = no_fault r e valid fault.1
+
+-- a fact that holds in any case
+together : {U Fact Done : Type 0} (Fault : Refusal → Type 0) {seen : ℤ} → Fact
+    → Answers seen Fault U Done → Answers seen Fault U (Fact × Done)
+together Fault fact (inl done) = inl (done.0, (fact, done.1))
+together Fault fact (inr refused) = inr refused
+
+module _ {U : Type 0} (out : Option RingMatrix) {status seen : ℤ} (told : seen ≡ status) where
   pub computed_from_one : (op : (m : ℕ) → Plain (mod_ring m) → Plain (mod_ring m))
       → (handle : Option RingMatrix) (s : RingMatrix) → handle ≡ Some s → IsSound s.matrix
       → Answers status (IsFaultModulo s.modulus (IsFaultOf s.matrix)) U (IsSound s.matrix
       × HoldsModulo s.modulus out (op s.modulus (residues_held s.modulus (Some s))))
-      → Answers status (IsNoOperand handle) U (HoldsModulo (modulus_held handle) out
+      → Answers seen (IsNoOperand handle) U (HoldsModulo (modulus_held handle) out
       (op (modulus_held handle) (residues_held (modulus_held handle) handle)))
   computed_from_one op handle s is sound answer = subst
-      (λ (h : Option RingMatrix). Answers status (IsNoOperand h) U (HoldsModulo (modulus_held h) out
+      (λ (h : Option RingMatrix). Answers seen (IsNoOperand h) U (HoldsModulo (modulus_held h) out
       (op (modulus_held h) (residues_held (modulus_held h) h)))) (sym is)
-      (widened s.modulus status (λ e. no_fault s.matrix e sound) (λ e unlisted. inr unlisted) answer)
+      (widened (IsFaultOf s.matrix) (IsNoOperand (Some s)) s.modulus told
+      (λ e. no_fault s.matrix e sound) (λ e unlisted. inr unlisted) answer)
 
   pub computed_from_two : (how : Combination)
       (op : (m : ℕ) → Plain (mod_ring m) → Plain (mod_ring m) → Plain (mod_ring m))
@@ -129,21 +132,14 @@ module _ {U : Type 0} (out : Option RingMatrix) (status : ℤ) where
       → Answers status (IsFaultModulo s.modulus (IsFaultOfPair s.matrix t.matrix)) U
       ((IsSound s.matrix × IsSound t.matrix) × HoldsModulo s.modulus out
       (op s.modulus (residues_held s.modulus (Some s)) (residues_held s.modulus (Some t))))
-      → Answers status (IsNoPair how a b) U ((modulus_held b ≡ modulus_held a)
+      → Answers seen (IsNoPair how a b) U ((modulus_held b ≡ modulus_held a)
       × HoldsModulo (modulus_held a) out (op (modulus_held a) (residues_held (modulus_held a) a)
       (residues_held (modulus_held a) b)))
   computed_from_two how op a b s t is also same sound valid answer = subst
-      (λ (h : Option RingMatrix × Option RingMatrix). Answers status (IsNoPair how h.0 h.1) U
+      (λ (h : Option RingMatrix × Option RingMatrix). Answers seen (IsNoPair how h.0 h.1) U
       ((modulus_held h.1 ≡ modulus_held h.0) × HoldsModulo (modulus_held h.0) out
       (op (modulus_held h.0) (residues_held (modulus_held h.0) h.0)
       (residues_held (modulus_held h.0) h.1)))) (λ k. (sym is k, sym also k))
-      (together (widened s.modulus status (no_pair s.matrix t.matrix sound valid)
-      (λ e unlisted. inr (same, inr unlisted)) answer)) where
-        no_pair : (l r : Compressed ℤ) → IsSound l → IsSound r → (e : Refusal) → IsFaultOfPair l r e → ⊥
-        no_pair l r sound valid e (inl fault) = no_fault l e sound fault
-        no_pair l r sound valid e (inr fault) = no_fault r e valid fault.1
-
-        together : {Fault : Refusal → Type 0} {Done : Type 0} → Answers status Fault U Done
-            → Answers status Fault U ((t.modulus ≡ s.modulus) × Done)
-        together (inl done) = inl (done.0, (same, done.1))
-        together (inr refused) = inr refused
+      (together (IsNoPair how (Some s) (Some t)) same
+      (widened (IsFaultOfPair s.matrix t.matrix) (IsNoPair how (Some s) (Some t)) s.modulus told
+      (no_pair s.matrix t.matrix sound valid) (λ e unlisted. inr (same, inr unlisted)) answer))

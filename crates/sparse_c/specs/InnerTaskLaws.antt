@@ -4,7 +4,7 @@ use Rattle.std.proofs.Common.{inl, inr}
 use Rattle.sparse_compressed.specs.Compressed.{Compressed}
 use Rattle.sparse_c.specs.Moduli.{moduli, IsFaultModulo, IsNoneOf}
 use Rattle.sparse_c.specs.Scalars.{modulo, residues_of}
-use Rattle.sparse_c.specs.Tasks.{Returns}
+use Rattle.sparse_c.specs.Tasks.{IsFaultOfTask, Returns}
 use Rattle.sparse_c.specs.declared.handles.rings.tasks.Task.{Task}
 use Rattle.c_arrays.specs.Refused.{IsOutOfMemoryOr}
 use Rattle.c_arrays.specs.Statuses.{number_of}
@@ -12,10 +12,10 @@ use Rattle.c_arrays.specs.declared.refusal.Refusal.{Refusal}
 use Rattle.c_arrays.specs.declared.refusal.Refusal.TheVariants.{UnknownChoice}
 
 -- an error of a call over a ring is an error of a call with a modulus
-fault_modulo : {Fault : Refusal → Type 0} (m : ℕ) (refusal : Refusal) → IsOutOfMemoryOr Fault refusal
+fault_modulo : (Fault : Refusal → Type 0) (m : ℕ) (refusal : Refusal) → IsOutOfMemoryOr Fault refusal
     → IsOutOfMemoryOr (IsFaultModulo m Fault) refusal
-fault_modulo m refusal (inl memory) = inl memory
-fault_modulo m refusal (inr fault) = inr (inr fault)
+fault_modulo Fault m refusal (inl memory) = inl memory
+fault_modulo Fault m refusal (inr fault) = inr (inr fault)
 
 pub returned_listed : (m : ℕ) (task : Task) (before after : Option (Compressed ℤ)) (status : ℤ)
     → m ≤ 9223372036854775808 → Returns (residues_of m) task before after status
@@ -24,7 +24,7 @@ returned_listed m task before after status short (inl done) = inl done
 returned_listed m task before after status short (inr refused) = inr (
   refused.0,
   refused.1,
-  fault_modulo m refused.0 refused.2,
+  fault_modulo (IsFaultOfTask task) m refused.0 refused.2,
   refused.3,
 )
 

@@ -1,6 +1,6 @@
 //! Handles of matrices over the residues modulo a listed number: construction, reading, sharing and freeing.
 
-ghost use Rattle.std.specs.Prelude.{◌≡◌, ◌×◌, length, None};
+ghost use Rattle.std.specs.Prelude.{◌≡◌, length, None};
 ghost use Rattle.sparse_algebra.specs.Moduli.{mod_ring};
 ghost use Rattle.sparse_compressed.specs.Compressed.{arrays_of, IsSound};
 ghost use Rattle.sparse_coo_dense.specs.Coo.{AreParts};

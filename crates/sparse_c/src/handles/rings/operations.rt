@@ -1,6 +1,6 @@
 //! Transposes, multiples, sums and products of matrices over residues that handles hold.
 
-ghost use Rattle.std.specs.Prelude.{◌≡◌, ◌↔◌, ◌⊎◌, ◌×◌, None, Some, IfOk, IfErr, IsErrAnd, IsTrue};
+ghost use Rattle.std.specs.Prelude.{◌≡◌, ◌↔◌, ◌⊎◌, None, Some, IfOk, IfErr, IsErrAnd, IsTrue};
 ghost use Rattle.std.specs.Prelude.{Err};
 ghost use Rattle.std.specs.Arc.{arc_value};
 ghost use Rattle.sparse_algebra.specs.Integers.{element_of};

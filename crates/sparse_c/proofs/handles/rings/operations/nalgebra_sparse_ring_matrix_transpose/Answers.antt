@@ -1,0 +1,18 @@
+use Rattle.std.proofs.Common.{◌≡◌, sym, subst, rules, to_z, of_z}
+use Rattle.std.specs.Int.{w32}
+use Rattle.sparse_algebra.specs.Moduli.{mod_ring}
+use Rattle.sparse_algebra.specs.Plain.{plain_transpose}
+use Rattle.sparse_compressed.specs.Compressed.{IsSound}
+use Rattle.sparse_c.proofs.HeldMatrices.{computed_from_one, held_parts}
+use Rattle.c_handles.specs.declared.ring_matrix.RingMatrix.{RingMatrix}
+use Rattle.sparse_c.proofs.handles.rings.operations.nalgebra_sparse_ring_matrix_transpose.Goals as goal
+
+pub returns-in-Ok-clause-answer : goal.returns-in-Ok-clause-answer
+returns-in-Ok-clause-answer c =
+    let same : to_z w32 (of_z w32 c.store.result) ≡ c.store.result = search rules in
+    let handle = c.args.a.now.value in
+    let s : RingMatrix = record { modulus = c.deref.result.now.modulus; matrix = c.lanes.result } in
+    computed_from_one c.store.new.out.value same (λ m a. plain_transpose (mod_ring m) a) handle s
+    (held_parts handle _ c.deref.result.now c.deref-in-Ok.result.now c.lanes.result
+    c.in-Ok.ensures.matrix c.deref.ensures c.deref-in-Ok.ensures c.lanes.ensures.is)
+    (subst IsSound (sym c.lanes.ensures.is) c.lanes.ensures.sound) c.store.ensures.answer
