@@ -36,7 +36,8 @@ fn push_places(alloc: Global, json: &mut String, counts: FillCounts) -> Result<(
         "places_of_the_lower_triangle",
         counts.lower as u128,
     )?;
-    push_number(alloc, json, "places_of_the_factor", counts.factor as u128)
+    push_number(alloc, json, "places_of_the_factor", counts.factor as u128)?;
+    Ok(())
 }
 
 // Appends the beginning of the object, and the member of the places of the matrix.

@@ -6,6 +6,7 @@ use crate::outcome::{Outcome, checksum_of_bytes};
 use crate::page::Page;
 use case_words::turn::Turn;
 use mtxkit_commands::{Command, FillOrder, Inputs, Target, Values, run as run_command};
+use mtxkit_matrices::EliminationOrder;
 use mtxkit_patterns::Method;
 use mtxkit_texts::{Form, Screen};
 use nalgebra_sparse::expr::OutputOrder;
@@ -135,8 +136,12 @@ fn square() -> Command<'static>
 fn solve(modulus: Option<u64>) -> Command<'static>
     ensures { IsSized result }
 {
-    let (a, b) = (A, B);
-    Command::Solve { modulus, a, b }
+    Command::Solve {
+        modulus,
+        order: EliminationOrder::MinimumDegree,
+        a: A,
+        b: B,
+    }
 }
 
 // A picture of A.
