@@ -8,13 +8,15 @@ _mtxkit() {
         return
     fi
     case ${COMP_WORDS[1]} in
+    info) words="--json" ;;
     spy) words="--size -o --svg --text" ;;
     field) [ "$COMP_CWORD" -ne 2 ] || words="integer pattern" ;;
     integer) words="--scale" ;;
     order) [ "$COMP_CWORD" -ne 2 ] || words="amd rcm" ;;
-    fill) words="--order" ;;
+    fill) words="--order --json" ;;
     eval) words="--mod --rows --columns" ;;
-    solve | check) words="--mod" ;;
+    solve) words="--mod --order" ;;
+    check) words="--mod" ;;
     help)
         mapfile -t COMPREPLY < <(compgen -W "info spy copy field integer symmetric order permute fill eval solve check" -- "$word")
         return

@@ -3,5 +3,6 @@ mod Solving
 mod OrderRefusals
 mod Readings
 mod Reports
+mod Scaling
 mod Evaluating
 mod GivenCommands

@@ -1,5 +1,5 @@
 -- A system over ring elements is solved or tested exactly if that over their integers is.
-use Rattle.std.proofs.Common.{◌≡◌, ◌⊎◌, ◌↔◌, ℕ, ℤ, Bool, Option, inl, inr, Ok}
+use Rattle.std.proofs.Common.{◌≡◌, ◌⊎◌, ◌↔◌, ℕ, ℤ, Option, inl, inr, Ok}
 use Rattle.std.proofs.Common.{Err, Result, subst, refl, sym, ap, ◌∙◌}
 use Rattle.std.proofs.lemmas.Bool.{cases_eq}
 use Rattle.sparse_algebra.specs.Algebra.{CommRing}
@@ -7,14 +7,19 @@ use Rattle.sparse_algebra.specs.Plain.{Plain, plain_product}
 use Rattle.sparse_coo_dense.specs.Coo.{Coo}
 use Rattle.sparse_coo_dense.specs.CooPlain.{plain_of_coo}
 use Rattle.sparse_dense_ops.specs.Solutions.{HasSameValues}
-use Rattle.mtxkit_matrices.specs.Values.{IsSymmetricMatrix}
-use Rattle.mtxkit_matrices.specs.Systems.{HasNoFactorisation, IsEquation, IsSystem}
+use Rattle.mtxkit_matrices.specs.Coordinates.{dimensions_of}
+use Rattle.mtxkit_matrices.specs.Differences.{IsFirstDifference, IsFirstAsymmetry}
+use Rattle.mtxkit_matrices.specs.Pivots.{IsSingularPivot}
+use Rattle.mtxkit_matrices.specs.Systems.{IsEquation, IsNoSolution, IsSystem, IsUnsolvable}
+use Rattle.mtxkit_matrices.specs.declared.orders.EliminationOrder.{EliminationOrder}
+use Rattle.mtxkit_matrices.specs.declared.solutions.CheckError.{CheckError}
+use Rattle.mtxkit_matrices.specs.declared.solutions.CheckError.TheVariants as check
 use Rattle.mtxkit_matrices.specs.declared.systems.SystemError.{SystemError}
 use Rattle.mtxkit_matrices.specs.declared.systems.SystemError.TheVariants as system
 use Rattle.mtxkit_texts.specs.declared.failure.Failure.{Failure}
 use Rattle.mtxkit_texts.specs.declared.failure.Failure.TheVariants.{Modulus}
 use Rattle.mtxkit_eval.specs.Rings.{ring_of, reduced_by, ring_value}
-use Rattle.mtxkit_commands.specs.SystemErrors.{system_fault}
+use Rattle.mtxkit_commands.specs.SystemErrors.{check_fault, system_fault}
 use Rattle.mtxkit_commands.specs.Systems.{plain_of_integers, IsSolved, IsTested}
 use Rattle.mtxkit_commands.specs.Systems.{IsSolvedBy, IsTestedBy}
 
@@ -42,13 +47,13 @@ either_equation a x b = elim (cases_eq a.ncols x.nrows) [
   | inr apart ↦ inr (λ s. apart s.inner)
 ]
 
-module _ {X : Type 0} where
-  -- the result is `Shapes` exactly if the shapes do not fit
-  abbrev pub SaysShapes : Result X SystemError → Type 0 → Type 0
-  SaysShapes result Fits = (result ≡ Err system.Shapes) ↔ (Fits → ⊥)
+module _ {X E : Type 0} (shapes : E) where
+  -- the result is this error exactly if the shapes do not fit
+  abbrev pub SaysShapes : Result X E → Type 0 → Type 0
+  SaysShapes result Fits = (result ≡ Err shapes) ↔ (Fits → ⊥)
 
-  fits_at : (result : Result X SystemError) (Fits : Type 0) → Fits ⊎ (Fits → ⊥)
-      → SaysShapes result Fits → (result ≡ Err system.Shapes → ⊥) → Fits
+  fits_at : (result : Result X E) (Fits : Type 0) → Fits ⊎ (Fits → ⊥) → SaysShapes result Fits
+      → (result ≡ Err shapes → ⊥) → Fits
   fits_at result Fits (inl fits) says apart = fits
   fits_at result Fits (inr not) says apart = absurd (apart (says.1 not))
 
@@ -56,8 +61,8 @@ module _ {X : Type 0} where
     pub system_at_ok : (x : X) → SaysShapes (Ok x) (IsSystem a b) → IsSystem a b
     system_at_ok x says = fits_at (Ok x) (IsSystem a b) (either_system a b) says (λ e. cc)
 
-    pub system_at_err : (error : SystemError) → SaysShapes (Err error) (IsSystem a b)
-        → (error ≡ system.Shapes → ⊥) → IsSystem a b
+    pub system_at_err : (error : E) → SaysShapes (Err error) (IsSystem a b)
+        → (error ≡ shapes → ⊥) → IsSystem a b
     system_at_err error says apart =
         fits_at (Err error) (IsSystem a b) (either_system a b) says (λ e. apart (cc))
 
@@ -65,6 +70,11 @@ module _ {X : Type 0} where
     pub equation_at_ok : (y : X) → SaysShapes (Ok y) (IsEquation a x b) → IsEquation a x b
     equation_at_ok y says =
         fits_at (Ok y) (IsEquation a x b) (either_equation a x b) says (λ e. cc)
+
+    pub equation_at_err : (error : E) → SaysShapes (Err error) (IsEquation a x b)
+        → (error ≡ shapes → ⊥) → IsEquation a x b
+    equation_at_err error says apart =
+        fits_at (Err error) (IsEquation a x b) (either_equation a x b) says (λ e. apart (cc))
 
 module _ (R : CommRing) where
   -- the values of a product do not change if its operands are replaced by equal ones
@@ -75,6 +85,16 @@ module _ (R : CommRing) where
       subst (λ (p : Plain R). HasSameValues R p.rows p.cols (plain_product R a' x') p) eb
       (subst (λ (p : Plain R). HasSameValues R b.rows b.cols (plain_product R a' p) b) ex
       (subst (λ (p : Plain R). HasSameValues R b.rows b.cols (plain_product R p x) b) ea same))
+
+  -- nor does its first difference from a matrix
+  difference-same : (a a' x x' b b' : Plain R) → a ≡ a' → x ≡ x' → b ≡ b' → (row col : ℕ)
+      → IsFirstDifference R b.rows b.cols (plain_product R a x) b row col
+      → IsFirstDifference R b'.rows b'.cols (plain_product R a' x') b' row col
+  difference-same a a' x x' b b' ea ex eb row col first =
+      subst (λ (p : Plain R). IsFirstDifference R p.rows p.cols (plain_product R a' x') p row col) eb
+      (subst (λ (p : Plain R). IsFirstDifference R b.rows b.cols (plain_product R a' p) b row col) ex
+      (subst (λ (p : Plain R). IsFirstDifference R b.rows b.cols (plain_product R p x) b row col) ea
+      first))
 
   -- lists of elements and of integers with the same plain matrices have the same shapes
   module _ {T : Type 0} (f : T → R.Carrier) (a b : Coo T) (a' b' : Coo ℤ)
@@ -96,20 +116,22 @@ module _ (R : CommRing) where
           rows = ap (λ (p : Plain R). p.rows) same_b ∙ s.rows ∙ sym rows;
         }
 
-    pub refused : {X : Type 0} (error : SystemError) → SaysShapes {X = X} (Err error) (IsSystem a b)
-        → (error ≡ system.NotSymmetric → ¬ IsSymmetricMatrix R (plain_of_coo R f a))
-        → (error ≡ system.NoFactors → HasNoFactorisation R f (plain_of_coo R f a))
-        → IsSolved R f (λ z. z) a' b' (Err (system_fault error))
-    refused system.Shapes says unsymmetric singular = λ s. says.0 refl (system-back s)
-    refused system.NotSymmetric says unsymmetric singular = (
-      system-same (system_at_err a b system.NotSymmetric says (λ e. cc)),
-      subst (λ (q : Plain R). ¬ IsSymmetricMatrix R q) same_a (unsymmetric refl),
+    pub refused : {X : Type 0} (m : Option ℕ) (order : EliminationOrder) (error : SystemError)
+        → SaysShapes {X = X} system.Shapes (Err error) (IsSystem a b)
+        → IsUnsolvable R f order (plain_of_coo R f a) error
+        → IsSolved R f (λ z. z) m order a' b'
+        (Err (system_fault m (dimensions_of a') (dimensions_of b') error))
+    refused m order system.Shapes says why = (λ s. says.0 refl (system-back s), refl, refl)
+    refused m order (system.NotSymmetric at) says why = (
+      system-same (system_at_err system.Shapes a b (system.NotSymmetric at) says (λ e. cc)),
+      subst (λ (q : Plain R). IsFirstAsymmetry R q at.row at.col) same_a why,
     )
-    refused system.NoFactors says unsymmetric singular = (
-      system-same (system_at_err a b system.NoFactors says (λ e. cc)),
-      subst (λ (q : Plain R). HasNoFactorisation R f q) same_a (singular refl),
+    refused m order (system.NoFactors pivot) says why = (
+      system-same (system_at_err system.Shapes a b (system.NoFactors pivot) says (λ e. cc)),
+      refl,
+      subst (λ (q : Plain R). IsSingularPivot R f order q pivot) same_a why,
     )
-    refused system.OutOfMemory says unsymmetric singular = tt
+    refused m order system.OutOfMemory says why = tt
 
     module _ (x : Coo T) (x' : Coo ℤ) (same_x : plain_of_coo R f x ≡ plain_of_integers R x') where
       pub equation-same : IsEquation a x b → IsEquation a' x' b'
@@ -132,27 +154,33 @@ module _ (R : CommRing) where
             ∙ sym (ap (λ (p : Plain R). p.cols) same_b);
       }
 
-      pub untested : {X : Type 0} (error : SystemError)
-          → SaysShapes {X = X} (Err error) (IsEquation a x b)
-          → (error ≡ system.Shapes) ⊎ (error ≡ system.OutOfMemory)
-          → IsTested R a' x' b' (Err (system_fault error))
-      untested system.Shapes says only = λ s. says.0 refl (equation-back s)
-      untested system.NotSymmetric says (inl e) = absurd (cc)
-      untested system.NotSymmetric says (inr e) = absurd (cc)
-      untested system.NoFactors says (inl e) = absurd (cc)
-      untested system.NoFactors says (inr e) = absurd (cc)
-      untested system.OutOfMemory says only = tt
+      pub untested : {X : Type 0} (error : CheckError)
+          → SaysShapes {X = X} check.Shapes (Err error) (IsEquation a x b)
+          → IsNoSolution R b.nrows b.ncols
+          (plain_product R (plain_of_coo R f a) (plain_of_coo R f x)) (plain_of_coo R f b) error
+          → IsTested R a' x' b'
+          (Err (check_fault (dimensions_of a') (dimensions_of x') (dimensions_of b') error))
+      untested check.Shapes says why = (λ s. says.0 refl (equation-back s), refl, refl, refl)
+      untested (check.NotSolution at) says why = (
+        equation-same (equation_at_err check.Shapes a x b (check.NotSolution at) says (λ e. cc)),
+        difference-same R (plain_of_coo R f a) (plain_of_integers R a') (plain_of_coo R f x)
+            (plain_of_integers R x') (plain_of_coo R f b) (plain_of_integers R b') same_a same_x
+            same_b at.row at.col why,
+      )
+      untested check.OutOfMemory says why = tt
 
 -- ---- from the ring of a modulus to the modulus
 
-pub solved_by : (m : Option ℕ) (a b : Coo ℤ) (solved : Result (Coo ℤ) Failure)
-    → IsSolved (ring_of m) (ring_value m) (reduced_by m) a b solved → IsSolvedBy m a b solved
-solved_by m a b (Ok x) is = is
-solved_by m a b (Err Modulus) is = absurd is
-solved_by m a b (Err failure) is = is
+pub solved_by : (m : Option ℕ) (order : EliminationOrder) (a b : Coo ℤ)
+    (solved : Result (Coo ℤ) Failure)
+    → IsSolved (ring_of m) (ring_value m) (reduced_by m) m order a b solved
+    → IsSolvedBy m order a b solved
+solved_by m order a b (Ok x) is = is
+solved_by m order a b (Err Modulus) is = absurd is
+solved_by m order a b (Err failure) is = is
 
-pub tested_by : (m : Option ℕ) (a x b : Coo ℤ) (tested : Result Bool Failure)
+pub tested_by : (m : Option ℕ) (a x b : Coo ℤ) (tested : Result (Unit {0}) Failure)
     → IsTested (ring_of m) a x b tested → IsTestedBy m a x b tested
-tested_by m a x b (Ok same) is = is
+tested_by m a x b (Ok done) is = is
 tested_by m a x b (Err Modulus) is = absurd is
 tested_by m a x b (Err failure) is = is

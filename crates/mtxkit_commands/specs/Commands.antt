@@ -5,15 +5,17 @@ use Rattle.std.specs.declared.io.Error.{Error}
 use Rattle.std.specs.declared.io.ErrorKind.{ErrorKind}
 use Rattle.std.specs.declared.io.ErrorKind.TheVariants as io
 use Rattle.std.specs.Io.KnownBytes.{Appends}
+use Rattle.mtxkit_texts.specs.AnyField.{IsPlacesFailure}
 use Rattle.mtxkit_texts.specs.Facts.{WritesInfo, IsInfoFailure}
 use Rattle.mtxkit_texts.specs.Headers.{header_in}
-use Rattle.mtxkit_texts.specs.Loaded.{IsLoadFailure, IsValuesFailure}
+use Rattle.mtxkit_texts.specs.Loaded.{IsValuesFailure}
 use Rattle.mtxkit_texts.specs.Lower.{IsSymmetricFailure, Symmetrised}
-use Rattle.mtxkit_texts.specs.Rewritten.{WritesIntegers, WritesPattern, WritesCopy, IsCopyFailure}
+use Rattle.mtxkit_texts.specs.Rewritten.{WritesIntegers, WritesPlaces, WritesCopy, IsCopyFailure}
 use Rattle.mtxkit_texts.specs.Shown.{ShowsBitmap, ShowsBlocks, ShowsSvg}
 use Rattle.mtxkit_texts.specs.declared.failure.Failure.{Failure}
 use Rattle.mtxkit_texts.specs.declared.failure.Failure.TheVariants.{Unsaved, OutOfMemory}
 use Rattle.mtxkit_texts.specs.Statuses.{status_of}
+use Rattle.mtxkit_matrices.specs.declared.orders.EliminationOrder.{EliminationOrder}
 use Rattle.mtxkit_matrices.specs.ScaleFailures.{IsScaleFailure}
 use Rattle.mtxkit_matrices.specs.ScaledTexts.{IsLeastTextScale, IsScaledText}
 use Rattle.mtxkit_matrices.specs.declared.decimals.error.ScaleError.{ScaleError}
@@ -48,7 +50,7 @@ use Rattle.mtxkit_commands.specs.declared.commands.Target.TheVariants.{Bitmap, B
 use Rattle.mtxkit_commands.specs.declared.commands.Values.{Values}
 use Rattle.mtxkit_commands.specs.declared.commands.Values.TheVariants.{Integers, Pattern}
 
--- the picture of the pattern of a text's matrix, in the format of the target
+-- the picture of the pattern that a text means, in the format of the target
 abbrev pub ShowsPicture : Target → List ℕ → ℕ → List ℕ → Type 0
 ShowsPicture Blocks text size written = ShowsBlocks text size written
 ShowsPicture Svg text size written = ShowsSvg text size written
@@ -57,7 +59,7 @@ ShowsPicture target text size written = ShowsBitmap text size written
 -- the text of a text's matrix, with or without its values
 abbrev pub WritesValues : Values → List ℕ → List ℕ → Type 0
 WritesValues Integers text written = WritesIntegers text written
-WritesValues Pattern text written = WritesPattern text written
+WritesValues Pattern text written = WritesPlaces text written
 
 -- the text of the file with each number multiplied by 10 ^ scale, as a text of integers
 abbrev pub IsScaleAnswer : ℕ → List ℕ → List Reading → List Reading → List ℕ → Type 0
@@ -91,8 +93,8 @@ IsCheckAnswer modulus a x b old new written =
 
 -- the command read its files in order and no other file, and `written` is what it writes for these
 abbrev pub IsAnswer : Command → List Reading → List Reading → List ℕ → Type 0
-IsAnswer (Info file) old new written =
-    ReadsOne file.now (λ text. WritesInfo text written) old new
+IsAnswer (Info file form) old new written =
+    ReadsOne file.now (λ text. WritesInfo form text written) old new
 IsAnswer (Spy file size target) old new written =
     ReadsOne file.now (λ text. ShowsPicture target text size written) old new
 IsAnswer (Copy file) old new written =
@@ -105,23 +107,25 @@ IsAnswer (Symmetric file) old new written =
 IsAnswer (Order file method) old new written = IsOrderAnswer file.now old new written
 IsAnswer (Permute order file) old new written =
     IsPermuteAnswer order.now file.now old new written
-IsAnswer (Fill file order) old new written = IsFillAnswer order file.now old new written
+IsAnswer (Fill file order form) old new written =
+    IsFillAnswer order form file.now old new written
 IsAnswer (Eval modulus order words files) old new written =
     IsEvalAnswer modulus order words.now (paths files.now) old new written
-IsAnswer (Solve modulus a b) old new written = IsSolveAnswer modulus a.now b.now old new written
+IsAnswer (Solve modulus order a b) old new written = IsSolveAnswer modulus a.now b.now old new written
 IsAnswer (Check modulus a x b) old new written =
     IsCheckAnswer modulus a.now x.now b.now old new written
 
 -- why the text of a text's matrix is not written
 abbrev pub IsFieldFailureOf : Values → List ℕ → Failure → Type 0
 IsFieldFailureOf Integers text failure = IsValuesFailure 1 text failure
-IsFieldFailureOf Pattern text failure = IsLoadFailure 1 text failure
+IsFieldFailureOf Pattern text failure = IsPlacesFailure 1 text failure
 
 -- why `solve` fails: one of the files of A and B cannot be read, or the system of their texts is not solved
-abbrev pub IsUnsolved : Option ℕ → List ℕ → List ℕ → List Reading → List Reading → Failure → Type 0
-IsUnsolved modulus a b old new failure = IsUnread 1 a old new failure
+abbrev pub IsUnsolved : Option ℕ → EliminationOrder → List ℕ → List ℕ → List Reading → List Reading
+    → Failure → Type 0
+IsUnsolved modulus order a b old new failure = IsUnread 1 a old new failure
     ⊎ (IsSecondUnread a b old new failure
-    ⊎ ReadsTwo a b (λ first second. IsSolveFailure modulus first second failure) old new)
+    ⊎ ReadsTwo a b (λ first second. IsSolveFailure modulus order first second failure) old new)
 
 -- why `check` fails: one of the files of A, X and B cannot be read, or their texts do not confirm that A X = B
 abbrev pub IsUnchecked : Option ℕ → List ℕ → List ℕ → List ℕ → List Reading → List Reading → Failure
@@ -148,9 +152,9 @@ IsEvalFailed modulus words files old new failure =
 -- why a command fails before it writes: a file cannot be read after those before it were, or the texts of the files
 -- have a fault
 abbrev pub IsFailure : Command → List Reading → List Reading → Failure → Type 0
-IsFailure (Info file) old new failure = FailsOne file.now IsInfoFailure old new failure
+IsFailure (Info file form) old new failure = FailsOne file.now IsInfoFailure old new failure
 IsFailure (Spy file size target) old new failure =
-    FailsOne file.now (IsLoadFailure 1) old new failure
+    FailsOne file.now (IsPlacesFailure 1) old new failure
 IsFailure (Copy file) old new failure = FailsOne file.now IsCopyFailure old new failure
 IsFailure (Field file values) old new failure =
     FailsOne file.now (IsFieldFailureOf values) old new failure
@@ -160,10 +164,11 @@ IsFailure (Symmetric file) old new failure = FailsOne file.now IsSymmetricFailur
 IsFailure (Order file method) old new failure = IsOrderFailure file.now old new failure
 IsFailure (Permute order file) old new failure =
     IsPermuteFailure order.now file.now old new failure
-IsFailure (Fill file order) old new failure = IsFillFailure order file.now old new failure
+IsFailure (Fill file order form) old new failure = IsFillFailure order file.now old new failure
 IsFailure (Eval modulus order words files) old new failure =
     IsEvalFailed modulus words.now (paths files.now) old new failure
-IsFailure (Solve modulus a b) old new failure = IsUnsolved modulus a.now b.now old new failure
+IsFailure (Solve modulus order a b) old new failure =
+    IsUnsolved modulus order a.now b.now old new failure
 IsFailure (Check modulus a x b) old new failure =
     IsUnchecked modulus a.now x.now b.now old new failure
 
@@ -190,7 +195,7 @@ abbrev pub IsMisorderedBy : Command → List Reading → List Reading → OrderE
 IsMisorderedBy (Order file method) old new error = IsOrderFault file.now old new error
 IsMisorderedBy (Permute order file) old new error =
     IsPermuteFault order.now file.now old new error
-IsMisorderedBy (Fill file order) old new error = IsFillFault order file.now old new error
+IsMisorderedBy (Fill file order form) old new error = IsFillFault order file.now old new error
 IsMisorderedBy command old new error = ⊥
 
 -- the command is `eval`, and its expression has no value that is written, for this reason

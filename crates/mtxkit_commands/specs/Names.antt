@@ -1,6 +1,6 @@
 -- The files that the lines of errors name, and the lines of these files.
 use Rattle.std.specs.Prelude.{◌≡◌, ◌⊎◌, ℕ, ◌+◌, ◌==◌, if◌then◌else◌, List, [], ◌++◌, codes, Option}
-use Rattle.std.specs.Prelude.{Some, None, zero, suc, ◌∷◌, map, slice_get}
+use Rattle.std.specs.Prelude.{Some, None, zero, suc, ◌∷◌, map, slice_get, Bool, true, false}
 use denote.Ref.{Bor}
 use Rattle.std.specs.Fmt.{decimal}
 use Rattle.std.specs.Io.KnownBytes.{Appends}
@@ -13,6 +13,9 @@ use Rattle.mtxkit_patterns.specs.declared.order_error.OrderError.TheVariants as 
 use Rattle.mtxkit_texts.specs.declared.failure.Failure.{Failure}
 use Rattle.mtxkit_texts.specs.declared.failure.Failure.TheVariants.{Unread, Input, NotSupported}
 use Rattle.mtxkit_texts.specs.declared.failure.Failure.TheVariants.{Wide, Overflow, Unsaved}
+use Rattle.mtxkit_texts.specs.declared.failure.Failure.TheVariants.{NotSquare, NotSymmetric}
+use Rattle.mtxkit_texts.specs.declared.failure.Failure.TheVariants.{NoFactors, NotSolution}
+use Rattle.mtxkit_texts.specs.declared.failure.Failure.TheVariants.{Shapes, ProductShapes}
 use Rattle.mtxkit_commands.specs.declared.command_error.CommandError.{CommandError}
 use Rattle.mtxkit_commands.specs.declared.command_error.CommandError.TheVariants.{Failed}
 use Rattle.mtxkit_commands.specs.declared.command_error.CommandError.TheVariants.{Unscaled}
@@ -56,7 +59,7 @@ first_path [] = []
 first_path (file ∷ files) = file
 
 abbrev pub first_file : Command → List ℕ
-first_file (Info file) = file.now
+first_file (Info file form) = file.now
 first_file (Spy file size target) = file.now
 first_file (Copy file) = file.now
 first_file (Field file values) = file.now
@@ -64,15 +67,15 @@ first_file (Integer file scale) = file.now
 first_file (Symmetric file) = file.now
 first_file (Order file method) = file.now
 first_file (Permute order file) = order.now
-first_file (Fill file order) = first_of_fill order file.now
+first_file (Fill file order form) = first_of_fill order file.now
 first_file (Eval modulus order words files) = first_path (paths files.now)
-first_file (Solve modulus a b) = a.now
+first_file (Solve modulus order a b) = a.now
 first_file (Check modulus a x b) = a.now
 
 abbrev pub second_file : Command → Option (List ℕ)
 second_file (Permute order file) = Some file.now
-second_file (Fill file order) = second_of_fill order file.now
-second_file (Solve modulus a b) = Some b.now
+second_file (Fill file order form) = second_of_fill order file.now
+second_file (Solve modulus order a b) = Some b.now
 second_file (Check modulus a x b) = Some x.now
 second_file command = None
 
@@ -102,15 +105,40 @@ abbrev pub saved_file : Command → Option (List ℕ)
 saved_file (Spy file size target) = target_file target
 saved_file command = None
 
--- the path of the file that a failure of the command is about
+-- the path of the file that a failure of the command is about, if it is about one alone
 abbrev pub fault_file : Command → Failure → Option (List ℕ)
 fault_file command (Unread number error) = file_of command number
 fault_file command (Input number kind location) = file_of command number
 fault_file command (NotSupported number) = file_of command number
 fault_file command (Wide number) = file_of command number
 fault_file command (Overflow number) = file_of command number
+fault_file command (NotSquare size) = file_of command 1
+fault_file command (NotSymmetric at) = file_of command 1
+fault_file command (NoFactors modulus pivot) = file_of command 1
 fault_file command (Unsaved error) = saved_file command
 fault_file command failure = None
+
+-- a comma and a path, if there is one
+abbrev pub after_comma : Option (List ℕ) → List ℕ
+after_comma None = []
+after_comma (Some path) = codes ", " ++ path
+
+-- the paths of the files of a command, in order, separated by commas
+abbrev pub file_names : Command → List ℕ
+file_names command = (first_file command ++ after_comma (second_file command))
+    ++ after_comma (third_file command)
+
+-- the failure is about the matrices of all files together
+abbrev pub is_shared : Failure → Bool
+is_shared (Shapes a b) = true
+is_shared (ProductShapes a x b) = true
+is_shared (NotSolution at) = true
+is_shared failure = false
+
+-- the file that a failure is about, or the files
+abbrev pub fault_names : Command → Failure → Option (List ℕ)
+fault_names command failure =
+    if is_shared failure then Some (file_names command) else fault_file command failure
 
 -- the number of the line that a failure is about
 abbrev pub fault_line : Failure → Option ℕ
@@ -143,9 +171,9 @@ with_line None number = None
 with_line (Some path) None = Some path
 with_line (Some path) (Some number) = Some (path ++ (codes ":" ++ decimal number))
 
--- the path of the file that an error of the command is about, and the number of its line
+-- the files that an error of the command is about, and the number of the line
 abbrev pub error_file : Command → CommandError → Option (List ℕ)
-error_file command (Failed failure) = with_line (fault_file command failure) (fault_line failure)
+error_file command (Failed failure) = with_line (fault_names command failure) (fault_line failure)
 error_file command (Unscaled error least) =
     with_line (Some (first_file command)) (unscaled_line error)
 error_file command (Misordered error) = with_line (file_of command (order_number error)) None

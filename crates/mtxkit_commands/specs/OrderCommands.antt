@@ -6,6 +6,7 @@ use Rattle.mtxkit_patterns.specs.Permuted.{WritesPermuted, IsUnpermuted}
 use Rattle.mtxkit_patterns.specs.declared.order_error.OrderError.{OrderError}
 use Rattle.mtxkit_patterns.specs.declared.order_error.OrderError.TheVariants as order
 use Rattle.mtxkit_patterns.specs.declared.square.Method.{Method}
+use Rattle.mtxkit_texts.specs.declared.facts.Form.{Form}
 use Rattle.mtxkit_texts.specs.declared.failure.Failure.{Failure}
 use Rattle.mtxkit_commands.specs.Inputs.{Reading, IsUnread}
 use Rattle.mtxkit_commands.specs.Reads.{ReadsOne, ReadsTwo, FailsOne, IsSecondUnread}
@@ -26,23 +27,25 @@ abbrev pub IsPermuteAnswer : List ℕ → List ℕ → List Reading → List Rea
 IsPermuteAnswer a b old new written =
     ReadsTwo a b (λ first second. WritesPermuted first second written) old new
 
--- the lines about the fill of the file's matrix
-abbrev pub IsFillAnswerAlone : Option Method → List ℕ → List Reading → List Reading → List ℕ
+-- the facts about the fill of the file's matrix, in this form
+abbrev pub IsFillAnswerAlone : Option Method → Form → List ℕ → List Reading → List Reading → List ℕ
     → Type 0
-IsFillAnswerAlone method file old new written =
-    ReadsOne file (λ text. WritesFill method text written) old new
+IsFillAnswerAlone method form file old new written =
+    ReadsOne file (λ text. WritesFill form method text written) old new
 
--- the lines about the fill of the second file's matrix, in the order of the first one
-abbrev pub IsFillAnswerInOrder : List ℕ → List ℕ → List Reading → List Reading → List ℕ → Type 0
-IsFillAnswerInOrder a b old new written =
-    ReadsTwo a b (λ first second. WritesFillIn first second written) old new
+-- the facts about the fill of the second file's matrix, in the order of the first one
+abbrev pub IsFillAnswerInOrder : Form → List ℕ → List ℕ → List Reading → List Reading → List ℕ
+    → Type 0
+IsFillAnswerInOrder form a b old new written =
+    ReadsTwo a b (λ first second. WritesFillIn form first second written) old new
 
-abbrev pub IsFillAnswer : FillOrder → List ℕ → List Reading → List Reading → List ℕ → Type 0
-IsFillAnswer fill.Natural file old new written = IsFillAnswerAlone None file old new written
-IsFillAnswer (fill.Computed method) file old new written =
-    IsFillAnswerAlone (Some method) file old new written
-IsFillAnswer (fill.File path) file old new written =
-    IsFillAnswerInOrder path.now file old new written
+abbrev pub IsFillAnswer : FillOrder → Form → List ℕ → List Reading → List Reading → List ℕ → Type 0
+IsFillAnswer fill.Natural form file old new written =
+    IsFillAnswerAlone None form file old new written
+IsFillAnswer (fill.Computed method) form file old new written =
+    IsFillAnswerAlone (Some method) form file old new written
+IsFillAnswer (fill.File path) form file old new written =
+    IsFillAnswerInOrder form path.now file old new written
 
 -- ---- why a command fails as others do
 

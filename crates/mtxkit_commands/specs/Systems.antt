@@ -1,5 +1,5 @@
 -- Systems whose matrices are lists of integers.
-use Rattle.std.specs.Prelude.{◌≡◌, ◌⊎◌, ◌↔◌, ℕ, ℤ, pos, List, All, IsTrue, Bool, codes, map, Option}
+use Rattle.std.specs.Prelude.{◌≡◌, ◌⊎◌, ℕ, ℤ, pos, List, All, codes, map, Option}
 use Rattle.std.specs.Prelude.{Result, Ok, Err}
 use Rattle.std.specs.Fmt.{signed_decimal}
 use Rattle.std.specs.Int.{w128}
@@ -12,12 +12,17 @@ use Rattle.sparse_io.specs.Written.{text_with}
 use Rattle.sparse_io.specs.declared.banner.Banner.TheVariants.{MixedCase}
 use Rattle.sparse_market_scalar.specs.ScalarTypes.{signed_scalar}
 use Rattle.sparse_dense_ops.specs.Solutions.{HasSameValues}
+use Rattle.mtxkit_matrices.specs.Coordinates.{dimensions_of}
+use Rattle.mtxkit_matrices.specs.Differences.{IsFirstDifference, IsFirstAsymmetry}
 use Rattle.mtxkit_matrices.specs.Values.{IsSymmetricMatrix}
 use Rattle.mtxkit_matrices.specs.Orders.{IsByColumns, coordinates_of}
-use Rattle.mtxkit_matrices.specs.Systems.{HasNoFactorisation, IsEquation, IsSystem}
+use Rattle.mtxkit_matrices.specs.Pivots.{IsSingularPivot}
+use Rattle.mtxkit_matrices.specs.Systems.{IsEquation, IsSystem}
+use Rattle.mtxkit_matrices.specs.declared.orders.EliminationOrder.{EliminationOrder}
 use Rattle.mtxkit_texts.specs.Loaded.{IsRefused, MeansIntegers}
 use Rattle.mtxkit_texts.specs.declared.failure.Failure.{Failure}
-use Rattle.mtxkit_texts.specs.declared.failure.Failure.TheVariants.{Shapes, NotSymmetric, NoFactors}
+use Rattle.mtxkit_texts.specs.declared.failure.Failure.TheVariants.{Shapes, ProductShapes}
+use Rattle.mtxkit_texts.specs.declared.failure.Failure.TheVariants.{NotSymmetric, NoFactors}
 use Rattle.mtxkit_texts.specs.declared.failure.Failure.TheVariants.{NotSolution, Modulus}
 use Rattle.mtxkit_texts.specs.declared.failure.Failure.TheVariants.{OutOfMemory}
 use Rattle.mtxkit_eval.specs.Moduli.{IsUnlisted}
@@ -37,6 +42,7 @@ module _ (R : CommRing) where
   -- A X = B; X is ordered column by column, without zeros and duplicates, and its values are reduced
   pub record Solves (reduced : ℤ → ℤ) (a x b : Coo ℤ) : Type 0 where
     pub system : IsSystem a b
+    pub symmetric : IsSymmetricMatrix R (plain_of_integers a)
     pub rows : x.nrows ≡ a.ncols
     pub cols : x.ncols ≡ b.ncols
     pub product : IsProduct a x b
@@ -44,50 +50,61 @@ module _ (R : CommRing) where
     pub nonzero : All (λ z. z ≡ pos 0 → ⊥) (map (λ t. t.2) x.triplets)
     pub values : All (λ z. reduced z ≡ z) (map (λ t. t.2) x.triplets)
 
-  -- why the system is not solved: the shapes do not fit; or they fit, and A is not symmetric or has no factorisation
-  abbrev pub IsUnsolved : {T : Type 0} → (T → R.Carrier) → Coo ℤ → Coo ℤ → Failure → Type 0
-  IsUnsolved g a b Shapes = IsSystem a b → ⊥
-  IsUnsolved g a b NotSymmetric = IsSystem a b × (¬ IsSymmetricMatrix R (plain_of_integers a))
-  IsUnsolved g a b NoFactors = IsSystem a b × HasNoFactorisation R g (plain_of_integers a)
-  IsUnsolved g a b OutOfMemory = Unit {0}
-  IsUnsolved g a b failure = ⊥
+  -- why the system is not solved: the shapes, which the failure has, do not fit; or they fit, and A differs from its
+  -- transpose, at first where the failure says; or the pivot of the failure has no inverse in the order that is asked
+  -- for, modulo the number m of the ring
+  abbrev pub IsUnsolved : {T : Type 0} → (T → R.Carrier) → Option ℕ → EliminationOrder → Coo ℤ → Coo ℤ → Failure
+      → Type 0
+  IsUnsolved g m order a b (Shapes first second) =
+      (IsSystem a b → ⊥) × (first ≡ dimensions_of a) × (second ≡ dimensions_of b)
+  IsUnsolved g m order a b (NotSymmetric at) =
+      IsSystem a b × IsFirstAsymmetry R (plain_of_integers a) at.row at.col
+  IsUnsolved g m order a b (NoFactors modulus pivot) =
+      IsSystem a b × (modulus ≡ m) × IsSingularPivot R g order (plain_of_integers a) pivot
+  IsUnsolved g m order a b OutOfMemory = Unit {0}
+  IsUnsolved g m order a b failure = ⊥
 
-  abbrev pub IsSolved : {T : Type 0} → (T → R.Carrier) → (ℤ → ℤ) → Coo ℤ → Coo ℤ
+  abbrev pub IsSolved : {T : Type 0} → (T → R.Carrier) → (ℤ → ℤ) → Option ℕ → EliminationOrder → Coo ℤ → Coo ℤ
       → Result (Coo ℤ) Failure → Type 0
-  IsSolved g reduced a b (Ok x) = Solves reduced a x b
-  IsSolved g reduced a b (Err failure) = IsUnsolved g a b failure
+  IsSolved g reduced m order a b (Ok x) = Solves reduced a x b
+  IsSolved g reduced m order a b (Err failure) = IsUnsolved g m order a b failure
 
-  -- why a solution is not confirmed: the shapes do not fit; or they fit, and A X differs from B
+  -- why a solution is not confirmed: the shapes, which the failure has, do not fit; or they fit, and A X differs from
+  -- B, at first where the failure says
   abbrev pub IsUntested : Coo ℤ → Coo ℤ → Coo ℤ → Failure → Type 0
-  IsUntested a x b Shapes = IsEquation a x b → ⊥
-  IsUntested a x b NotSolution = IsEquation a x b × (¬ IsProduct a x b)
+  IsUntested a x b (ProductShapes first second third) =
+      (IsEquation a x b → ⊥) × (first ≡ dimensions_of a) × (second ≡ dimensions_of x)
+      × (third ≡ dimensions_of b)
+  IsUntested a x b (NotSolution at) = IsEquation a x b
+      × IsFirstDifference R b.nrows b.ncols
+      (plain_product R (plain_of_integers a) (plain_of_integers x)) (plain_of_integers b) at.row
+      at.col
   IsUntested a x b OutOfMemory = Unit {0}
   IsUntested a x b failure = ⊥
 
-  -- the result says whether A X = B
-  abbrev pub IsTested : Coo ℤ → Coo ℤ → Coo ℤ → Result Bool Failure → Type 0
-  IsTested a x b (Ok same) = IsEquation a x b × (IsTrue same ↔ IsProduct a x b)
+  -- A X = B, or why that is not confirmed
+  abbrev pub IsTested : Coo ℤ → Coo ℤ → Coo ℤ → Result (Unit {0}) Failure → Type 0
+  IsTested a x b (Ok done) = IsEquation a x b × IsProduct a x b
   IsTested a x b (Err failure) = IsUntested a x b failure
 
 -- ---- by the modulus that a command gives, if any
 
 -- why the system is not solved: the modulus is not listed; or it is, and the system is not solved in its ring
-abbrev pub IsUnsolvedBy : Option ℕ → Coo ℤ → Coo ℤ → Failure → Type 0
-IsUnsolvedBy m a b Modulus = IsUnlisted m
-IsUnsolvedBy m a b failure = IsUnsolved (ring_of m) (ring_value m) a b failure
+abbrev pub IsUnsolvedBy : Option ℕ → EliminationOrder → Coo ℤ → Coo ℤ → Failure → Type 0
+IsUnsolvedBy m order a b Modulus = IsUnlisted m
+IsUnsolvedBy m order a b failure = IsUnsolved (ring_of m) (ring_value m) m order a b failure
 
-abbrev pub IsSolvedBy : Option ℕ → Coo ℤ → Coo ℤ → Result (Coo ℤ) Failure → Type 0
-IsSolvedBy m a b (Ok x) = Solves (ring_of m) (reduced_by m) a x b
-IsSolvedBy m a b (Err failure) = IsUnsolvedBy m a b failure
+abbrev pub IsSolvedBy : Option ℕ → EliminationOrder → Coo ℤ → Coo ℤ → Result (Coo ℤ) Failure → Type 0
+IsSolvedBy m order a b (Ok x) = Solves (ring_of m) (reduced_by m) a x b
+IsSolvedBy m order a b (Err failure) = IsUnsolvedBy m order a b failure
 
 -- why a solution is not confirmed: the modulus is not listed; or it is, and the solution is not confirmed in its ring
 abbrev pub IsUntestedBy : Option ℕ → Coo ℤ → Coo ℤ → Coo ℤ → Failure → Type 0
 IsUntestedBy m a x b Modulus = IsUnlisted m
 IsUntestedBy m a x b failure = IsUntested (ring_of m) a x b failure
 
-abbrev pub IsTestedBy : Option ℕ → Coo ℤ → Coo ℤ → Coo ℤ → Result Bool Failure → Type 0
-IsTestedBy m a x b (Ok same) =
-    IsEquation a x b × (IsTrue same ↔ IsProduct (ring_of m) a x b)
+abbrev pub IsTestedBy : Option ℕ → Coo ℤ → Coo ℤ → Coo ℤ → Result (Unit {0}) Failure → Type 0
+IsTestedBy m a x b (Ok done) = IsEquation a x b × IsProduct (ring_of m) a x b
 IsTestedBy m a x b (Err failure) = IsUntestedBy m a x b failure
 
 -- ---- texts
@@ -117,19 +134,20 @@ pub record WritesSolution (m : Option ℕ) (first second written : List ℕ) : T
   pub is : written ≡ text_with MixedCase (codes "integer") signed_decimal x
 
 -- the system of the matrices that the two texts mean is not solved
-pub record HasNoSolution (m : Option ℕ) (first second : List ℕ) (failure : Failure) : Type 0 where
+pub record HasNoSolution (m : Option ℕ) (order : EliminationOrder) (first second : List ℕ)
+    (failure : Failure) : Type 0 where
   pub a : Coo ℤ
   pub b : Coo ℤ
   pub first_means : MeansIntegers first a
   pub second_means : MeansIntegers second b
-  pub why : IsUnsolvedBy m a b failure
+  pub why : IsUnsolvedBy m order a b failure
 
 -- why `solve_text` fails: an allocation failed, a text has an error and those before it have none, or the system is not
 -- solved
-abbrev pub IsSolveFailure : Option ℕ → List ℕ → List ℕ → Failure → Type 0
-IsSolveFailure m first second failure =
+abbrev pub IsSolveFailure : Option ℕ → EliminationOrder → List ℕ → List ℕ → Failure → Type 0
+IsSolveFailure m order first second failure =
     (failure ≡ OutOfMemory) ⊎ (IsNoList 1 first failure ⊎ (IsSecondNoList first second failure
-    ⊎ HasNoSolution m first second failure))
+    ⊎ HasNoSolution m order first second failure))
 
 -- the three texts mean A, X and B, and A X = B
 abbrev pub MeansProduct : Option ℕ → List ℕ → List ℕ → List ℕ → Type 0

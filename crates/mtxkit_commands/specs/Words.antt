@@ -5,7 +5,11 @@ use Rattle.std.specs.Option.{option_map}
 use Rattle.clap.specs.Matches.{first_value, matched_of, one_text, raw_values}
 use Rattle.clap.specs.declared.parser.matches.Found.{Found}
 use Rattle.sparse_expr.specs.declared.calculator.OutputOrder.TheVariants.{Rows}
+use Rattle.mtxkit_texts.specs.declared.facts.Form.{Form}
+use Rattle.mtxkit_texts.specs.declared.facts.Form.TheVariants.{Lines}
 use Rattle.mtxkit_commands.specs.Names.{target_file, paths}
+use Rattle.mtxkit_matrices.specs.declared.orders.EliminationOrder.{EliminationOrder}
+use Rattle.mtxkit_matrices.specs.declared.orders.EliminationOrder.TheVariants as elimination
 use Rattle.mtxkit_patterns.specs.declared.square.Method.{Method}
 use Rattle.mtxkit_patterns.specs.declared.square.Method.TheVariants.{MinimumDegree}
 use Rattle.mtxkit_patterns.specs.declared.square.Method.TheVariants.{ReverseCuthillMckee}
@@ -24,7 +28,7 @@ use Rattle.mtxkit_commands.specs.declared.commands.Values.TheVariants.{Integers,
 
 -- the name of a command
 abbrev pub command_name : Command → List ℕ
-command_name (Info file) = codes "info"
+command_name (Info file form) = codes "info"
 command_name (Spy file size target) = codes "spy"
 command_name (Copy file) = codes "copy"
 command_name (Field file values) = codes "field"
@@ -32,9 +36,9 @@ command_name (Integer file scale) = codes "integer"
 command_name (Symmetric file) = codes "symmetric"
 command_name (Order file method) = codes "order"
 command_name (Permute order file) = codes "permute"
-command_name (Fill file order) = codes "fill"
+command_name (Fill file order form) = codes "fill"
 command_name (Eval modulus order words files) = codes "eval"
-command_name (Solve modulus a b) = codes "solve"
+command_name (Solve modulus order a b) = codes "solve"
 command_name (Check modulus a x b) = codes "check"
 
 -- the argument for these values
@@ -74,6 +78,17 @@ abbrev pub GivesOrder : Option (List ℕ) → FillOrder → Type 0
 GivesOrder None order = order ≡ fill.Natural
 GivesOrder (Some name) order = IsOrderNamed name order
 
+-- the name of an order of elimination
+abbrev pub elimination_name : EliminationOrder → List ℕ
+elimination_name elimination.Natural = codes "natural"
+elimination_name elimination.MinimumDegree = codes "amd"
+elimination_name elimination.ReverseCuthillMckee = codes "rcm"
+
+-- the order of elimination has the name that is given, or is minimum degree if none is
+abbrev pub GivesElimination : Option (List ℕ) → EliminationOrder → Type 0
+GivesElimination None order = order ≡ elimination.MinimumDegree
+GivesElimination (Some name) order = name ≡ elimination_name order
+
 -- the argument with this name is this text
 abbrev pub IsArgument : Found → List ℕ → List ℕ → Type 0
 IsArgument words name text = first_value words name ≡ Some text
@@ -88,10 +103,14 @@ IsNamedFile (Some path) file =
 abbrev pub AreArguments : Found → List ℕ → List (List ℕ) → Type 0
 AreArguments words name texts = option_map raw_values (matched_of words name) ≡ Some texts
 
+-- facts are written as lines unless the arguments give a flag
+abbrev pub GivesForm : Found → Form → Type 0
+GivesForm words form = one_text words (codes "json") ≡ None → form ≡ Lines
+
 -- the command has the files, the field and the output file that these arguments name, and the default size, scale or
 -- modulus if the arguments give none
 abbrev pub GivesCommand : Found → Command → Type 0
-GivesCommand words (Info file) = IsArgument words (codes "FILE") file.now
+GivesCommand words (Info file form) = IsArgument words (codes "FILE") file.now × GivesForm words form
 GivesCommand words (Spy file size target) = IsArgument words (codes "FILE") file.now
     × IsNamedFile (first_value words (codes "output")) (target_file target)
     × (one_text words (codes "size") ≡ None → size ≡ default_size target)
@@ -105,14 +124,15 @@ GivesCommand words (Order file method) = IsArgument words (codes "FILE") file.no
     × GivesMethod (first_value words (codes "METHOD")) method
 GivesCommand words (Permute order file) = IsArgument words (codes "ORDER") order.now
     × IsArgument words (codes "FILE") file.now
-GivesCommand words (Fill file order) = IsArgument words (codes "FILE") file.now
-    × GivesOrder (first_value words (codes "order")) order
+GivesCommand words (Fill file order form) = IsArgument words (codes "FILE") file.now
+    × (GivesOrder (first_value words (codes "order")) order × GivesForm words form)
 GivesCommand words (Eval modulus order expression files) =
     IsArgument words (codes "EXPR") expression.now × AreArguments words (codes "FILE") (paths files.now)
     × (one_text words (codes "columns") ≡ None → order ≡ Rows)
     × (one_text words (codes "mod") ≡ None → modulus ≡ None)
-GivesCommand words (Solve modulus a b) = IsArgument words (codes "A") a.now
+GivesCommand words (Solve modulus order a b) = IsArgument words (codes "A") a.now
     × IsArgument words (codes "B") b.now × (one_text words (codes "mod") ≡ None → modulus ≡ None)
+    × GivesElimination (first_value words (codes "order")) order
 GivesCommand words (Check modulus a x b) = IsArgument words (codes "A") a.now
     × IsArgument words (codes "X") x.now × IsArgument words (codes "B") b.now
     × (one_text words (codes "mod") ≡ None → modulus ≡ None)

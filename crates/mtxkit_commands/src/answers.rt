@@ -1,7 +1,7 @@
 //! Computes what commands write, from the texts of their files.
 
 ghost use Rattle.std.specs.Prelude.{◌<◌, ℕ, Option, IfOk, IfErr, string_bytes};
-ghost use Rattle.mtxkit_texts.specs.Loaded.{IsLoadFailure};
+ghost use Rattle.mtxkit_texts.specs.AnyField.{IsPlacesFailure};
 ghost use Rattle.mtxkit_commands.specs.Commands.{IsAnswer, IsSized, ShowsPicture, WritesValues};
 ghost use Rattle.mtxkit_commands.specs.Commands.{IsFieldFailureOf, HasNoAnswer, IsSolveAnswer};
 ghost use Rattle.mtxkit_commands.specs.Commands.{IsUnsolved, IsCheckAnswer, IsUnchecked};
@@ -15,7 +15,7 @@ use crate::scaled::scaled_of;
 use crate::systems::{check_text, solve_text};
 use mtxkit_matrices::EliminationOrder;
 use mtxkit_texts::{
-    Failure, copy_text, info_text, integer_text, pattern_text, spy_bitmap, spy_blocks, spy_svg,
+    Failure, copy_text, info_text, integer_text, places_text, spy_bitmap, spy_blocks, spy_svg,
     symmetric_text,
 };
 use std::alloc::Global;
@@ -35,9 +35,9 @@ pub fn answer_of<T: Texts>(
         (HasNoAnswer command.entry (T.readings texts.old) (T.readings texts.new)) }
 {
     match command {
-        Command::Info { file } => {
+        Command::Info { file, form } => {
             let text = read_text(texts, 1, file)?;
-            Ok(info_text(alloc, text.as_str())?.into_bytes())
+            Ok(info_text(alloc, form, text.as_str())?.into_bytes())
         }
         Command::Spy { file, size, target } => {
             let text = read_text(texts, 1, file)?;
@@ -58,7 +58,7 @@ pub fn answer_of<T: Texts>(
         }
         Command::Order { file, method } => ordered_of(alloc, texts, file, method),
         Command::Permute { order, file } => permuted_of(alloc, texts, order, file),
-        Command::Fill { file, order } => filled_of(alloc, texts, file, order),
+        Command::Fill { file, order, form } => filled_of(alloc, texts, file, order, form),
         Command::Eval {
             modulus,
             order,
@@ -90,7 +90,7 @@ fn solution_of<T: Texts>(
     ensures answer { IfOk result (λ answer. IsSolveAnswer modulus a.now b.now
         (T.readings texts.old) (T.readings texts.new) (string_bytes answer)) }
     ensures failed { IfErr result
-        (IsUnsolved modulus a.now b.now (T.readings texts.old) (T.readings texts.new)) }
+        (IsUnsolved modulus order a.now b.now (T.readings texts.old) (T.readings texts.new)) }
 {
     let first = read_text(texts, 1, a)?;
     let second = read_text(texts, 2, b)?;
@@ -124,12 +124,12 @@ fn check_of<T: Texts>(
     )
 }
 
-// Returns the picture of a text's pattern, in the form for this target.
+// Returns the picture of the pattern that a text means, in the form for this target.
 fn picture(alloc: Global, size: usize, target: Target<'_>, text: &str) -> Result<String, Failure>
     requires { 0 < size }
     ensures shown { IfOk result
         (λ shown. ShowsPicture target.entry text.now size (string_bytes shown)) }
-    ensures refused { IfErr result (IsLoadFailure 1 text.now) }
+    ensures refused { IfErr result (IsPlacesFailure 1 text.now) }
 {
     match target {
         Target::Bitmap => spy_bitmap(alloc, text, size),
@@ -147,6 +147,6 @@ fn rewritten(alloc: Global, values: Values, text: &str) -> Result<String, Failur
 {
     match values {
         Values::Integers => integer_text(alloc, text),
-        Values::Pattern => pattern_text(alloc, text),
+        Values::Pattern => places_text(alloc, text),
     }
 }

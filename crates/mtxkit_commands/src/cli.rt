@@ -15,7 +15,8 @@ use crate::answers::answer_of;
 use crate::command_error::CommandError;
 use crate::commands::{Command, order_number};
 use crate::evaluated::report_unevaluated;
-use crate::failure_lines::{report, report_write};
+use crate::failure_lines::report_write;
+use crate::fault_files::report_failure;
 use crate::inputs::Texts;
 use crate::orders::report_misordered;
 use crate::scaled::report_unscaled;
@@ -74,9 +75,7 @@ fn report_error<E: Sink>(
         (E.accepted err.new) (E.failures err.old) (E.failures err.new) }
 {
     match error {
-        CommandError::Failed(failure) => {
-            report(alloc, command.file_at_fault(failure), failure, err)
-        }
+        CommandError::Failed(failure) => report_failure(alloc, command, failure, err),
         CommandError::Unscaled(error, least) => {
             report_unscaled(alloc, command.first_file(), error, least, err)
         }

@@ -51,6 +51,7 @@ enum Word {
     Expression,
     Field,
     Files,
+    Json,
     Method,
     Modulus,
     Order,
@@ -66,7 +67,7 @@ const USAGES: [Usage; 12] = [
     Usage {
         name: "info",
         about: "Writes facts about a matrix",
-        words: &[Word::File("FILE", MATRIX_FILE)],
+        words: &[Word::Json, Word::File("FILE", MATRIX_FILE)],
     },
     Usage {
         name: "spy",
@@ -115,7 +116,7 @@ const USAGES: [Usage; 12] = [
     Usage {
         name: "fill",
         about: "Writes facts about the factor L D L^T of a square matrix: its fill and its cost",
-        words: &[Word::Order, Word::File("FILE", MATRIX_FILE)],
+        words: &[Word::Order, Word::Json, Word::File("FILE", MATRIX_FILE)],
     },
     Usage {
         name: "eval",
@@ -191,6 +192,7 @@ fn argument<'a>(alloc: Global, word: Word) -> Result<Arg<'a>, AllocError> {
         Word::Expression => Ok(file_word(alloc, "EXPR", EXPRESSION)),
         Word::Field => Ok(field_word(alloc)),
         Word::Files => Ok(files_word(alloc)),
+        Word::Json => Ok(json_word(alloc)),
         Word::Method => Ok(method_word(alloc)),
         Word::Modulus => Ok(modulus_word(alloc)),
         Word::Order => Ok(order_word(alloc)),
@@ -217,6 +219,13 @@ fn field_word<'a>(alloc: Global) -> Arg<'a> {
 
 fn files_word<'a>(alloc: Global) -> Arg<'a> {
     file_word(alloc, "FILE", MATRIX_FILE).num_args(1..)
+}
+
+fn json_word<'a>(alloc: Global) -> Arg<'a> {
+    Arg::new(alloc, "json")
+        .long("json")
+        .action(ArgAction::SetTrue)
+        .help("Write an object in JSON")
 }
 
 fn rows_word<'a>(alloc: Global) -> Arg<'a> {

@@ -10,7 +10,7 @@ ghost use Rattle.mtxkit_commands.specs.Names.{first_of_fill, order_number, secon
 
 use mtxkit_matrices::EliminationOrder;
 use mtxkit_patterns::{Method, OrderError};
-use mtxkit_texts::Failure;
+use mtxkit_texts::{Failure, Form};
 use sparse_expr::OutputOrder;
 
 /// A command. Its files are given by their paths, and `-` is standard input.
@@ -20,6 +20,8 @@ pub enum Command<'a> {
     Info {
         /// The file.
         file: &'a str,
+        /// How the facts are written.
+        form: Form,
     },
     /// `spy`: writes a picture of a pattern, whose sides have at most `size` cells.
     Spy {
@@ -74,6 +76,8 @@ pub enum Command<'a> {
         file: &'a str,
         /// The order of the rows and columns.
         order: FillOrder<'a>,
+        /// How the facts are written.
+        form: Form,
     },
     /// `eval`: writes the value of an expression over matrices of integers.
     Eval {
@@ -153,7 +157,7 @@ impl<'a> Command<'a> {
         ensures { result.now ≡ first_file self.entry }
     {
         match self {
-            Command::Info { file }
+            Command::Info { file, .. }
             | Command::Spy { file, .. }
             | Command::Copy { file }
             | Command::Field { file, .. }
@@ -161,25 +165,25 @@ impl<'a> Command<'a> {
             | Command::Symmetric { file }
             | Command::Order { file, .. } => file,
             Command::Permute { order, .. } => order,
-            Command::Fill { file, order } => order.first(file),
+            Command::Fill { file, order, .. } => order.first(file),
             Command::Eval { files, .. } => first_among(files),
             Command::Solve { a, .. } | Command::Check { a, .. } => a,
         }
     }
 
-    fn second_file(self) -> Option<&'a str>
+    pub(crate) fn second_file(self) -> Option<&'a str>
         ensures { option_map (λ path. path.now) result ≡ second_file self.entry }
     {
         match self {
             Command::Permute { file, .. } => Some(file),
-            Command::Fill { file, order } => order.second(file),
+            Command::Fill { file, order, .. } => order.second(file),
             Command::Solve { b, .. } => Some(b),
             Command::Check { x, .. } => Some(x),
             _ => None,
         }
     }
 
-    fn third_file(self) -> Option<&'a str>
+    pub(crate) fn third_file(self) -> Option<&'a str>
         ensures { option_map (λ path. path.now) result ≡ third_file self.entry }
     {
         match self {
@@ -188,7 +192,7 @@ impl<'a> Command<'a> {
         }
     }
 
-    /// Returns the path of the file that a failure of the command is about, if it is about one.
+    /// Returns the path of the file that a failure of the command is about, if it is about one alone.
     pub fn file_at_fault(self, failure: Failure) -> Option<&'a str>
         ensures { option_map (λ path. path.now) result ≡ fault_file self.entry failure }
     {

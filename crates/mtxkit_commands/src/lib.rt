@@ -10,6 +10,7 @@ mod command_line;
 mod commands;
 mod evaluated;
 mod failure_lines;
+mod fault_files;
 mod inputs;
 mod lists;
 mod orders;

@@ -15,6 +15,7 @@ use crate::inputs::{Texts, read_text};
 use mtxkit_patterns::{
     Method, OrderError, fill_text, fill_text_in_order, order_text, permute_text,
 };
+use mtxkit_texts::Form;
 use sparse_io::Sink;
 use std::alloc::{AllocError, Global};
 
@@ -57,59 +58,62 @@ pub(crate) fn permuted_of<T: Texts>(
     }
 }
 
-/// Reads the file of the order, if there is one, and that of the matrix, and returns the lines about its fill.
+/// Reads the file of the order, if there is one, and that of the matrix, and returns the facts about its fill.
 pub(crate) fn filled_of<T: Texts>(
     alloc: Global,
     texts: &mut T,
     file: &str,
     order: FillOrder<'_>,
+    form: Form,
 ) -> Result<Vec<u8>, CommandError>
-    ensures answer { IfOk result (λ answer. IsFillAnswer order.entry file.now
+    ensures answer { IfOk result (λ answer. IsFillAnswer order.entry form file.now
         (T.readings texts.old) (T.readings texts.new) answer.items) }
     ensures failed { IfErr result
         (IsFillError order.entry file.now (T.readings texts.old) (T.readings texts.new)) }
 {
     match order {
-        FillOrder::Natural => filled_alone(alloc, texts, file, None),
-        FillOrder::Computed(method) => filled_alone(alloc, texts, file, Some(method)),
-        FillOrder::File(path) => filled_in_order(alloc, texts, path, file),
+        FillOrder::Natural => filled_alone(alloc, texts, file, None, form),
+        FillOrder::Computed(method) => filled_alone(alloc, texts, file, Some(method), form),
+        FillOrder::File(path) => filled_in_order(alloc, texts, path, file, form),
     }
 }
 
-// Reads the file, and returns the lines about its fill.
+// Reads the file, and returns the facts about its fill.
 fn filled_alone<T: Texts>(
     alloc: Global,
     texts: &mut T,
     file: &str,
     method: Option<Method>,
+    form: Form,
 ) -> Result<Vec<u8>, CommandError>
-    ensures answer { IfOk result (λ answer. IsFillAnswerAlone method file.now
+    ensures answer { IfOk result (λ answer. IsFillAnswerAlone method form file.now
         (T.readings texts.old) (T.readings texts.new) answer.items) }
     ensures failed { IfErr result
         (IsOrderError file.now (T.readings texts.old) (T.readings texts.new)) }
 {
     let text = read_text(texts, 1, file)?;
-    match fill_text(alloc, method, text.as_str()) {
+    match fill_text(alloc, form, method, text.as_str()) {
         Ok(lines) => Ok(lines.into_bytes()),
         Err(error) => Err(CommandError::of_order(error)),
     }
 }
 
-// Reads both files, and returns the lines about the fill of the matrix in this order.
+// Reads both files, and returns the facts about the fill of the matrix in this order.
 fn filled_in_order<T: Texts>(
     alloc: Global,
     texts: &mut T,
     order: &str,
     file: &str,
+    form: Form,
 ) -> Result<Vec<u8>, CommandError>
-    ensures answer { IfOk result (λ answer. IsFillAnswerInOrder order.now file.now
+    ensures answer { IfOk result (λ answer. IsFillAnswerInOrder form order.now file.now
         (T.readings texts.old) (T.readings texts.new) answer.items) }
     ensures failed { IfErr result
         (IsFillErrorInOrder order.now file.now (T.readings texts.old) (T.readings texts.new)) }
 {
     let first = read_text(texts, 1, order)?;
     let second = read_text(texts, 2, file)?;
-    match fill_text_in_order(alloc, first.as_str(), second.as_str()) {
+    match fill_text_in_order(alloc, form, first.as_str(), second.as_str()) {
         Ok(lines) => Ok(lines.into_bytes()),
         Err(error) => Err(CommandError::of_order(error)),
     }

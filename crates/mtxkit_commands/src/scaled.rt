@@ -27,9 +27,10 @@ pub(crate) fn scaled_of<T: Texts>(
         (IsScaleError scale file.now (T.readings texts.old) (T.readings texts.new)) }
 {
     let text = read_text(texts, 1, file)?;
-    match scaled_text(alloc, scale, text.as_str().as_bytes()) {
+    let bytes = text.as_str().as_bytes();
+    match scaled_text(alloc, scale, bytes) {
         Ok(written) => Ok(written),
-        Err(error) => Err(unscaled(alloc, text.as_str().as_bytes(), error)),
+        Err(error) => Err(unscaled(alloc, bytes, error)),
     }
 }
 

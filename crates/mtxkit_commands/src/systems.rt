@@ -1,12 +1,10 @@
 //! The commands `mtxkit solve` and `mtxkit check` on the texts of their files.
 
-ghost use Rattle.std.specs.Prelude.{◌≡◌, ◌⊎◌, IfOk, IfErr, IsTrue, codes, string_bytes};
+ghost use Rattle.std.specs.Prelude.{◌≡◌, IfOk, IfErr, string_bytes};
 ghost use Rattle.mtxkit_commands.specs.Systems.{IsSolved, IsTested, IsSolvedBy, IsTestedBy};
 ghost use Rattle.mtxkit_commands.specs.Systems.{WritesSolution, IsSolveFailure, SaysProduct};
 ghost use Rattle.mtxkit_commands.specs.Systems.{IsCheckFailure};
-ghost use Rattle.mtxkit_texts.specs.declared.failure.Failure.TheVariants.{NotSolution};
-ghost use Rattle.mtxkit_texts.specs.declared.failure.Failure.TheVariants.{OutOfMemory};
-ghost use Rattle.mtxkit_commands.specs.SystemErrors.{system_fault};
+ghost use Rattle.mtxkit_commands.specs.SystemErrors.{check_fault, system_fault};
 
 use crate::lists::{elements_of, integers_of};
 use mtxkit_eval::Residues;
@@ -20,7 +18,8 @@ use sparse_io::{Banner, save_to_matrix_market_str_with};
 use std::alloc::Global;
 
 /// Returns the text of the matrix X for which A X = B. The texts `a` and `b` are those of the symmetric matrix A and of
-/// B. X is written column by column and each column from the top, without its zeros.
+/// B. X is written column by column and each column from the top, without its zeros. A is factored in the order that is
+/// asked for, on which X does not depend.
 ///
 /// The matrices are over the integers modulo `modulus`, or modulo 2^64 if there is none.
 ///
@@ -28,7 +27,8 @@ use std::alloc::Global;
 ///
 /// Returns `Input` or `NotSupported` if a text is not that of a matrix of integers, `Modulus` if the program is not built
 /// for the modulus, `Shapes` if A is not square or B has a different number of rows, `NotSymmetric` if A is not
-/// symmetric, and `NoFactors` if A has no factorisation L D L^T. Otherwise fails only if an allocation fails.
+/// symmetric, and `NoFactors` if A has no factorisation L D L^T in the order. Otherwise fails only if an allocation
+/// fails.
 pub fn solve_text(
     alloc: Global,
     modulus: Option<u64>,
@@ -38,7 +38,7 @@ pub fn solve_text(
 ) -> Result<String, Failure>
     ensures written { IfOk result
         (λ written. WritesSolution modulus a.now b.now (string_bytes written)) }
-    ensures refused { IfErr result (IsSolveFailure modulus a.now b.now) }
+    ensures refused { IfErr result (IsSolveFailure modulus order a.now b.now) }
 {
     let a = read_integers(alloc, 1, a)?;
     let b = read_integers(alloc, 2, b)?;
@@ -55,8 +55,8 @@ pub fn solve_text(
 /// # Errors
 ///
 /// Returns `Input` or `NotSupported` if a text is not that of a matrix of integers, `Modulus` if the program is not built
-/// for the modulus, `Shapes` if the shapes do not fit, and `NotSolution` if A X differs from B. Otherwise fails only if
-/// an allocation fails.
+/// for the modulus, `ProductShapes` if the shapes do not fit, and `NotSolution` if A X differs from B. Otherwise fails
+/// only if an allocation fails.
 pub fn check_text(
     alloc: Global,
     modulus: Option<u64>,
@@ -85,7 +85,7 @@ fn solve_modulo(
     a: &CooMatrix<i128>,
     b: &CooMatrix<i128>,
 ) -> Result<CooMatrix<i128>, Failure>
-    ensures { IsSolvedBy modulus a.now b.now result }
+    ensures { IsSolvedBy modulus order a.now b.now result }
 {
     match modulus {
         None => solve_in::<W64>(alloc, modulus, order, a, b),
@@ -99,7 +99,9 @@ fn solve_modulo(
         Some(65537) => solve_in::<Mod<65537>>(alloc, modulus, order, a, b),
         Some(998244353) => solve_in::<Mod<998244353>>(alloc, modulus, order, a, b),
         Some(1000000007) => solve_in::<Mod<1000000007>>(alloc, modulus, order, a, b),
-        Some(2305843009213693951) => solve_in::<Mod<2305843009213693951>>(alloc, modulus, order, a, b),
+        Some(2305843009213693951) => solve_in::<Mod<2305843009213693951>>(
+            alloc, modulus, order, a, b,
+        ),
         Some(_) => Err(Failure::Modulus),
     }
 }
@@ -139,13 +141,16 @@ fn solve_in<T: Residues>(
     a: &CooMatrix<i128>,
     b: &CooMatrix<i128>,
 ) -> Result<CooMatrix<i128>, Failure>
-    ensures { IsSolved T.ring T.value T.reduced a.now b.now result }
+    ensures { IsSolved T.ring T.value T.reduced modulus order a.now b.now result }
 {
-    let a: CooMatrix<T> = elements_of(alloc, a)?;
-    let b: CooMatrix<T> = elements_of(alloc, b)?;
-    match solve_listed(alloc, order, &a, &b) {
+    let matrix: CooMatrix<T> = elements_of(alloc, a)?;
+    let sides: CooMatrix<T> = elements_of(alloc, b)?;
+    match solve_listed(alloc, order, &matrix, &sides) {
         Ok(x) => Ok(integers_of(alloc, &x)?),
-        Err(error) => Err(system_fault(modulus, Dimensions::of(&a), Dimensions::of(&b), error)),
+        Err(error) => {
+            let (a, b) = (Dimensions::of(a), Dimensions::of(b));
+            Err(system_fault(modulus, a, b, error))
+        }
     }
 }
 
@@ -158,25 +163,20 @@ fn check_in<T: Residues>(
 ) -> Result<(), Failure>
     ensures { IsTested T.ring a.now x.now b.now result }
 {
-    let a: CooMatrix<T> = elements_of(alloc, a)?;
-    let x: CooMatrix<T> = elements_of(alloc, x)?;
-    let b: CooMatrix<T> = elements_of(alloc, b)?;
-    match check_solution(alloc, &a, &x, &b) {
+    let matrix: CooMatrix<T> = elements_of(alloc, a)?;
+    let solution: CooMatrix<T> = elements_of(alloc, x)?;
+    let sides: CooMatrix<T> = elements_of(alloc, b)?;
+    match check_solution(alloc, &matrix, &solution, &sides) {
         Ok(()) => Ok(()),
         Err(error) => {
-            let (a, x, b) = (Dimensions::of(&a), Dimensions::of(&x), Dimensions::of(&b));
+            let (a, x, b) = (Dimensions::of(a), Dimensions::of(x), Dimensions::of(b));
             Err(check_fault(a, x, b, error))
         }
     }
 }
 
 // Returns the failure for an error of solving a system modulo a number, where A and B have these dimensions.
-fn system_fault(
-    modulus: Option<u64>,
-    a: Dimensions,
-    b: Dimensions,
-    error: SystemError,
-) -> Failure
+fn system_fault(modulus: Option<u64>, a: Dimensions, b: Dimensions, error: SystemError) -> Failure
     ensures { result ≡ system_fault modulus a b error }
 {
     match error {

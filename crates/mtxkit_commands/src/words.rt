@@ -10,13 +10,15 @@ ghost use Rattle.sparse_expr.specs.declared.calculator.OutputOrder.TheVariants.{
 ghost use Rattle.mtxkit_commands.specs.Commands.{IsSized};
 ghost use Rattle.mtxkit_commands.specs.Names.{target_file};
 ghost use Rattle.mtxkit_commands.specs.Words.{command_name, field_name, size_given};
-ghost use Rattle.mtxkit_commands.specs.Words.{GivesCommand, GivesMethod, GivesOrder, IsNamedFile};
+ghost use Rattle.mtxkit_commands.specs.Words.{GivesCommand, GivesElimination, GivesForm};
+ghost use Rattle.mtxkit_commands.specs.Words.{GivesMethod, GivesOrder, IsNamedFile};
 
 use crate::command_line::command_line;
 use crate::commands::{Command, FillOrder, Target, Values};
 use clap::{ArgMatches, Error};
 use mtxkit_matrices::EliminationOrder;
 use mtxkit_patterns::Method;
+use mtxkit_texts::Form;
 use sparse_expr::OutputOrder;
 use std::alloc::Global;
 
@@ -72,7 +74,19 @@ fn info_of<'a>(words: &ArgMatches<'a>) -> Option<Command<'a>>
     ensures given { IfSome result (GivesCommand (found_of words.now)) }
 {
     let file = words.get_str("FILE")?;
-    Some(Command::Info { file })
+    let form = form_of(words);
+    Some(Command::Info { file, form })
+}
+
+// Returns how facts are written.
+fn form_of(words: &ArgMatches<'_>) -> Form
+    ensures { GivesForm (found_of words.now) result }
+{
+    if words.get_flag("json") {
+        Form::Json
+    } else {
+        Form::Lines
+    }
 }
 
 fn spy_of<'a>(words: &ArgMatches<'a>) -> Option<Command<'a>>
@@ -205,7 +219,8 @@ fn fill_of<'a>(words: &ArgMatches<'a>) -> Option<Command<'a>>
 {
     let file = words.get_str("FILE")?;
     let order = fill_order(words.get_str("order"));
-    Some(Command::Fill { file, order })
+    let form = form_of(words);
+    Some(Command::Fill { file, order, form })
 }
 
 // Returns the order with this name, or that of the file with this path, and the natural one if none is given.

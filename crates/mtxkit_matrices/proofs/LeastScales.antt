@@ -120,5 +120,6 @@ no_less text n scale least (line, words, l, are, (h, below, content, misfit)) le
     value =
         let here = scaled_here less h.format below.read words (contents_in l.behind) t.entries
         values in
-        value_here less h.format misfit.places misfit.value here.0 (rw misfit.words_are at misfit.is)
-        (rw misfit.words_are at here.1)
+        value_here less h.format misfit.places misfit.value here.0
+        (subst (λ (ws : List (List ℕ)). is_decimal_entry h.format ws ≡ true) misfit.words_are misfit.is)
+        (subst (λ (ws : List (List ℕ)). IsScaledEntry less h.format ws here.0) misfit.words_are here.1)

@@ -6,6 +6,8 @@ mod EntriesLeft
 mod CellCounts
 -- systems, and the values of matrices
 mod ColumnOrders
+mod FirstDifferences
+mod SingularPivots
 mod SymmetricSystems
 mod ZeroValues
 -- decimals: numbers

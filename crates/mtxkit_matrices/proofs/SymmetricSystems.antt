@@ -8,16 +8,15 @@ use Rattle.sparse_algebra.specs.Plain.{Plain, plain_product}
 use Rattle.sparse_algebra.specs.Sums.{sum_below}
 use Rattle.sparse_algebra.proofs.SumLemmas.{sum_below-same}
 use Rattle.sparse_coo_dense.specs.DensePlain.{plain_full}
-use Rattle.sparse_factor.specs.Factorisations.{IsFactorisation, plain_symmetric}
+use Rattle.sparse_factor.specs.Factorisations.{plain_symmetric}
 use Rattle.sparse_dense_ops.specs.Solutions.{HasSameValues}
-use Rattle.mtxkit_matrices.specs.Systems.{HasNoFactorisation}
 
 module _ (R : CommRing) where
   -- a.value i j and a.value j i agree for i, j < n
   abbrev pub IsSymmetricBelow : ℕ → Plain R → Type 0
   IsSymmetricBelow n a = (i j : ℕ) → i < n → j < n → a.value i j ≡ a.value j i
 
-  symmetric_is : (n : ℕ) (a : Plain R) → IsSymmetricBelow n a → (i j : ℕ) → i < n → j < n
+  pub symmetric_is : (n : ℕ) (a : Plain R) → IsSymmetricBelow n a → (i j : ℕ) → i < n → j < n
       → (plain_symmetric R a).value i j ≡ a.value i j
   symmetric_is n a h i j row col = elim (cases_lt i j) [
     | inl lt ↦ ap (λ k. a.value k (max i j)) (min-eq_left (omega (arith, lt)))
@@ -46,15 +45,3 @@ module _ (R : CommRing) where
       sum_below-same R a.cols (λ k. R.mul (a.value i k) (y.value k j))
       (λ k. R.mul (a.value i k) (x.value k j)) (λ k lt. ap (R.mul (a.value i k)) (same k j))
       ∙ solved i j row col
-
-  pub no_factors : {T : Type 0} (f : T → R.Carrier) (a : Plain R) → IsSymmetricBelow a.rows a
-      → ((l : Plain R) (d : ℕ → R.Carrier) → IsFactorisation R f (plain_symmetric R a) l d → ⊥)
-      → HasNoFactorisation R f a
-  no_factors f a h none l d is =
-      none l d (record {
-        rows = is.rows;
-        lower = is.lower;
-        pivots = is.pivots;
-        equation = λ i j row col. is.equation i j row col
-            ∙ sym (symmetric_is a.rows a h i j row col);
-      })

@@ -39,43 +39,9 @@ module _ (R : CommRing) {T : Type 0} (f : T → R.Carrier) (z : T) (m : Compress
 
 -- ---- differences
 
--- the value at each pair outside the shape is zero
-abbrev pub IsZeroOutside : (R : CommRing) → ℕ → ℕ → Plain R → Type 0
-IsZeroOutside R n m a = (i j : ℕ) → (n ≤ i) ⊎ (m ≤ j) → a.value i j ≡ R.zero
-
-pub zero_outside : (R : CommRing) {T : Type 0} (f : T → R.Carrier) (c : Compressed T) → IsSound c
-    → IsZeroOutside R c.pattern.major_dim c.pattern.minor_dim (plain_of_rows R f c)
-zero_outside R f c sound i j out =
-    let have = plain_of_rows-has_lanes R f c sound in
-    elim (cases_Bool ((plain_of_rows R f c).has i j)) [
-      | inl is ↦
-          let within = have.within i j is in
-          elim out [
-            | inl row ↦ absurd (omega (arith, row, within.0))
-            | inr col ↦ absurd (omega (arith, col, within.1))
-          ]
-      | inr not ↦ have.proper i j not
-    ]
-
-module _ (R : CommRing) (a b d : Plain R) where
-  pub same_of_zero : d ≡ plain_difference R a b → AllZero R d → (n m : ℕ)
-      → HasSameValues R n m a b
-  same_of_zero is zero n m i j _ _ =
-      cancel R (a.value i j) (b.value i j) (R.neg (b.value i j))
-      (sym (ap (λ (p : Plain R). p.value i j) is) ∙ zero i j
-      ∙ sym (R.laws.add_neg (b.value i j)))
-
-  pub zero_of_same : d ≡ plain_difference R a b → (n m : ℕ) → IsZeroOutside R n m a
-      → IsZeroOutside R n m b → HasSameValues R n m a b → AllZero R d
-  zero_of_same is n m outside_a outside_b same i j =
-      ap (λ (p : Plain R). p.value i j) is
-      ∙ ap (λ v. R.add v (R.neg (b.value i j))) (same_everywhere i j) ∙ R.laws.add_neg (b.value i j)
-    where
-      same_everywhere : (i j : ℕ) → a.value i j ≡ b.value i j
-      same_everywhere i j = elim (cases_lt i n) [
-        | inl row ↦ elim (cases_lt j m) [
-          | inl col ↦ same i j row col
-          | inr out ↦ outside_a i j (inr out) ∙ sym (outside_b i j (inr out))
-        ]
-        | inr out ↦ outside_a i j (inl out) ∙ sym (outside_b i j (inl out))
-      ]
+pub same_of_zero : (R : CommRing) (a b d : Plain R) → d ≡ plain_difference R a b → AllZero R d
+    → (n m : ℕ) → HasSameValues R n m a b
+same_of_zero R a b d is zero n m i j _ _ =
+    cancel R (a.value i j) (b.value i j) (R.neg (b.value i j))
+    (sym (ap (λ (p : Plain R). p.value i j) is) ∙ zero i j
+    ∙ sym (R.laws.add_neg (b.value i j)))

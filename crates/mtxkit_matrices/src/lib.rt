@@ -8,6 +8,7 @@ mod facts;
 mod orders;
 mod pictures;
 mod pivots;
+mod solutions;
 mod systems;
 mod values;
 
@@ -20,5 +21,6 @@ pub use facts::{
 pub use orders::EliminationOrder;
 pub use pictures::{Picture, bitmap_text, block_text, draw, scaled_sizes, svg_text};
 pub use pivots::Pivot;
-pub use systems::{CheckError, SystemError, check_solution, solve, solve_listed};
+pub use solutions::{CheckError, check_solution};
+pub use systems::{SystemError, solve, solve_listed};
 pub use values::{count_zeros, first_asymmetry, first_difference};

@@ -1,10 +1,9 @@
 //! Orders in which the rows and columns of a symmetric matrix are eliminated.
 
 ghost use Rattle.std.specs.Prelude.{◌≡◌, IfOk, length};
-ghost use Rattle.sparse_permutation.specs.Permutations.{IsOrder};
-ghost use Rattle.mtxkit_matrices.specs.Pivots.{IsOrderBy};
+ghost use Rattle.sparse_algebra.specs.Plain.{below};
+ghost use Rattle.mtxkit_matrices.specs.declared.orders.EliminationOrder.TheVariants.{Natural};
 
-use sparse_algebra::recall;
 use sparse_ordering::minimum_degree::minimum_degree;
 use sparse_ordering::reverse_cuthill_mckee::reverse_cuthill_mckee;
 use sparse_pattern::pattern::SparsityPattern;
@@ -31,9 +30,8 @@ pub(crate) fn permutation_by(
     pattern: &SparsityPattern,
 ) -> Result<Permutation, AllocError>
     requires { pattern.now.major_dim ≡ pattern.now.minor_dim }
-    ensures rows { IfOk result (λ p. length p ≡ pattern.now.major_dim) }
-    ensures order { IfOk result IsOrder }
-    ensures named { IfOk result (IsOrderBy order pattern.now.major_dim) }
+    ensures count { IfOk result (λ p. length p ≡ pattern.now.major_dim) }
+    ensures natural { IfOk result (λ p. order ≡ Natural → p ≡ below pattern.now.major_dim) }
 {
     match order {
         EliminationOrder::Natural => Permutation::identity(alloc, pattern.major_dim()),

@@ -1,9 +1,13 @@
 //! The pivot at which a factorisation of a permuted symmetric matrix stops.
 
-use sparse_algebra::error::OperationErrorKind;
+ghost use Rattle.std.specs.Prelude.{◌≡◌, IfOk, length};
+ghost use Rattle.sparse_compressed.specs.PlainOfLanes.{plain_of_cols};
+ghost use Rattle.sparse_factor.specs.OrderedFactors.{HasNoFactorsInOrder};
+ghost use Rattle.sparse_permutation.specs.PermutedPlain.{plain_permuted};
+ghost use Rattle.mtxkit_matrices.specs.Pivots.{IsPivotIn};
+ghost use Rattle.mtxkit_matrices.specs.Values.{IsSymmetricMatrix};
+
 use sparse_algebra::scalar::Units;
-use sparse_convert::serial::{convert_coo_csc, convert_csc_coo};
-use sparse_coo_dense::coo::CooMatrix;
 use sparse_csr_csc::csc::CscMatrix;
 use sparse_factor::ldl::Ldl;
 use sparse_permutation::permutation::Permutation;
@@ -28,59 +32,39 @@ impl Display for Pivot {
     }
 }
 
-/// Returns the pivot that has no inverse in the factorisation of P A P^T, for the symmetric matrix A whose entries on
-/// and above the diagonal are those of `a`. P A P^T must have no factorisation.
+/// Returns the pivot that has no inverse in the factorisation of P A P^T, for a symmetric matrix A and an order P for
+/// which there is no factorisation.
 ///
 /// The pivot is found by bisection, with a factorisation in each step. Fails only if an allocation fails.
 pub(crate) fn singular_pivot<T: Units>(
     alloc: Global,
     a: &CscMatrix<T>,
     order: &Permutation,
-) -> Result<Pivot, AllocError> {
-    let Ok(permuted) = permute_symmetric_csc(alloc, a, order) else {
-        return Err(AllocError);
-    };
-    let number = factored_size(alloc, &permuted)?;
-    Ok(Pivot {
-        number,
-        row: order.order()[number],
-    })
+) -> Result<Pivot, AllocError>
+    requires symmetric { IsSymmetricMatrix T.ring (plain_of_cols T.ring T.value a.now) }
+    requires length { length order.now ≡ a.now.pattern.minor_dim }
+    requires singular { HasNoFactorsInOrder T.ring T.value a.now order.now }
+    ensures { IfOk result (IsPivotIn T.ring T.value (plain_of_cols T.ring T.value a.now) order.now) }
+{
+    let permuted = permuted_matrix(alloc, a, order)?;
+    let number = Ldl::factored_size(alloc, &permuted)?;
+    let row = order.order()[number];
+    Ok(Pivot { number, row })
 }
 
-// TEMPORARY: until the function of sparse_factor lands.
-fn factored_size<T: Units>(alloc: Global, a: &CscMatrix<T>) -> Result<usize, AllocError> {
-    let list = convert_csc_coo(alloc, a)?;
-    let size = list.nrows();
-    let mut range = (0, size);
-    while range.1 - range.0 > 1 {
-        let middle = range.0 + (range.1 - range.0) / 2;
-        if has_factors(alloc, &list, middle)? {
-            range = (middle, range.1);
-        } else {
-            range = (range.0, middle);
-        }
-    }
-    Ok(range.0)
-}
-
-fn has_factors<T: Units>(alloc: Global, a: &CooMatrix<T>, size: usize) -> Result<bool, AllocError> {
-    let mut list = CooMatrix::new(alloc, size, size);
-    for (row, col, value) in a.triplet_iter() {
-        if row < size && col < size {
-            list.push(row, col, *value)?;
-        }
-    }
-    let block = convert_coo_csc(alloc, &list)?;
-    match Ldl::factor(alloc, &block) {
-        Ok(_factors) => Ok(true),
-        Err(error) => {
-            let kind = *error.kind();
-            match kind {
-                OperationErrorKind::Singular => Ok(false),
-                OperationErrorKind::OutOfMemory | OperationErrorKind::InvalidPattern => Err(
-                    AllocError,
-                ),
-            }
-        }
+// Returns P A P^T.
+fn permuted_matrix<T: Units>(
+    alloc: Global,
+    a: &CscMatrix<T>,
+    order: &Permutation,
+) -> Result<CscMatrix<T>, AllocError>
+    requires square { a.now.pattern.minor_dim ≡ a.now.pattern.major_dim }
+    requires length { length order.now ≡ a.now.pattern.minor_dim }
+    ensures { IfOk result (λ m. plain_of_cols T.ring T.value m
+        ≡ plain_permuted T.ring order.now (plain_of_cols T.ring T.value a.now)) }
+{
+    match permute_symmetric_csc(alloc, a, order) {
+        Ok(permuted) => Ok(permuted),
+        Err(_) => Err(AllocError),
     }
 }

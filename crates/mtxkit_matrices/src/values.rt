@@ -1,10 +1,10 @@
 //! Compares the values of matrices, whatever their patterns are.
 
-ghost use Rattle.std.specs.Prelude.{◌≡◌, ℕ, ◌<◌, ◌↔◌, IfOk, IsTrue, count_by, length};
-ghost use Rattle.std.specs.Prelude.{slice_index_or};
-ghost use Rattle.sparse_compressed.specs.Compressed.{IsSound};
+ghost use Rattle.std.specs.Prelude.{◌≡◌, ◌↔◌, IfOk, IsTrue, MatchOption, count_by};
 ghost use Rattle.sparse_compressed.specs.PlainOfLanes.{plain_of_rows};
 ghost use Rattle.sparse_dense_ops.specs.Solutions.{HasSameValues};
+ghost use Rattle.mtxkit_matrices.specs.Differences.{IsFirstDifference, IsFirstAsymmetry};
+ghost use Rattle.mtxkit_matrices.specs.InnerNonzeros.{IsFirstNonzero};
 ghost use Rattle.mtxkit_matrices.specs.Values.{AllZero, IsSymmetricMatrix};
 
 use crate::coordinates::Coordinates;
@@ -39,9 +39,12 @@ pub fn first_difference<T: Ring>(
 ) -> Result<Option<Coordinates>, AllocError>
     requires rows { a.now.pattern.major_dim ≡ b.now.pattern.major_dim }
     requires cols { a.now.pattern.minor_dim ≡ b.now.pattern.minor_dim }
-    ensures { IfOk result (λ found. IsFirstDifference T.ring a.now.pattern.major_dim
-        a.now.pattern.minor_dim (plain_of_rows T.ring T.value a.now)
-        (plain_of_rows T.ring T.value b.now) (option_map pair_of found)) }
+    ensures { IfOk result (λ found. MatchOption found
+        (HasSameValues T.ring a.now.pattern.major_dim a.now.pattern.minor_dim
+        (plain_of_rows T.ring T.value a.now) (plain_of_rows T.ring T.value b.now))
+        (λ at. IsFirstDifference T.ring a.now.pattern.major_dim a.now.pattern.minor_dim
+        (plain_of_rows T.ring T.value a.now) (plain_of_rows T.ring T.value b.now)
+        at.row at.col)) }
 {
     recall(a.values());
     recall(b.values());
@@ -58,11 +61,15 @@ pub fn first_asymmetry<T: Ring>(
     matrix: &CsrMatrix<T>,
 ) -> Result<Option<Coordinates>, AllocError>
     requires { matrix.now.pattern.major_dim ≡ matrix.now.pattern.minor_dim }
+    ensures { IfOk result (λ found. MatchOption found
+        (IsSymmetricMatrix T.ring (plain_of_rows T.ring T.value matrix.now))
+        (λ at. IsFirstAsymmetry T.ring (plain_of_rows T.ring T.value matrix.now) at.row at.col)) }
 {
     recall(matrix.values());
     transpose_law::<T>();
     let transposed = matrix.transpose(alloc)?;
-    first_difference(alloc, matrix, &transposed)
+    let found = first_difference(alloc, matrix, &transposed)?;
+    Ok(found)
 }
 
 /// Returns whether a matrix is square and has the same values as its transpose, whatever its pattern is.
@@ -84,6 +91,8 @@ pub fn has_symmetric_values<T: Ring>(
 
 // Returns the row and the column of the first value that is not zero, row by row.
 fn first_nonzero<T: Ring>(matrix: &CsrMatrix<T>) -> Option<Coordinates>
+    ensures { MatchOption result (AllZero T.ring (plain_of_rows T.ring T.value matrix.now))
+        (λ at. IsFirstNonzero T.ring (plain_of_rows T.ring T.value matrix.now) at.row at.col) }
 {
     for (row, col, value) in matrix.triplet_iter() {
         if *value != T::zero() {

@@ -3,6 +3,9 @@ use Rattle.std.specs.Prelude.{◌≡◌, ◌≢◌, ◌⊎◌, ℕ, List, length
 use Rattle.sparse_pattern.specs.Raw.{Raw}
 use Rattle.sparse_permutation.specs.PermutedPatterns.{IsPermutedPattern}
 use Rattle.sparse_permutation.specs.Permutations.{IsOrder}
+use Rattle.mtxkit_texts.specs.declared.facts.Form.{Form}
+use Rattle.mtxkit_texts.specs.declared.facts.Form.TheVariants.{Lines, Json}
+use Rattle.mtxkit_patterns.specs.FillJson.{fill_json}
 use Rattle.mtxkit_patterns.specs.Fills.{AreFillCounts, fill_lines}
 use Rattle.mtxkit_patterns.specs.Orders.{MeansOrder, MeansPattern, IsMisordered, IsNoSquare}
 use Rattle.mtxkit_patterns.specs.Permuted.{IsMisfit}
@@ -10,32 +13,37 @@ use Rattle.mtxkit_patterns.specs.declared.counts.FillCounts.{FillCounts}
 use Rattle.mtxkit_patterns.specs.declared.order_error.OrderError.{OrderError}
 use Rattle.mtxkit_patterns.specs.declared.square.Method.{Method}
 
--- the lines about the fill of a square pattern
-pub record SaysFill (pattern : Raw) (written : List ℕ) : Type 0 where
+-- the counts as lines, or as an object in JSON
+abbrev pub fill_in : Form → FillCounts → List ℕ
+fill_in Lines s = fill_lines s
+fill_in Json s = fill_json s
+
+-- the facts about the fill of a square pattern, in this form
+pub record SaysFill (form : Form) (pattern : Raw) (written : List ℕ) : Type 0 where
   pub counts : FillCounts
   pub are : AreFillCounts pattern counts
-  pub is : written ≡ fill_lines counts
+  pub is : written ≡ fill_in form counts
 
--- the lines about the fill of P A Pᵀ, for the pattern of A
-abbrev pub SaysFillIn : List ℕ → Raw → List ℕ → Type 0
-SaysFillIn order pattern written =
-    (permuted : Raw) × (IsPermutedPattern order pattern permuted × SaysFill permuted written)
+-- the facts about the fill of P A Pᵀ, for the pattern of A
+abbrev pub SaysFillIn : Form → List ℕ → Raw → List ℕ → Type 0
+SaysFillIn form order pattern written =
+    (permuted : Raw) × (IsPermutedPattern order pattern permuted × SaysFill form permuted written)
 
 -- the same for the square pattern that the text means, in its own order, or in some order if a method is given
-abbrev pub SaysFillBy : Option Method → Raw → List ℕ → Type 0
-SaysFillBy None pattern written = SaysFill pattern written
-SaysFillBy (Some method) pattern written =
-    (order : List ℕ) × (IsOrder order × SaysFillIn order pattern written)
+abbrev pub SaysFillBy : Form → Option Method → Raw → List ℕ → Type 0
+SaysFillBy form None pattern written = SaysFill form pattern written
+SaysFillBy form (Some method) pattern written =
+    (order : List ℕ) × (IsOrder order × SaysFillIn form order pattern written)
 
-abbrev pub WritesFill : Option Method → List ℕ → List ℕ → Type 0
-WritesFill method text written = (pattern : Raw) × (MeansPattern text pattern
-    × ((pattern.major_dim ≡ pattern.minor_dim) × SaysFillBy method pattern written))
+abbrev pub WritesFill : Form → Option Method → List ℕ → List ℕ → Type 0
+WritesFill form method text written = (pattern : Raw) × (MeansPattern text pattern
+    × ((pattern.major_dim ≡ pattern.minor_dim) × SaysFillBy form method pattern written))
 
 -- the same in the order that the first text means
-abbrev pub WritesFillIn : List ℕ → List ℕ → List ℕ → Type 0
-WritesFillIn first text written = (order : List ℕ) × (pattern : Raw) × (MeansOrder first order
-    × (MeansPattern text pattern × ((pattern.major_dim ≡ pattern.minor_dim)
-    × SaysFillIn order pattern written)))
+abbrev pub WritesFillIn : Form → List ℕ → List ℕ → List ℕ → Type 0
+WritesFillIn form first text written = (order : List ℕ) × (pattern : Raw)
+    × (MeansOrder first order × (MeansPattern text pattern
+    × ((pattern.major_dim ≡ pattern.minor_dim) × SaysFillIn form order pattern written)))
 
 -- why the fill of the second text is not counted in the order of the first one
 abbrev pub IsUnfilled : List ℕ → List ℕ → OrderError → Type 0

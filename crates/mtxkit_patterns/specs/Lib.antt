@@ -2,6 +2,7 @@ pub mod Columns
 pub mod Factors
 pub mod Fills
 pub mod FillTexts
+pub mod FillJson
 pub mod InnerDepths
 pub mod Orders
 pub mod OrderLists

@@ -12,7 +12,8 @@ use Rattle.sparse_permutation.specs.declared.error.PermutationError.{Permutation
 use Rattle.sparse_permutation.specs.declared.error.PermutationError.TheVariants.{IndexOutOfBounds}
 use Rattle.sparse_permutation.specs.declared.error.PermutationError.TheVariants.{RepeatedIndex}
 use Rattle.sparse_permutation.specs.declared.error.PermutationError.TheVariants as permutation
-use Rattle.mtxkit_texts.specs.Loaded.{MeansIntegers, MeansMatrix, IsRefused, IsLoadFailure}
+use Rattle.mtxkit_texts.specs.AnyField.{MeansPlaces, IsPlacesFailure}
+use Rattle.mtxkit_texts.specs.Loaded.{MeansIntegers, IsRefused}
 use Rattle.mtxkit_texts.specs.declared.failure.Failure.{Failure}
 use Rattle.mtxkit_texts.specs.declared.failure.Failure.TheVariants.{OutOfMemory}
 use Rattle.mtxkit_patterns.specs.OrderLists.{IsColumn, numbers_of, index_of}
@@ -64,18 +65,18 @@ IsMisordered number text (OtherLength n) = ⊥
 
 -- ---- orders of patterns
 
--- the pattern is that of the matrix that the text means
+-- the pattern is the one that the text means, also if its values are real or complex
 abbrev pub MeansPattern : List ℕ → Raw → Type 0
 MeansPattern text p = (entries : ℕ) × (m : Compressed W128)
-    × (MeansMatrix text entries m × (m.pattern ≡ p))
+    × (MeansPlaces text entries m × (m.pattern ≡ p))
 
--- the text means a matrix that is not square
+-- the text means a pattern that is not square
 abbrev pub MeansOblong : List ℕ → Type 0
 MeansOblong text = (p : Raw) × (MeansPattern text p × (p.major_dim ≢ p.minor_dim))
 
 -- why the pattern of the text with this number is not taken as a square one
 abbrev pub IsNoSquare : ℕ → List ℕ → OrderError → Type 0
-IsNoSquare number text (Failed failure) = IsLoadFailure number text failure
+IsNoSquare number text (Failed failure) = IsPlacesFailure number text failure
 IsNoSquare number text (NotSquare n) = (n ≡ number) × MeansOblong text
 IsNoSquare number text error = ⊥
 

@@ -8,7 +8,8 @@ use Rattle.sparse_pattern.specs.Raw.{Raw}
 use Rattle.sparse_permutation.specs.PermutedPatterns.{IsPermutedPattern}
 use Rattle.sparse_permutation.specs.PermutedPlain.{plain_permuted}
 use Rattle.mtxkit_texts.specs.Headers.{header_in, is_pattern}
-use Rattle.mtxkit_texts.specs.Loaded.{MeansValues, IsLoadFailure, IsValuesFailure, ring64, value64}
+use Rattle.mtxkit_texts.specs.AnyField.{IsPlacesFailure}
+use Rattle.mtxkit_texts.specs.Loaded.{MeansValues, IsValuesFailure, ring64, value64}
 use Rattle.mtxkit_texts.specs.Rewritten.{IsIntegerText, IsPatternText}
 use Rattle.mtxkit_patterns.specs.Orders.{MeansOrder, MeansPattern, IsMisordered}
 use Rattle.mtxkit_patterns.specs.declared.order_error.OrderError.{OrderError}
@@ -55,7 +56,7 @@ IsMisfit order nrows ncols error = ⊥
 
 -- why the pattern or the matrix of the second text is not permuted
 abbrev pub IsMisfitPattern : List ℕ → List ℕ → OrderError → Type 0
-IsMisfitPattern order text (Failed failure) = IsLoadFailure 2 text failure
+IsMisfitPattern order text (Failed failure) = IsPlacesFailure 2 text failure
 IsMisfitPattern order text error = (p : Raw)
     × (MeansPattern text p × IsMisfit order p.major_dim p.minor_dim error)
 

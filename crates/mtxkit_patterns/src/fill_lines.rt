@@ -34,8 +34,8 @@ fn push_places(alloc: Global, lines: &mut String, counts: FillCounts) -> Result<
     Ok(())
 }
 
-// Returns the number of places of the factor that are fill.
-fn fill_of(counts: FillCounts) -> usize
+/// Returns the number of places of the factor that are fill.
+pub(crate) fn fill_of(counts: FillCounts) -> usize
     ensures { result ≡ counts.factor - counts.lower }
 {
     if counts.factor < counts.lower {
@@ -60,9 +60,11 @@ fn push_costs(alloc: Global, lines: &mut String, counts: FillCounts) -> Result<(
     )
 }
 
-// Returns the quotient of two numbers with two decimals, rounded down, or 1.00 if the divisor is 0.
+/// Returns the quotient of two numbers with two decimals, rounded down, or 1.00 if the divisor is 0.
+///
+/// Fails only if an allocation fails.
 #[tactic(auto, unfolding(crate::specs::Fills::ratio))]
-fn ratio_text(alloc: Global, a: usize, b: usize) -> Result<String, AllocError>
+pub(crate) fn ratio_text(alloc: Global, a: usize, b: usize) -> Result<String, AllocError>
     ensures { IfOk result (λ text. string_bytes text ≡ ratio a b) }
 {
     let parts = hundredths(a, b);

@@ -5,6 +5,7 @@
 mod columns;
 mod counts;
 mod fill;
+mod fill_json;
 mod fill_lines;
 mod order_error;
 mod order_lists;

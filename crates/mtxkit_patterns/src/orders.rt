@@ -1,13 +1,13 @@
 //! Orders the rows and columns of square patterns.
 
 ghost use Rattle.std.specs.Prelude.{◌≡◌, IfOk, IfErr, string_bytes};
-ghost use Rattle.mtxkit_texts.specs.Loaded.{IsLoadFailure};
+ghost use Rattle.mtxkit_texts.specs.AnyField.{IsPlacesFailure};
 ghost use Rattle.mtxkit_patterns.specs.Orders.{IsNoSquare, MeansPattern, WritesOrder};
 
 use crate::order_error::OrderError;
 use crate::order_texts::write_order;
 use crate::square::{Method, order_of};
-use mtxkit_texts::{Failure, load};
+use mtxkit_texts::{Failure, load_places};
 use sparse_pattern::pattern::SparsityPattern;
 use std::alloc::Global;
 
@@ -16,8 +16,8 @@ use std::alloc::Global;
 ///
 /// # Errors
 ///
-/// Returns the errors of [`load`], and `NotSquare` if the matrix is not square. Otherwise fails only if an allocation
-/// fails.
+/// Returns the errors of [`load_places`], and `NotSquare` if the matrix is not square. Otherwise fails only if an
+/// allocation fails.
 pub fn order_text(alloc: Global, method: Method, text: &str) -> Result<String, OrderError>
     ensures written { IfOk result (λ written. WritesOrder text.now (string_bytes written)) }
     ensures refused { IfErr result (IsNoSquare 1 text.now) }
@@ -27,7 +27,7 @@ pub fn order_text(alloc: Global, method: Method, text: &str) -> Result<String, O
     Ok(write_order(alloc, order.order())?)
 }
 
-/// Returns the pattern of the square matrix of a text. `number` is that of the text in the command.
+/// Returns the square pattern that a text means, whatever its values are. `number` is that of the text in the command.
 pub(crate) fn square_pattern(
     alloc: Global,
     number: usize,
@@ -44,15 +44,17 @@ pub(crate) fn square_pattern(
     Ok(pattern)
 }
 
-/// Returns the pattern of the matrix of a text. `number` is that of the text in the command.
+/// Returns the pattern that a text means, whatever its values are. `number` is that of the text in the command.
 pub(crate) fn load_pattern(
     alloc: Global,
     number: usize,
     text: &str,
 ) -> Result<SparsityPattern, Failure>
     ensures meant { IfOk result (MeansPattern text.now) }
-    ensures refused { IfErr result (IsLoadFailure number text.now) }
+    ensures refused { IfErr result (IsPlacesFailure number text.now) }
 {
-    let (pattern, _values) = load(alloc, number, text)?.matrix.into_pattern_and_values();
+    let (pattern, _values) = load_places(alloc, number, text)?
+        .matrix
+        .into_pattern_and_values();
     Ok(pattern)
 }

@@ -8,4 +8,7 @@ mod TextFaults
 mod UnsupportedTexts
 mod WideLists
 mod EntryLines
-mod ShapeParts
+mod DocumentHeaders
+mod OneWords
+mod OnesLines
+mod OnesTexts

@@ -1,5 +1,7 @@
 pub mod HeaderLines
 pub mod Facts
+pub mod FactJson
+pub mod Json
 pub mod Faults
 pub mod Headers
 pub mod HighParts
@@ -10,6 +12,7 @@ pub mod Rewritten
 pub mod Shown
 pub mod Statuses
 pub mod PatternTexts
-pub mod Shapes
-pub mod InnerShapes
+pub mod Ones
+pub mod InnerOnes
+pub mod AnyField
 pub mod Progress

@@ -12,11 +12,14 @@ use Rattle.sparse_coo_dense.specs.Coo.{Coo}
 use Rattle.sparse_market_scalar.specs.ScalarTypes.{pattern_scalar}
 use Rattle.sparse_parser.specs.Meaning.{Means}
 use Rattle.sparse_pattern.specs.Raw.{Raw}
+use Rattle.mtxkit_matrices.specs.Coordinates.{dimensions_of}
+use Rattle.mtxkit_matrices.specs.Differences.{IsFirstAsymmetry}
 use Rattle.mtxkit_matrices.specs.Values.{IsSymmetricMatrix}
+use Rattle.mtxkit_matrices.specs.declared.coordinates.Coordinates.{Coordinates}
 use Rattle.mtxkit_texts.specs.Loaded.{MeansMatrix, MeansValues, ring64, value64, ring128, value128}
 use Rattle.mtxkit_texts.specs.Loaded.{MeansIntegers, IsValuesFailure}
 use Rattle.mtxkit_texts.specs.declared.failure.Failure.{Failure}
-use Rattle.mtxkit_texts.specs.declared.failure.Failure.TheVariants.{NotSymmetric}
+use Rattle.mtxkit_texts.specs.declared.failure.Failure.TheVariants.{NotSquare, NotSymmetric}
 use Rattle.sparse_parser.specs.declared.header.Field.{Field}
 use Rattle.sparse_parser.specs.declared.header.Field.TheVariants.{Pattern}
 use Rattle.sparse_parser.specs.declared.header.Header.{Header}
@@ -91,48 +94,54 @@ abbrev pub Symmetrised : Option Header → List ℕ → List ℕ → Type 0
 Symmetrised (Some h) text written = SymmetrisedUnder h text written
 Symmetrised None text written = WritesIntegers text written
 
--- the pattern that the text means is not square
-abbrev pub MeansOblongPattern : List ℕ → Type 0
-MeansOblongPattern text = (list : Coo (Unit {0}))
-    × (Means pattern_scalar text (Ok list) × (list.nrows ≢ list.ncols))
+-- the failure has the dimensions of the pattern that the text means, which is not square
+abbrev pub IsOblongPattern : List ℕ → Failure → Type 0
+IsOblongPattern text failure = (list : Coo (Unit {0})) × (Means pattern_scalar text (Ok list)
+    × ((list.nrows ≢ list.ncols) × (failure ≡ NotSquare (dimensions_of list))))
 
--- the matrix of integers that the text means is not square
-abbrev pub MeansOblongIntegers : List ℕ → Type 0
-MeansOblongIntegers text = (list : Coo ℤ) × (MeansIntegers text list × (list.nrows ≢ list.ncols))
+-- the failure has the dimensions of the matrix of integers that the text means, which is not square
+abbrev pub IsOblongIntegers : List ℕ → Failure → Type 0
+IsOblongIntegers text failure = (list : Coo ℤ) × (MeansIntegers text list
+    × ((list.nrows ≢ list.ncols) × (failure ≡ NotSquare (dimensions_of list))))
 
--- the pattern that the text means is not symmetric
-abbrev pub MeansUnsymmetricPattern : List ℕ → Type 0
-MeansUnsymmetricPattern text = MeansOblongPattern text ⊎ ((entries : ℕ) × ((m : Compressed W128)
-    × (MeansMatrix text entries m × (¬ IsSymmetricMatrix ring128 (plain_of_rows ring128 value128 m)))))
+-- the failure says where the matrix differs from its transpose, at first row by row
+abbrev pub IsAsymmetry : {T : Type 0} (R : CommRing) → (T → R.Carrier) → Compressed T → Failure
+    → Type 0
+IsAsymmetry R f m failure = (at : Coordinates)
+    × ((failure ≡ NotSymmetric at) × IsFirstAsymmetry R (plain_of_rows R f m) at.row at.col)
 
--- the matrix of integers that the text means is not symmetric
-abbrev pub MeansUnsymmetricIntegers : List ℕ → Type 0
-MeansUnsymmetricIntegers text = MeansOblongIntegers text ⊎ ((m : Compressed W64)
-    × (MeansValues text m × (¬ IsSymmetricMatrix ring64 (plain_of_rows ring64 value64 m))))
+-- the failure says why the pattern that the text means is not symmetric
+abbrev pub IsUnsymmetricPattern : List ℕ → Failure → Type 0
+IsUnsymmetricPattern text failure = IsOblongPattern text failure ⊎ ((entries : ℕ)
+    × ((m : Compressed W128) × (MeansMatrix text entries m × IsAsymmetry ring128 value128 m failure)))
 
-abbrev pub MeansUnsymmetricOf : Field → List ℕ → Type 0
-MeansUnsymmetricOf Pattern text = MeansUnsymmetricPattern text
-MeansUnsymmetricOf field text = MeansUnsymmetricIntegers text
+-- the failure says why the matrix of integers that the text means is not symmetric
+abbrev pub IsUnsymmetricIntegers : List ℕ → Failure → Type 0
+IsUnsymmetricIntegers text failure = IsOblongIntegers text failure ⊎ ((m : Compressed W64)
+    × (MeansValues text m × IsAsymmetry ring64 value64 m failure))
 
--- the header names no symmetry, and the matrix that the text means is not symmetric
-abbrev pub MeansUnsymmetricBy : Header → List ℕ → Type 0
-MeansUnsymmetricBy h text =
-    (is_mirrored h.symmetry ≡ false) × MeansUnsymmetricOf h.field text
+abbrev pub IsUnsymmetricOf : Field → List ℕ → Failure → Type 0
+IsUnsymmetricOf Pattern text failure = IsUnsymmetricPattern text failure
+IsUnsymmetricOf field text failure = IsUnsymmetricIntegers text failure
 
-abbrev pub MeansUnsymmetricUnder : Option Header → List ℕ → Type 0
-MeansUnsymmetricUnder (Some h) text = MeansUnsymmetricBy h text
-MeansUnsymmetricUnder None text = ⊥
+-- the header names no symmetry, and the failure says why the matrix that the text means is not symmetric
+abbrev pub IsUnsymmetricBy : Header → List ℕ → Failure → Type 0
+IsUnsymmetricBy h text failure =
+    (is_mirrored h.symmetry ≡ false) × IsUnsymmetricOf h.field text failure
 
--- the text has a header that names no symmetry, and the matrix that it means is not symmetric
-abbrev pub MeansUnsymmetric : List ℕ → Type 0
-MeansUnsymmetric text = MeansUnsymmetricUnder (header_in text) text
+abbrev pub IsUnsymmetricUnder : Option Header → List ℕ → Failure → Type 0
+IsUnsymmetricUnder (Some h) text failure = IsUnsymmetricBy h text failure
+IsUnsymmetricUnder None text failure = ⊥
+
+-- the text has a header that names no symmetry, and the failure says why its matrix is not symmetric
+abbrev pub IsUnsymmetric : List ℕ → Failure → Type 0
+IsUnsymmetric text failure = IsUnsymmetricUnder (header_in text) text failure
 
 -- why `symmetric_text` fails for a text with this header
 abbrev pub IsHeaderFailure : Header → List ℕ → Failure → Type 0
 IsHeaderFailure h text failure =
-    IsValuesFailure 1 text failure ⊎ ((failure ≡ NotSymmetric) × MeansUnsymmetricBy h text)
+    IsValuesFailure 1 text failure ⊎ IsUnsymmetricBy h text failure
 
 -- why `symmetric_text` fails
 abbrev pub IsSymmetricFailure : List ℕ → Failure → Type 0
-IsSymmetricFailure text failure =
-    IsValuesFailure 1 text failure ⊎ ((failure ≡ NotSymmetric) × MeansUnsymmetric text)
+IsSymmetricFailure text failure = IsValuesFailure 1 text failure ⊎ IsUnsymmetric text failure

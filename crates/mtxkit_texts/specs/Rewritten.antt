@@ -9,6 +9,7 @@ use Rattle.sparse_compressed.specs.Compressed.{Compressed, lane_triplets}
 use Rattle.sparse_io.specs.Written.{text_with}
 use Rattle.sparse_io.specs.declared.banner.Banner.TheVariants.{MixedCase}
 use Rattle.sparse_pattern.specs.Raw.{Raw}
+use Rattle.mtxkit_texts.specs.AnyField.{MeansPlaces}
 use Rattle.mtxkit_texts.specs.Headers.{header_in, is_pattern}
 use Rattle.mtxkit_texts.specs.Loaded.{MeansMatrix, MeansValues, IsLoadFailure, IsValuesFailure}
 use Rattle.mtxkit_texts.specs.PatternTexts.{pattern_text}
@@ -36,6 +37,11 @@ WritesIntegers text written =
 abbrev pub WritesPattern : List ℕ → List ℕ → Type 0
 WritesPattern text written = (entries : ℕ) × ((m : Compressed W128)
     × (MeansMatrix text entries m × IsPatternText m.pattern written))
+
+-- the text of the pattern that the text means, also if its values are real or complex
+abbrev pub WritesPlaces : List ℕ → List ℕ → Type 0
+WritesPlaces text written = (entries : ℕ) × ((m : Compressed W128)
+    × (MeansPlaces text entries m × IsPatternText m.pattern written))
 
 -- the one or the other, by whether the header names a pattern
 abbrev pub WritesCopyBy : Bool → List ℕ → List ℕ → Type 0

@@ -7,7 +7,7 @@ use Rattle.mtxkit_matrices.specs.Pictures.{CellCounts, HasEntryIn, is_black, cou
 use Rattle.mtxkit_matrices.specs.PictureTexts.{bitmap_text, block_text}
 use Rattle.mtxkit_matrices.specs.PictureSizes.{picture_sizes}
 use Rattle.mtxkit_matrices.specs.SvgTexts.{svg_text, svg_title}
-use Rattle.mtxkit_texts.specs.Loaded.{MeansMatrix}
+use Rattle.mtxkit_texts.specs.AnyField.{MeansPlaces}
 
 -- the picture of a pattern, whose sides have at most `size` cells; a cell has the number of entries that
 -- lie in it, and is black exactly if there is one
@@ -20,11 +20,11 @@ pub record IsDrawing (p : Raw) (size : ℕ) (picture : CellCounts) : Type 0 wher
   pub black : (r c : ℕ) → r < picture.height → c < picture.width
       → IsTrue (is_black picture r c) ↔ HasEntryIn p picture.height picture.width r c
 
--- the picture of the pattern of the text's matrix
+-- the picture of the pattern that the text means
 pub record IsPictureOf (text : List ℕ) (size : ℕ) (picture : CellCounts) : Type 0 where
   pub entries : ℕ
   pub matrix : Compressed W128
-  pub meant : MeansMatrix text entries matrix
+  pub meant : MeansPlaces text entries matrix
   pub drawn : IsDrawing matrix.pattern size picture
 
 -- the text of such a picture as a portable bitmap

@@ -3,79 +3,77 @@
 ghost use Rattle.std.specs.Prelude.{◌≡◌, ◌++◌, IfOk, IfErr, OnOk, codes, string_bytes};
 ghost use Rattle.mtxkit_texts.specs.HeaderLines.{format_name, field_name, symmetry_name};
 ghost use Rattle.mtxkit_texts.specs.HeaderLines.{header_lines, size_lines};
-ghost use Rattle.mtxkit_texts.specs.Facts.{WritesFacts, WritesInfo, IsInfoFailure};
-ghost use Rattle.mtxkit_texts.specs.Loaded.{IsWholeFailure, MeansWhole};
-ghost use Rattle.mtxkit_texts.specs.Shapes.{IsUnsupported, WritesShape, shape_lines};
+ghost use Rattle.mtxkit_texts.specs.Facts.{IsInfoFailure, WritesInfo};
+ghost use Rattle.mtxkit_texts.specs.Facts.{info_in, info_lines, matrix_lines, place_lines};
 
+use crate::fact_json::json_of;
+use crate::facts::{Form, TextFacts, facts_of};
 use crate::failure::Failure;
-use crate::loaded::{Loaded, header_of};
-use crate::shapes::{Shape, shape_of};
-use crate::whole::load_exact;
-use mtxkit_matrices::{info_of, push_count, push_facts, push_line};
+use mtxkit_matrices::{Info, answer, push_count, push_facts, push_histogram, push_line};
 use sparse_parser::header::{Field, Format, Header, Symmetry};
 use std::alloc::{AllocError, Global};
 
-/// Returns the lines that `mtxkit info` writes about a text: its header, its shape, its number of entries, and the
-/// facts about its matrix. For a text with real or complex values the facts are left out.
+/// Returns what `mtxkit info` writes about a text: its header, its shape, its number of entries, and the facts about
+/// its matrix. If its values are real or complex, the facts about values are left out.
 ///
-/// Returns the errors of [`load_exact`](crate::load_whole) except `NotSupported`, which is no error here.
-pub fn info_text(alloc: Global, text: &str) -> Result<String, Failure>
-    ensures written { IfOk result (λ written. WritesInfo text.now (string_bytes written)) }
+/// Returns the errors of [`facts_of`](crate::facts_of).
+pub fn info_text(alloc: Global, form: Form, text: &str) -> Result<String, Failure>
+    ensures written { IfOk result
+        (λ written. WritesInfo form text.now (string_bytes written)) }
     ensures refused { IfErr result (IsInfoFailure text.now) }
 {
-    match load_exact(alloc, 1, text) {
-        Ok(loaded) => Ok(facts_text(alloc, text, &loaded)?),
-        Err(failure) => shape_text(alloc, text, failure),
-    }
+    let facts = facts_of(alloc, text)?;
+    Ok(written_in(alloc, form, &facts)?)
 }
 
-// Returns the lines for a text that could not be loaded: if it has real or complex values those of its shape, and
-// otherwise the failure.
-fn shape_text(alloc: Global, text: &str, failure: Failure) -> Result<String, Failure>
-    requires { IsWholeFailure 1 text.now failure }
-    ensures written { IfOk result (λ written. WritesShape text.now (string_bytes written)) }
-    ensures refused { IfErr result (IsInfoFailure text.now) }
+// Returns facts in this form.
+fn written_in(alloc: Global, form: Form, facts: &TextFacts) -> Result<String, AllocError>
+    ensures { IfOk result (λ written. string_bytes written ≡ info_in form facts.now) }
 {
-    match failure {
-        Failure::NotSupported(_) => Ok(unsupported_text(alloc, text)?),
-        failure => Err(failure),
+    match form {
+        Form::Lines => lines_of(alloc, facts),
+        Form::Json => json_of(alloc, facts),
     }
 }
 
-// Returns the lines for a text with real or complex values.
-fn unsupported_text(alloc: Global, text: &str) -> Result<String, AllocError>
-    requires { IsUnsupported text.now }
-    ensures { IfOk result (λ written. WritesShape text.now (string_bytes written)) }
-{
-    match shape_of(text) {
-        Some(shape) => lines_of(alloc, shape),
-        None => unreachable!(),
-    }
-}
-
-// Returns the lines for a shape.
-fn lines_of(alloc: Global, shape: Shape) -> Result<String, AllocError>
-    ensures { IfOk result (λ lines. string_bytes lines ≡ shape_lines shape) }
+// Returns the lines of facts.
+fn lines_of(alloc: Global, facts: &TextFacts) -> Result<String, AllocError>
+    ensures { IfOk result (λ lines. string_bytes lines ≡ info_lines facts.now) }
 {
     let mut lines = String::new(alloc);
-    push_header(&mut lines, Some(shape.header))?;
-    push_count(alloc, &mut lines, "rows", shape.rows)?;
-    push_count(alloc, &mut lines, "columns", shape.cols)?;
-    push_count(alloc, &mut lines, "entries in the file", shape.entries)?;
+    push_header(&mut lines, facts.header)?;
+    push_sizes(alloc, &mut lines, facts)?;
+    push_matrix(alloc, &mut lines, facts)?;
     Ok(lines)
 }
 
-// Returns the lines for a matrix that was read from a text.
-fn facts_text(alloc: Global, text: &str, loaded: &Loaded) -> Result<String, AllocError>
-    requires { MeansWhole text.now loaded.now.entries loaded.now.matrix }
-    ensures { IfOk result (λ written. WritesFacts text.now (string_bytes written)) }
+// Appends the lines for the matrix.
+fn push_matrix(alloc: Global, lines: &mut String, facts: &TextFacts) -> Result<(), AllocError>
+    ensures { OnOk result (string_bytes lines.new ≡ string_bytes lines.old
+        ++ matrix_lines facts.now.has_values facts.now.matrix facts.now.rows) }
 {
-    let facts = info_of(alloc, &loaded.matrix)?;
-    let mut lines = String::new(alloc);
-    push_header(&mut lines, header_of(text))?;
-    push_sizes(alloc, &mut lines, loaded)?;
-    push_facts(alloc, &mut lines, &facts, loaded.matrix.nrows())?;
-    Ok(lines)
+    if facts.has_values {
+        push_facts(alloc, lines, &facts.matrix, facts.rows)
+    } else {
+        push_places(alloc, lines, &facts.matrix)?;
+        push_histogram(alloc, lines, &facts.matrix.rows, facts.rows)
+    }
+}
+
+// Appends the lines for the places of the matrix.
+fn push_places(alloc: Global, lines: &mut String, facts: &Info) -> Result<(), AllocError>
+    ensures { OnOk result
+        (string_bytes lines.new ≡ string_bytes lines.old ++ place_lines facts.now) }
+{
+    push_count(alloc, lines, "places", facts.places)?;
+    push_count(alloc, lines, "empty rows", facts.empty_rows)?;
+    push_count(alloc, lines, "empty columns", facts.empty_cols)?;
+    push_count(alloc, lines, "bandwidth", facts.bandwidth)?;
+    push_line(
+        lines,
+        "symmetric pattern",
+        answer(facts.has_symmetric_pattern),
+    )
 }
 
 // Appends the lines for the header.
@@ -92,17 +90,17 @@ fn push_header(lines: &mut String, header: Option<Header>) -> Result<(), AllocEr
 }
 
 // Appends the lines for the shape and the number of entries.
-fn push_sizes(alloc: Global, lines: &mut String, loaded: &Loaded) -> Result<(), AllocError>
+fn push_sizes(alloc: Global, lines: &mut String, facts: &TextFacts) -> Result<(), AllocError>
     ensures { OnOk result (string_bytes lines.new ≡ string_bytes lines.old
-        ++ size_lines loaded.now.matrix.pattern.major_dim loaded.now.matrix.pattern.minor_dim
-        loaded.now.entries) }
+        ++ size_lines facts.now.rows facts.now.cols facts.now.entries) }
 {
-    push_count(alloc, lines, "rows", loaded.matrix.nrows())?;
-    push_count(alloc, lines, "columns", loaded.matrix.ncols())?;
-    push_count(alloc, lines, "entries", loaded.entries)
+    push_count(alloc, lines, "rows", facts.rows)?;
+    push_count(alloc, lines, "columns", facts.cols)?;
+    push_count(alloc, lines, "entries", facts.entries)
 }
 
-fn format_name(format: Format) -> &'static str
+/// Returns the word of a header for a format.
+pub(crate) fn format_name(format: Format) -> &'static str
     ensures { result.now ≡ format_name format }
 {
     match format {
@@ -111,7 +109,8 @@ fn format_name(format: Format) -> &'static str
     }
 }
 
-fn field_name(field: Field) -> &'static str
+/// Returns the word of a header for a field.
+pub(crate) fn field_name(field: Field) -> &'static str
     ensures { result.now ≡ field_name field }
 {
     match field {
@@ -122,7 +121,8 @@ fn field_name(field: Field) -> &'static str
     }
 }
 
-fn symmetry_name(symmetry: Symmetry) -> &'static str
+/// Returns the word of a header for a symmetry.
+pub(crate) fn symmetry_name(symmetry: Symmetry) -> &'static str
     ensures { result.now ≡ symmetry_name symmetry }
 {
     match symmetry {

@@ -19,7 +19,7 @@ pub enum Failure {
     Unread(usize, io::Error),
     /// The text with this number has an error of this kind, at this line and with this fault.
     Input(usize, MatrixMarketErrorKind, Location),
-    /// The text with this number has real or complex values, which `mtxkit` does not read.
+    /// The text with this number has real or complex values, and the command needs values.
     NotSupported(usize),
     /// An integer of the text with this number, or a sum of integers with the same row and column, does not fit in 64
     /// bits.
@@ -68,11 +68,12 @@ impl Failure {
             Failure::Unread(_, _) => "the file cannot be read",
             Failure::Input(_, _, _) => "the text is at fault",
             Failure::NotSupported(_) =>
-                "real and complex values are not carried, nor is their pattern",
+                "real and complex values are not carried, only their pattern",
             Failure::Wide(_) => "a value or a sum of repeated entries does not fit in 64 bits",
             Failure::Overflow(_) => "a sum of repeated entries does not fit in 128 bits",
             Failure::NotSquare(_) => "not square",
-            Failure::NotSymmetric(_) => "not symmetric; row by row, the first value that differs from its mirror image",
+            Failure::NotSymmetric(_) =>
+                "not symmetric; row by row, the first value that differs from its mirror image",
             Failure::Shapes(_, _) | Failure::ProductShapes(_, _, _) => "shapes do not fit",
             Failure::NoFactors(_, _) => "another --mod or --order may have one",
             Failure::NotSolution(_) => "A X is not B; row by row, the first value that differs",
@@ -102,7 +103,11 @@ impl Display for Failure {
                 write!(f, "{reason}: A is {a}, X is {x}, B is {b}")
             }
             Failure::NoFactors(modulus, pivot) => {
-                write!(f, "{pivot} has no inverse modulo {}; {reason}", Modulus(*modulus))
+                write!(
+                    f,
+                    "{pivot} has no inverse modulo {}; {reason}",
+                    Modulus(*modulus)
+                )
             }
             Failure::Write(kind) => write!(f, "{reason}: {kind}"),
             _ => f.write_str(reason),

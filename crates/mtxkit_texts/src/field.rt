@@ -1,10 +1,12 @@
 //! Writes the matrix of a text with another field, or with its own.
 
 ghost use Rattle.std.specs.Prelude.{IfErr, IfOk, string_bytes};
-ghost use Rattle.mtxkit_texts.specs.Rewritten.{WritesIntegers, WritesPattern};
+ghost use Rattle.mtxkit_texts.specs.AnyField.{IsPlacesFailure};
+ghost use Rattle.mtxkit_texts.specs.Rewritten.{WritesIntegers, WritesPattern, WritesPlaces};
 ghost use Rattle.mtxkit_texts.specs.Rewritten.{WritesCopy, IsCopyFailure};
 ghost use Rattle.mtxkit_texts.specs.Loaded.{IsLoadFailure, IsValuesFailure};
 
+use crate::any_field::load_places;
 use crate::failure::Failure;
 use crate::loaded::{load, names_pattern};
 use crate::pattern_texts::write_pattern;
@@ -12,10 +14,22 @@ use crate::values::load_values;
 use sparse_io::{Banner, save_to_matrix_market_str_with};
 use std::alloc::Global;
 
+/// Returns the text of the pattern that a text means, row by row, also if the values are real or complex. An entry
+/// whose value is zero is kept.
+///
+/// Returns the errors of [`load_places`](crate::load_places).
+pub fn places_text(alloc: Global, text: &str) -> Result<String, Failure>
+    ensures written { IfOk result (λ written. WritesPlaces text.now (string_bytes written)) }
+    ensures refused { IfErr result (IsPlacesFailure 1 text.now) }
+{
+    let places = load_places(alloc, 1, text)?;
+    Ok(write_pattern(alloc, places.matrix.pattern())?)
+}
+
 /// Returns the text of the pattern of a text's matrix, row by row. An entry whose value is zero is kept.
 ///
 /// Returns the errors of [`load`](crate::load).
-pub fn pattern_text(alloc: Global, text: &str) -> Result<String, Failure>
+pub(crate) fn pattern_text(alloc: Global, text: &str) -> Result<String, Failure>
     ensures written { IfOk result (λ written. WritesPattern text.now (string_bytes written)) }
     ensures refused { IfErr result (IsLoadFailure 1 text.now) }
 {

@@ -2,18 +2,16 @@
 
 ghost use Rattle.std.specs.Prelude.{◌≡◌, ◌⊎◌, ◌++◌, ℕ, List, Some, IfOk, IfErr, true, false};
 ghost use Rattle.std.specs.Prelude.{string_bytes};
-ghost use Rattle.mtxkit_matrices.specs.Values.{IsSymmetricMatrix};
-ghost use Rattle.sparse_compressed.specs.PlainOfLanes.{plain_of_rows};
 ghost use Rattle.mtxkit_texts.specs.Headers.{header_in, is_mirrored, is_pattern};
 ghost use Rattle.mtxkit_texts.specs.Lower.{IsSymmetricIntegers, IsSymmetricPattern};
 ghost use Rattle.mtxkit_texts.specs.Loaded.{IsLoadFailure, IsValuesFailure};
 ghost use Rattle.mtxkit_texts.specs.Loaded.{MeansMatrix, MeansValues};
-ghost use Rattle.mtxkit_texts.specs.Lower.{MeansOblongPattern, MeansOblongIntegers};
-ghost use Rattle.mtxkit_texts.specs.Lower.{MeansUnsymmetricPattern, MeansUnsymmetricIntegers};
+ghost use Rattle.mtxkit_texts.specs.Lower.{IsAsymmetry, IsOblongPattern, IsOblongIntegers};
+ghost use Rattle.mtxkit_texts.specs.Lower.{IsUnsymmetricPattern, IsUnsymmetricIntegers};
 ghost use Rattle.mtxkit_texts.specs.Lower.{WritesLowerPattern, WritesLowerIntegers, IsLowerOf};
 ghost use Rattle.mtxkit_texts.specs.Lower.{Symmetrised, SymmetrisedUnder};
 ghost use Rattle.mtxkit_texts.specs.Lower.{IsSymmetricFailure, IsHeaderFailure};
-ghost use Rattle.mtxkit_texts.specs.declared.failure.Failure.TheVariants.{OutOfMemory, NotSymmetric};
+ghost use Rattle.mtxkit_texts.specs.declared.failure.Failure.TheVariants.{OutOfMemory};
 
 use crate::failure::Failure;
 use crate::field::{integer_text, pattern_text};
@@ -32,8 +30,9 @@ use std::alloc::{AllocError, Global};
 /// Returns the text of all entries of a matrix if the header of its text names a symmetry. Otherwise the matrix must be
 /// symmetric, and the result is the text of its lower triangle, whose header says `symmetric`.
 ///
-/// Returns the errors of [`load_values`](crate::load_values), and `NotSymmetric` if the header names no symmetry and
-/// the matrix is not symmetric. A matrix that is not square is refused before its duplicate entries are added.
+/// Returns the errors of [`load_values`](crate::load_values). If the header names no symmetry, it returns `NotSquare`
+/// if the matrix is not square, before its duplicate entries are added, and `NotSymmetric` if it differs from its
+/// transpose.
 pub fn symmetric_text(alloc: Global, text: &str) -> Result<String, Failure>
     ensures written { IfOk result
         (λ written. Symmetrised (header_in text.now) text.now (string_bytes written)) }
@@ -74,8 +73,8 @@ fn is_mirrored(symmetry: Symmetry) -> bool
 fn lower_pattern(alloc: Global, text: &str) -> Result<String, Failure>
     requires { is_pattern (header_in text.now) ≡ true }
     ensures written { IfOk result (λ written. WritesLowerPattern text.now (string_bytes written)) }
-    ensures refused { IfErr result (λ e. IsLoadFailure 1 text.now e
-        ⊎ ((e ≡ NotSymmetric) × MeansUnsymmetricPattern text.now)) }
+    ensures refused { IfErr result
+        (λ e. IsLoadFailure 1 text.now e ⊎ IsUnsymmetricPattern text.now e) }
 {
     let matrix = square_ones(alloc, text)?;
     let lower = triangle_of(alloc, &matrix)?;
@@ -87,8 +86,8 @@ fn lower_integers(alloc: Global, text: &str) -> Result<String, Failure>
     requires { is_pattern (header_in text.now) ≡ false }
     ensures written { IfOk result
         (λ written. WritesLowerIntegers text.now (string_bytes written)) }
-    ensures refused { IfErr result (λ e. IsValuesFailure 1 text.now e
-        ⊎ ((e ≡ NotSymmetric) × MeansUnsymmetricIntegers text.now)) }
+    ensures refused { IfErr result
+        (λ e. IsValuesFailure 1 text.now e ⊎ IsUnsymmetricIntegers text.now e) }
 {
     let matrix = square_values(alloc, text)?;
     let lower = triangle_of(alloc, &matrix)?;
@@ -100,8 +99,9 @@ fn lower_integers(alloc: Global, text: &str) -> Result<String, Failure>
 fn square_ones(alloc: Global, text: &str) -> Result<CsrMatrix<W128>, Failure>
     requires { is_pattern (header_in text.now) ≡ true }
     ensures meant { IfOk result (λ m. (entries : ℕ) × MeansMatrix text.now entries m) }
-    ensures refused { IfErr result (λ e. IsLoadFailure 1 text.now e
-        ⊎ ((e ≡ NotSymmetric) × MeansOblongPattern text.now)) }
+    ensures square { IfOk result (λ m. m.pattern.major_dim ≡ m.pattern.minor_dim) }
+    ensures refused { IfErr result
+        (λ e. IsLoadFailure 1 text.now e ⊎ IsOblongPattern text.now e) }
 {
     let places = read_pattern_list(alloc, 1, text)?;
     if places.nrows() != places.ncols() {
@@ -115,8 +115,9 @@ fn square_ones(alloc: Global, text: &str) -> Result<CsrMatrix<W128>, Failure>
 fn square_values(alloc: Global, text: &str) -> Result<CsrMatrix<W64>, Failure>
     requires { is_pattern (header_in text.now) ≡ false }
     ensures meant { IfOk result (MeansValues text.now) }
-    ensures refused { IfErr result (λ e. IsValuesFailure 1 text.now e
-        ⊎ ((e ≡ NotSymmetric) × MeansOblongIntegers text.now)) }
+    ensures square { IfOk result (λ m. m.pattern.major_dim ≡ m.pattern.minor_dim) }
+    ensures refused { IfErr result
+        (λ e. IsValuesFailure 1 text.now e ⊎ IsOblongIntegers text.now e) }
 {
     let integers = read_integers(alloc, 1, text)?;
     if integers.nrows() != integers.ncols() {
@@ -125,11 +126,12 @@ fn square_values(alloc: Global, text: &str) -> Result<CsrMatrix<W64>, Failure>
     narrow_sums(alloc, 1, &integers)
 }
 
-// Returns the lower triangle of a symmetric matrix.
+// Returns the lower triangle of a symmetric matrix. The matrix must be square.
 fn triangle_of<T: Ring>(alloc: Global, matrix: &CsrMatrix<T>) -> Result<CsrMatrix<T>, Failure>
+    requires { matrix.now.pattern.major_dim ≡ matrix.now.pattern.minor_dim }
     ensures lower { IfOk result (IsLowerOf T.ring T.value matrix.now) }
-    ensures refused { IfErr result (λ e. (e ≡ OutOfMemory) ⊎ ((e ≡ NotSymmetric)
-        × (¬ IsSymmetricMatrix T.ring (plain_of_rows T.ring T.value matrix.now)))) }
+    ensures refused { IfErr result
+        (λ e. (e ≡ OutOfMemory) ⊎ IsAsymmetry T.ring T.value matrix.now e) }
 {
     match first_asymmetry(alloc, matrix)? {
         None => Ok(matrix.lower_triangle(alloc)?),

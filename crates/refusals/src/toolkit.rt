@@ -6,8 +6,9 @@ use crate::outcome::{Outcome, checksum_of_bytes};
 use crate::page::Page;
 use case_words::turn::Turn;
 use mtxkit_commands::{Command, FillOrder, Inputs, Target, Values, run as run_command};
+use mtxkit_matrices::EliminationOrder;
 use mtxkit_patterns::Method;
-use mtxkit_texts::Screen;
+use mtxkit_texts::{Form, Screen};
 use nalgebra_sparse::expr::OutputOrder;
 use nalgebra_sparse::io::Out;
 use std::fs;
@@ -18,6 +19,9 @@ const A: &str = "matrix.mtx";
 const X: &str = "solution.mtx";
 
 const B: &str = "sides.mtx";
+
+// A file whose values are not read.
+const R: &str = "real.mtx";
 
 // An order of the rows and columns of A.
 const ORDER: &str = "order.mtx";
@@ -36,6 +40,10 @@ const FILES: &[(&str, &str)] = &[
         "%%MatrixMarket matrix coordinate integer general\n2 1 2\n1 1 1\n2 1 2\n",
     ),
     (
+        R,
+        "%%MatrixMarket matrix coordinate real symmetric\n2 2 2\n1 1 0.5\n2 1 1e6\n",
+    ),
+    (
         ORDER,
         "%%MatrixMarket matrix array integer general\n2 1\n2\n1\n",
     ),
@@ -45,7 +53,9 @@ const FILES: &[(&str, &str)] = &[
 pub fn run(rt: &HostRuntime, turn: &mut Turn, case: &str) -> Outcome {
     let modulus = Some(7);
     match case {
-        "info" => run_args(rt, turn, Command::Info { file: A }),
+        "info" => run_args(rt, turn, info(A, Form::Lines)),
+        "info json" => run_args(rt, turn, info(A, Form::Json)),
+        "info real" => run_args(rt, turn, info(R, Form::Lines)),
         "spy" => run_args(rt, turn, picture(Target::Bitmap)),
         "spy svg" => run_args(rt, turn, picture(Target::Svg)),
         "spy text" => run_args(rt, turn, picture(Target::Blocks)),
@@ -69,7 +79,28 @@ pub fn run(rt: &HostRuntime, turn: &mut Turn, case: &str) -> Outcome {
         }
         "fill" => {
             let order = FillOrder::File(ORDER);
-            run_args(rt, turn, Command::Fill { file: A, order })
+            let form = Form::Lines;
+            run_args(
+                rt,
+                turn,
+                Command::Fill {
+                    file: A,
+                    order,
+                    form,
+                },
+            )
+        }
+        "fill json" => {
+            let (order, form) = (FillOrder::Natural, Form::Json);
+            run_args(
+                rt,
+                turn,
+                Command::Fill {
+                    file: A,
+                    order,
+                    form,
+                },
+            )
         }
         "eval" => run_args(rt, turn, square()),
         "solve" => run_args(rt, turn, solve(None)),
@@ -80,6 +111,13 @@ pub fn run(rt: &HostRuntime, turn: &mut Turn, case: &str) -> Outcome {
         }
         _ => Outcome::Unknown,
     }
+}
+
+// Facts about a file.
+fn info(file: &'static str, form: Form) -> Command<'static>
+    ensures { IsSized result }
+{
+    Command::Info { file, form }
 }
 
 // The square of A.
@@ -98,8 +136,12 @@ fn square() -> Command<'static>
 fn solve(modulus: Option<u64>) -> Command<'static>
     ensures { IsSized result }
 {
-    let (a, b) = (A, B);
-    Command::Solve { modulus, a, b }
+    Command::Solve {
+        modulus,
+        order: EliminationOrder::MinimumDegree,
+        a: A,
+        b: B,
+    }
 }
 
 // A picture of A.

@@ -4,8 +4,10 @@ mod cases;
 mod eval_cases;
 mod failures;
 mod info_cases;
+mod json_cases;
 mod line_cases;
 mod order_cases;
+mod place_cases;
 mod progress;
 mod refusals;
 mod system_cases;
@@ -16,6 +18,7 @@ use crate::mtxkit::eval_cases::EVAL_CASES;
 use crate::mtxkit::info_cases::INFO_CASES;
 use crate::mtxkit::line_cases::{LINE_CASES, LineCase};
 use crate::mtxkit::order_cases::{FILL_CASES, ORDER_CASES, PERMUTE_CASES};
+use crate::mtxkit::place_cases::{PLACE_CASES, PLACE_REFUSALS};
 use crate::mtxkit::refusals::{REFUSALS, Refusal};
 use crate::mtxkit::system_cases::{CHECK_CASES, SOLVE_CASES, SystemCase};
 use mtxkit_commands::answer;
@@ -121,7 +124,7 @@ fn is_answered_so(rt: &HostRuntime, &(words, stdin, text): &Case) -> Result<bool
 
 #[test]
 fn commands_of_one_file(rt: HostRuntime) {
-    for cases in [CASES, INFO_CASES] {
+    for cases in [CASES, INFO_CASES, PLACE_CASES] {
         for case in cases {
             assert!(rt; matches!(is_answered_so(&rt, case), Ok(true)), "{}", case.1);
         }
@@ -242,9 +245,11 @@ fn is_refused(
 
 #[test]
 fn each_refusal_has_its_line(rt: HostRuntime) {
-    for (row, case) in REFUSALS.iter().enumerate() {
-        let is_refused = is_refused(&rt, BROKEN_PIPE, case);
-        assert!(rt; matches!(is_refused, Ok(true)), "row {row}: {}", case.3);
+    for refusals in [REFUSALS, PLACE_REFUSALS] {
+        for (row, case) in refusals.iter().enumerate() {
+            let is_refused = is_refused(&rt, BROKEN_PIPE, case);
+            assert!(rt; matches!(is_refused, Ok(true)), "row {row}: {}", case.3);
+        }
     }
 }
 
@@ -256,7 +261,8 @@ fn is_not_divided(rt: &HostRuntime, end: &str) -> Result<bool, AllocError> {
 
 #[test]
 fn negative_powers_of_ten_have_words_of_their_own(rt: HostRuntime) {
-    let end = "\nK is 0 or more: mtxkit multiplies the numbers by 10^K, and does not divide them.\n";
+    let end =
+        "\nK is 0 or more: mtxkit multiplies the numbers by 10^K, and does not divide them.\n";
     assert!(rt; matches!(is_not_divided(&rt, end), Ok(true)));
 }
 

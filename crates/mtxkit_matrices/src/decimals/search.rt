@@ -21,10 +21,9 @@ pub fn least_scale(alloc: Global, text: &[u8]) -> Result<Option<u32>, AllocError
             Ok(_written) => return Ok(Some(scale)),
             Err(why) => why,
         };
-        match larger(scale, why) {
-            Ok(Some(larger)) => scale = larger,
-            Ok(None) => return Ok(None),
-            Err(refused) => return Err(refused),
+        match larger(scale, why)? {
+            Some(larger) => scale = larger,
+            None => return Ok(None),
         }
     }
 }

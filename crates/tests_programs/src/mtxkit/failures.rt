@@ -20,7 +20,7 @@ const TEXTS: &[(Failure, &str)] = &[
     ),
     (
         Failure::NotSupported(1),
-        "real and complex values are not carried, nor is their pattern",
+        "real and complex values are not carried, only their pattern",
     ),
     (
         Failure::Wide(3),

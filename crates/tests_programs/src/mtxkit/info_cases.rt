@@ -217,27 +217,4 @@ rows by their places:
   9 to 9: 0
 ",
     ),
-    // Values that are not carried.
-    (
-        &["info", "-"],
-        "%%MatrixMarket matrix coordinate real general\n2 3 2\n1 1 0.5\n2 3 1e6\n",
-        "format: coordinate
-field: real
-symmetry: general
-rows: 2
-columns: 3
-entries in the file: 2
-",
-    ),
-    (
-        &["info", "-"],
-        "%%MatrixMarket matrix array complex hermitian\n2 2\n1 0\n0 2\n3 0\n",
-        "format: array
-field: complex
-symmetry: hermitian
-rows: 2
-columns: 2
-entries in the file: 3
-",
-    ),
 ];

@@ -8,7 +8,7 @@ const ONE: &[u8] = b"%%MatrixMarket matrix coordinate integer general\n1 1 1\n1 
 const REAL: &[u8] = b"%%MatrixMarket matrix coordinate real general\n1 1 1\n1 1 5.5\n";
 
 const NOT_CARRIED: &str =
-    "mtxkit: -: real and complex values are not carried, nor is their pattern\n";
+    "mtxkit: -: real and complex values are not carried, only their pattern\n";
 
 // A program that writes to a pipe without a reader ends without a line, with the status that a shell shows for SIGPIPE.
 const STOPPED: u8 = 141;
@@ -71,7 +71,10 @@ pub const REFUSALS: &[Refusal] = &[
     (&["info", "-"], ONE, STOPPED, ""),
     (&["spy", "-", "--text"], ONE, STOPPED, ""),
     (&["info", "-"], REAL, STOPPED, ""),
-    (&["spy", "-"], REAL, 1, NOT_CARRIED),
+    (&["spy", "-"], REAL, STOPPED, ""),
+    (&["field", "pattern", "-"], COMPLEX, STOPPED, ""),
+    (&["fill", "-"], REAL, STOPPED, ""),
+    (&["order", "-"], COMPLEX, STOPPED, ""),
     (&["copy", "-"], REAL, 1, NOT_CARRIED),
     (&["copy", "-"], COMPLEX, 1, NOT_CARRIED),
     (&["eval", "1", "-"], REAL, 1, NOT_CARRIED),

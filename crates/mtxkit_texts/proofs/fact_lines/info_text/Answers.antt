@@ -1,0 +1,5 @@
+use Rattle.mtxkit_texts.proofs.fact_lines.info_text.Goals as goal
+
+pub returns-clause-written : goal.returns-clause-written
+returns-clause-written c =
+    (c.in_ok-facts.facts, (c.in_ok-facts.ensures.are, c.in_ok-written_in.ensures))
