@@ -3,6 +3,5 @@ mod Solving
 mod OrderRefusals
 mod Readings
 mod Reports
-mod Scaling
 mod Evaluating
 mod GivenCommands
