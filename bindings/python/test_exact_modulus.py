@@ -15,7 +15,7 @@ sys.path.insert(0, here)
 import nalgebra_sparse as ns  # noqa: E402
 from nalgebra_sparse import MODULI, Exact, Factorisation  # noqa: E402
 
-CASES = 60
+CASES = 20
 chance = random.Random(11)
 
 
