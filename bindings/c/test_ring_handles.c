@@ -6,7 +6,7 @@
 #include <stdlib.h>
 #include <string.h>
 
-enum { MOST = 5, ROOM = MOST * MOST, HANDLES = 6, STEPS = 2000, MARK = 77 };
+enum { MOST = 5, ROOM = MOST * MOST, HANDLES = 6, STEPS = 20000, MARK = 77 };
 
 #define EACH(i, n) for (size_t i = 0; i < (n); i++)
 #define CHECK(holds)                                                        \

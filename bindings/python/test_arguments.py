@@ -231,7 +231,7 @@ def check_package():
     for block in blocks:
         with contextlib.redirect_stdout(io.StringIO()):
             exec(compile(block, "README.md", "exec"), {})
-    assert len(blocks) == 5
+    assert len(blocks) == 6
     for name in ns.__all__:
         public = getattr(ns, name)
         assert not callable(public) or public.__doc__

@@ -15,7 +15,6 @@ sys.path.insert(0, os.path.dirname(os.path.abspath(__file__)))
 import nalgebra_sparse as ns  # noqa: E402
 import nalgebra_sparse._calls as calls  # noqa: E402
 import nalgebra_sparse._errors as errors  # noqa: E402
-import nalgebra_sparse._matrices as matrices  # noqa: E402
 
 random = np.random.default_rng(20)
 
@@ -75,9 +74,10 @@ def check_random_cases():
         assert same(ns.add(a, b), merged(a, b, 1))
         assert same(ns.subtract(a, b), merged(a, b, -1))
         assert same(ns.matmul(a, c), pattern_product(a, c))
-        matrices._MOST_UNCOUNTED, most = 0, matrices._MOST_UNCOUNTED
-        assert same(ns.matmul(a, c), pattern_product(a, c))
-        matrices._MOST_UNCOUNTED = most
+        assert same(ns.transpose(a.tocsc()), a.T.tocsc())
+        assert same(ns.add(a.tocsc(), b.tocsc()), merged(a, b, 1).tocsc())
+        assert same(ns.subtract(a.tocsc(), b.tocsc()), merged(a, b, -1).tocsc())
+        assert same(ns.matmul(a.tocsc(), c.tocsc()), pattern_product(a, c).tocsc())
         check_dense_case()
         check_solves()
         check_modulus()
@@ -213,6 +213,7 @@ def check_ring():
         (ns.subtract(a, b, modulus), x - y),
         (ns.add_scaled(alpha, a, beta, b, modulus), alpha * x + beta * y),
         (ns.matmul(a, c, modulus), x.dot(z)),
+        (ns.matmul(a.tocsc(), c.tocsc(), modulus), x.dot(z)),
     ]:
         assert not found.nnz or (found.data.min() >= 0 and found.data.max() < modulus)
         assert np.all((whole(found.toarray()) - plain) % modulus == 0)

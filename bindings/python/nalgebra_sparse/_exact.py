@@ -179,7 +179,7 @@ class Exact(Owned):
     def __getitem__(self, key: Any) -> np.int64:
         if not isinstance(key, tuple) or len(key) != 2 or any(isinstance(index, slice) for index in key):
             raise IndexError("an Exact has its values as a[i, j] and its rows as getrow(i): call tocsr() for other parts")
-        row, j = self.getrow(key[0])._arrays(), inside(key[1], self._shape[1])
+        row, j = self.getrow(key[0]).arrays(), inside(key[1], self._shape[1])
         at = np.searchsorted(row[1], j)
         return row[2][at] if at < row[1].size and row[1][at] == j else np.int64(0)
 

@@ -8,7 +8,8 @@ import scipy.sparse as sp
 
 from ._calls import call
 from ._errors import Error
-from ._operands import Integers, Lanes, Matrix, dense_of, integer, lanes_of, modular, pair_of, shape_of, triplets_of
+from ._operands import Integers, Matrix, dense_of, integer, lanes_of, modular, pair_of, shape_of, triplets_of
+from ._owned import Owned
 from ._results import empty, filled, matrix_of
 
 
@@ -124,32 +125,16 @@ def matmul(a: Matrix, b: Matrix, modulus: Optional[int] = None) -> Matrix:
     >>> matmul(a, a, modulus=7).toarray().tolist()
     [[1, 1], [0, 2]]
     """
-    name = modular("multiply", modulus)
     x, y = pair_of(a, b)
     (rows, inner), (other, cols) = x.shape, y.shape
     if inner != other:
         raise Error(f"the shapes {x.shape} and {y.shape} do not fit")
     # By columns, the product of the transposes in the other order is the transpose of the product by rows.
-    first, second = (x, y) if x.sizes == x.shape else (y, x)
-    sizes = (first.sizes[0], inner, second.sizes[1])
-    parts = filled(sizes[0], _product_room(first, second), *name, *sizes, *first.arrays, *second.arrays)
-    return matrix_of(x.kind, parts, (rows, cols), x.wide or y.wide)
-
-
-# Up to this many entries, a product is computed into room for one entry for each multiplication. The rest of the room
-# is never touched, so it takes no memory.
-_MOST_UNCOUNTED = 1 << 24
-
-
-def _product_room(a: Lanes, b: Lanes) -> int:
-    """Returns the number of entries for which a product has room at first: the number of its multiplications if that is
-    not large, and 0 if an index is out of bounds.
-    """
-    try:
-        room = int(np.diff(b.offsets)[a.indices].sum())
-    except IndexError:
-        return 0
-    return min(max(room, 0), _MOST_UNCOUNTED)
+    first, second = (y, x) if x.by_columns else (x, y)
+    product = Owned.of_lanes(first, modulus)._and("multiply", Owned.of_lanes(second, modulus))
+    wide = x.wide or y.wide
+    offsets, indices, values = product.arrays(wide)
+    return matrix_of(x.kind, (values, indices, offsets), (rows, cols), wide)
 
 
 def multiply_dense(a: Matrix, b: Integers, modulus: Optional[int] = None) -> Integers:

@@ -35,9 +35,13 @@ class Lanes(NamedTuple):
         return self.offsets, self.indices, self.values
 
     @property
+    def by_columns(self) -> bool:
+        return self.kind in _CLASSES["csc"]
+
+    @property
     def sizes(self) -> tuple[int, int]:
         """The shape of the matrix whose rows are the lanes: that of the transpose, if the lanes are columns."""
-        return self.shape if self.kind in _CLASSES["csr"] else self.shape[::-1]
+        return self.shape[::-1] if self.by_columns else self.shape
 
 
 def integer(name: str, number: Any) -> int:

@@ -12,7 +12,7 @@ import scipy.sparse as sp
 from ._calls import Handle, RingHandle, call, free
 from ._errors import Error, InvalidStructure, RingMismatch, ring_of
 from ._factorisation import own
-from ._operands import Integers, Matrix, lanes_of, modulus_of, shape_of, sorted_arrays, triplets_of
+from ._operands import Integers, Lanes, Matrix, lanes_of, modulus_of, shape_of, sorted_arrays, triplets_of
 from ._results import empty, is_narrow, matrix_of
 from ._text_lines import read_text, triplets_of_text
 
@@ -70,10 +70,10 @@ class Owned:
         with self._own() as a, other._own() as b:
             return type(self)._made(name, self._modulus, *factors[:1], a, *factors[1:], b)
 
-    def _arrays(self) -> tuple[Integers, Integers, Integers]:
+    def arrays(self, wide: bool = False) -> tuple[Integers, Integers, Integers]:
         """Returns a copy of the offsets, the indices and the values of the matrix by rows, with 32 bits for each index
-        and offset where the sizes fit, and 64 otherwise."""
-        narrow = is_narrow(self._shape, self._nnz)
+        and offset where the sizes fit, and 64 otherwise or if `wide` is set."""
+        narrow = not wide and is_narrow(self._shape, self._nnz)
         # No call writes the arrays of a matrix modulo a prime with 32 bits.
         name, dtype = ("read_32", np.int32) if narrow and self._modulus is None else ("read", np.int64)
         offsets, indices, values = empty(self._shape[0] + 1, dtype), empty(self._nnz, dtype), empty(self._nnz)
@@ -82,6 +82,11 @@ class Owned:
         if narrow:
             offsets, indices = offsets.astype(np.int32, copy=False), indices.astype(np.int32, copy=False)
         return offsets, indices, values
+
+    @classmethod
+    def of_lanes(cls: type[Self], lanes: Lanes, modulus: Optional[int]) -> Self:
+        """Returns the matrix whose rows are the lanes of a SciPy matrix, whose arrays are copied."""
+        return cls._created("from_rows", modulus, *lanes.sizes, *lanes.arrays)
 
     @classmethod
     def from_scipy(cls: type[Self], matrix: Matrix, modulus: Optional[int] = None) -> Self:
@@ -102,7 +107,7 @@ class Owned:
         """
         lanes = lanes_of("matrix", matrix, "csr", "csc")
         try:
-            made = cls._created("from_rows", modulus, *lanes.sizes, *lanes.arrays)
+            made = cls.of_lanes(lanes, modulus)
         except InvalidStructure:
             # The indices of SciPy's products are not sorted. If that is not what is wrong, this raises the same error.
             made = cls._created("from_rows", modulus, *lanes.sizes, *sorted_arrays(lanes))
@@ -165,14 +170,14 @@ class Owned:
 
     def tocsr(self) -> sp.csr_array:
         """Returns the matrix as a SciPy array by rows, with a copy of the arrays."""
-        offsets, indices, values = self._arrays()
+        offsets, indices, values = self.arrays()
         return matrix_of(sp.csr_array, (values, indices, offsets), self._shape)
 
     to_scipy = tocsr
 
     def tocsc(self) -> sp.csc_array:
         """Returns the matrix as a SciPy array by columns, with a copy of the arrays."""
-        offsets, indices, values = self.transpose()._arrays()
+        offsets, indices, values = self.transpose().arrays()
         return matrix_of(sp.csc_array, (values, indices, offsets), self._shape)
 
     def tocoo(self) -> sp.coo_array:
@@ -269,7 +274,7 @@ class Owned:
             return NotImplemented
         if (self._modulus, self._shape, self._nnz) != (operand._modulus, operand._shape, operand._nnz):
             return False
-        return all(map(np.array_equal, self._arrays(), operand._arrays()))
+        return all(map(np.array_equal, self.arrays(), operand.arrays()))
 
     def __hash__(self) -> int:
         return hash((self._modulus, self._shape, self._nnz))

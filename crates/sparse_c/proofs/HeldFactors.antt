@@ -23,7 +23,7 @@ use Rattle.c_arrays.specs.Refused.{IsOutOfMemoryOr, IsTooSmall}
 use Rattle.c_arrays.specs.Rests.{KeepsBehind, KeepsRest}
 use Rattle.c_arrays.specs.Statuses.{number_of}
 use Rattle.c_arrays.specs.declared.refusal.Refusal.{Refusal}
-use Rattle.c_arrays.specs.declared.refusal.Refusal.TheVariants.{EmptyHandle, TooSmall}
+use Rattle.c_arrays.specs.declared.refusal.Refusal.TheVariants.{TooSmall}
 
 empty-not_too_small : (handle : Option HeldFactors) (e : Refusal) → HasNoFactors handle e
     → number_of e ≢ number_of TooSmall

@@ -3,11 +3,9 @@
 -- - `task_finds_fault`: the status of an error of a task is none of those that find no fault
 -- - `held_parts`: a handle holds the matrix with the parts that were read
 -- - `computed_from_one`, `computed_from_two`: a task over the matrices of handles
-use Rattle.std.proofs.Common.{◌≡◌, ◌≢◌, ◌⊎◌, ◌<◌, ℕ, ℤ, pos, inl, inr, ap, sym, subst, ◌∙◌}
-use Rattle.std.proofs.Common.{refl, arith}
-use Rattle.std.specs.Prelude.{◌-◌, Option, None, Some, nat_abs, slice_index}
+use Rattle.std.proofs.Common.{◌≡◌, ◌<◌, ℕ, ℤ, inl, inr, ap, sym, subst, ◌∙◌}
+use Rattle.std.specs.Prelude.{◌-◌, Option, Some, slice_index}
 use Rattle.std.proofs.Math.Nat.{le_of_lt, lt_irrefl, not-le_of_lt}
-use Rattle.std.proofs.lemmas.Option.{none-some, same_Some}
 use Rattle.sparse_algebra.specs.Moduli.{mod_ring}
 use Rattle.sparse_algebra.specs.Plain.{Plain}
 use Rattle.sparse_compressed.specs.Compressed.{Compressed, IsSound}
@@ -19,18 +17,15 @@ use Rattle.sparse_pattern.specs.PatternFaults.{Bound, Fall, Repeat}
 use Rattle.sparse_pattern.specs.Raw.{Raw, IsValid}
 use Rattle.sparse_c.specs.HeldRings.{IsNoOperand, IsNoPair}
 use Rattle.sparse_c.specs.Moduli.{IsFaultModulo, IsUnlisted}
-use Rattle.sparse_c.specs.Scalars.{modulo}
-use Rattle.sparse_c.specs.Tasks.{result_of, AreOperands, IsFaultOfTask, Returns}
+use Rattle.sparse_c.specs.Tasks.{IsFaultOfTask}
 use Rattle.sparse_c.specs.declared.arguments.Combination.{Combination}
 use Rattle.sparse_c.specs.declared.handles.rings.tasks.Task.{Task}
 use Rattle.sparse_c.specs.declared.handles.rings.tasks.Task.TheVariants.{Rows, Assemble}
 use Rattle.sparse_c.specs.declared.handles.rings.tasks.Task.TheVariants.{Transpose, Scale, Combine}
 use Rattle.c_arrays.proofs.ValidStatuses.{list_finds_fault, matrix_finds_fault, pair_finds_fault}
-use Rattle.c_arrays.specs.Arrays.{plain_by_rows}
-use Rattle.c_arrays.specs.Refused.{IsFaultOf, IsFaultOfPair, IsOutOfMemoryOr}
+use Rattle.c_arrays.specs.Refused.{IsFaultOf, IsFaultOfPair}
 use Rattle.c_arrays.specs.Statuses.{number_of, FindsNoFault}
 use Rattle.c_arrays.specs.declared.refusal.Refusal.{Refusal}
-use Rattle.c_arrays.specs.declared.refusal.Refusal.TheVariants.{UnknownChoice}
 use Rattle.c_handles.specs.Held.{Answers}
 use Rattle.c_handles.specs.Rings.{modulus_held, residues_held, HoldsModulo}
 use Rattle.c_handles.specs.declared.ring_matrix.RingMatrix.{RingMatrix}

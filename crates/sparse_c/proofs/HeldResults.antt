@@ -80,7 +80,7 @@ pub multiplied_held : (handle : Option RingMatrix) (s : RingMatrix) (inner n : �
     → WritesHeldProduct handle n b before after status
 multiplied_held handle s inner n b before after status is sound cols made =
     let answer : at_columns s s.matrix.pattern.minor_dim n b before after status =
-        subst (λ (k : ℕ). at_columns s k n b before after status) cols made in
+    subst (λ (k : ℕ). at_columns s k n b before after status) cols made in
     subst (λ (h : Option RingMatrix). WritesHeldProduct h n b before after status) (sym is) (record {
       written = answer.written;
       rest = answer.rest;

@@ -1,5 +1,5 @@
 -- The laws of the trait `Call` for tasks whose result is returned, as in InnerModulusLaws.
-use Rattle.std.specs.Prelude.{◌≡◌, ◌≤◌, ℕ, ℤ, Option, refl}
+use Rattle.std.specs.Prelude.{◌≤◌, ℕ, ℤ, Option, refl}
 use Rattle.std.proofs.Common.{inl, inr}
 use Rattle.sparse_compressed.specs.Compressed.{Compressed}
 use Rattle.sparse_c.specs.Moduli.{moduli, IsFaultModulo, IsNoneOf}

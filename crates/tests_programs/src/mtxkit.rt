@@ -261,7 +261,8 @@ fn is_not_divided(rt: &HostRuntime, end: &str) -> Result<bool, AllocError> {
 
 #[test]
 fn negative_powers_of_ten_have_words_of_their_own(rt: HostRuntime) {
-    let end = "\nK is 0 or more: mtxkit multiplies the numbers by 10^K, and does not divide them.\n";
+    let end =
+        "\nK is 0 or more: mtxkit multiplies the numbers by 10^K, and does not divide them.\n";
     assert!(rt; matches!(is_not_divided(&rt, end), Ok(true)));
 }
 

@@ -18,12 +18,10 @@ const TWICE: &str = "2 2 4\n1 1 2\n1 2 1\n2 1 1\n2 2 1\n";
 const LATE: &str = "3 3 4\n1 1 3\n1 2 1\n2 1 1\n2 2 4\n";
 
 // The matrix 1 0 1 0 / 0 1 1 1 / 1 1 1 0 / 0 1 0 1, whose rows are on a path in the order 1, 3, 2, 4.
-const PATH: &str =
-    "4 4 10\n1 1 1\n2 2 1\n3 3 1\n4 4 1\n1 3 1\n3 1 1\n2 3 1\n3 2 1\n2 4 1\n4 2 1\n";
+const PATH: &str = "4 4 10\n1 1 1\n2 2 1\n3 3 1\n4 4 1\n1 3 1\n3 1 1\n2 3 1\n3 2 1\n2 4 1\n4 2 1\n";
 
 // The matrix 2 1 1 1 / 1 1 0 0 / 1 0 1 0 / 1 0 0 1.
-const STAR: &str =
-    "4 4 10\n1 1 2\n1 2 1\n1 3 1\n1 4 1\n2 1 1\n3 1 1\n4 1 1\n2 2 1\n3 3 1\n4 4 1\n";
+const STAR: &str = "4 4 10\n1 1 2\n1 2 1\n1 3 1\n1 4 1\n2 1 1\n3 1 1\n4 1 1\n2 2 1\n3 3 1\n4 4 1\n";
 
 /// What `mtxkit solve` answers.
 pub const SOLVE_CASES: &[SystemCase] = &[
@@ -150,7 +148,9 @@ pub const CHECK_CASES: &[SystemCase] = &[
     (
         &["check"],
         &[A, "2 1 2\n1 1 1\n2 1 2\n", "2 1 2\n1 1 5\n2 1 9\n"],
-        Err("mtxkit: 0.mtx, 1.mtx, 2.mtx: A X is not B; row by row, the first value that differs is in row 2, column 1\n"),
+        Err(
+            "mtxkit: 0.mtx, 1.mtx, 2.mtx: A X is not B; row by row, the first value that differs is in row 2, column 1\n",
+        ),
     ),
     (
         &["check", "--mod", "7"],
@@ -160,7 +160,9 @@ pub const CHECK_CASES: &[SystemCase] = &[
     (
         &["check"],
         &[A, "2 1 0\n", "1 1 0\n"],
-        Err("mtxkit: 0.mtx, 1.mtx, 2.mtx: shapes do not fit: A is 2 by 2, X is 2 by 1, B is 1 by 1\n"),
+        Err(
+            "mtxkit: 0.mtx, 1.mtx, 2.mtx: shapes do not fit: A is 2 by 2, X is 2 by 1, B is 1 by 1\n",
+        ),
     ),
     (
         &["check"],

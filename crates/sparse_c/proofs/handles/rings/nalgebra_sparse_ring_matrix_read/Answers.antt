@@ -17,9 +17,9 @@ returns-in-Ok-clause-answered c =
     let handle = c.args.a.now.value in
     let s : RingMatrix = record { modulus = c.deref.result.now.modulus; matrix = c.lanes.result } in
     let before = output_arrays c.args.out_offsets.now c.args.out_indices.now
-        c.args.out_values.now c.args.out_places.now in
+    c.args.out_values.now c.args.out_places.now in
     let made : WritesHeldRows handle before (held_in c.by_modulus.new.out)
-        (to_z w32 (of_z w32 status)) =
+    (to_z w32 (of_z w32 status)) =
     seen_rows same (read_held handle s _ _ status
     (held_parts handle _ c.deref.result.now c.deref-in-Ok.result.now c.lanes.result
     c.in-Ok.ensures.matrix c.deref.ensures c.deref-in-Ok.ensures c.lanes.ensures.is)

@@ -15,11 +15,11 @@ returns-clause-answered c =
     let a = c.args.a.now in
     let s : RingMatrix = record { modulus = a.modulus; matrix = c.lanes.result } in
     let made : WritesHeldProduct (Some a) c.args.cols c.args.b.now c.args.out.now
-        c.by_modulus.new.out.values.now status = multiplied_held (Some a) s c.ncols.result
-        c.args.cols c.args.b.now _ _ status
-        (held_parts (Some a) a a a c.lanes.result refl refl refl c.lanes.ensures.is)
-        (subst IsSound (sym c.lanes.ensures.is) c.lanes.ensures.sound)
-        (c.ncols.ensures ∙ ap (λ m. m.pattern.minor_dim) (sym c.lanes.ensures.is))
-        c.by_modulus.ensures.does.answer in
+    c.by_modulus.new.out.values.now status = multiplied_held (Some a) s c.ncols.result
+    c.args.cols c.args.b.now _ _ status
+    (held_parts (Some a) a a a c.lanes.result refl refl refl c.lanes.ensures.is)
+    (subst IsSound (sym c.lanes.ensures.is) c.lanes.ensures.sound)
+    (c.ncols.ensures ∙ ap (λ m. m.pattern.minor_dim) (sym c.lanes.ensures.is))
+    c.by_modulus.ensures.does.answer in
     let array = c.by_modulus.ensures.does.array in
     rw same (search rules)
