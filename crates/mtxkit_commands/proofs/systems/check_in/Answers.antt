@@ -25,7 +25,7 @@ pub returns : goal.returns
 returns g c =
     subst (λ f. IsTested g.T.Ring.ring c.args.a.now c.args.x.now c.args.b.now (Err f))
     (sym c.check_fault.ensures)
-    (untested g.T.Ring.ring g.T.Ring.value c.in_ok-matrix.matrix c.in_ok-sides.sides c.args.a.now
+    (rw (c.of-a.ensures, c.of-x.ensures, c.of-b.ensures) (untested g.T.Ring.ring g.T.Ring.value c.in_ok-matrix.matrix c.in_ok-sides.sides c.args.a.now
     c.args.b.now c.in_ok-matrix.ensures c.in_ok-sides.ensures c.in_ok-solution.solution
     c.args.x.now c.in_ok-solution.ensures c.in-Err.error c.in-Err.ensures.shapes
-    c.in-Err.ensures.refused)
+    c.in-Err.ensures.refused))

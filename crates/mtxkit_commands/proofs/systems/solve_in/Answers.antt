@@ -39,6 +39,6 @@ returns g c =
     let reduced = g.T.Residues.reduced in
     subst (λ f. IsSolved R value reduced c.args.modulus c.args.order c.args.a.now c.args.b.now (Err f))
     (sym c.system_fault.ensures)
-    (refused R value c.in_ok-matrix.matrix c.in_ok-sides.sides c.args.a.now c.args.b.now
+    (rw (c.of-a.ensures, c.of-b.ensures) (refused R value c.in_ok-matrix.matrix c.in_ok-sides.sides c.args.a.now c.args.b.now
     c.in_ok-matrix.ensures c.in_ok-sides.ensures c.args.modulus c.args.order c.in-Err.error
-    c.in-Err.ensures.shapes c.in-Err.ensures.refused)
+    c.in-Err.ensures.shapes c.in-Err.ensures.refused))
