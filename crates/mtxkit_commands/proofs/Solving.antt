@@ -163,7 +163,7 @@ module _ (R : CommRing) where
       untested check.Shapes says why = (λ s. says.0 refl (equation-back s), refl, refl, refl)
       untested (check.NotSolution at) says why = (
         equation-same (equation_at_err check.Shapes a x b (check.NotSolution at) says (λ e. cc)),
-        difference-same R (plain_of_coo R f a) (plain_of_integers R a') (plain_of_coo R f x)
+        difference-same (plain_of_coo R f a) (plain_of_integers R a') (plain_of_coo R f x)
             (plain_of_integers R x') (plain_of_coo R f b) (plain_of_integers R b') same_a same_x
             same_b at.row at.col why,
       )

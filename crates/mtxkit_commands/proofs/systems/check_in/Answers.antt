@@ -1,5 +1,8 @@
-use Rattle.std.proofs.Common.{Err, subst, sym}
+use Rattle.std.proofs.Common.{Err, ap, subst, sym, ◌∙◌}
 use Rattle.sparse_coo_dense.specs.CooPlain.{plain_of_coo}
+use Rattle.mtxkit_matrices.specs.Coordinates.{dimensions_of}
+use Rattle.mtxkit_matrices.specs.declared.coordinates.Dimensions.{Dimensions}
+use Rattle.mtxkit_commands.specs.SystemErrors.{check_fault}
 use Rattle.mtxkit_matrices.specs.declared.solutions.CheckError.TheVariants as check
 use Rattle.mtxkit_commands.specs.Systems.{plain_of_integers, IsTested}
 use Rattle.mtxkit_commands.proofs.Solving.{product-same, untested, equation-same, equation_at_ok}
@@ -24,7 +27,13 @@ returns-in-Ok g c =
 pub returns : goal.returns
 returns g c =
     subst (λ f. IsTested g.T.Ring.ring c.args.a.now c.args.x.now c.args.b.now (Err f))
-    (sym c.check_fault.ensures)
+    (sym (c.check_fault.ensures
+    ∙ ap (λ (d : Dimensions). check_fault d c.of-x.result c.of-b.result c.in-Err.error)
+    c.of-a.ensures
+    ∙ ap (λ (d : Dimensions). check_fault (dimensions_of c.args.a.now) d c.of-b.result
+    c.in-Err.error) c.of-x.ensures
+    ∙ ap (λ (d : Dimensions). check_fault (dimensions_of c.args.a.now)
+    (dimensions_of c.args.x.now) d c.in-Err.error) c.of-b.ensures))
     (untested g.T.Ring.ring g.T.Ring.value c.in_ok-matrix.matrix c.in_ok-sides.sides c.args.a.now
     c.args.b.now c.in_ok-matrix.ensures c.in_ok-sides.ensures c.in_ok-solution.solution
     c.args.x.now c.in_ok-solution.ensures c.in-Err.error c.in-Err.ensures.shapes

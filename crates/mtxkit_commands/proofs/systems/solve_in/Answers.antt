@@ -1,7 +1,10 @@
 use Rattle.std.proofs.Common.{Err, ap, sym, subst, ◌∙◌}
 use Rattle.sparse_algebra.specs.Plain.{Plain}
 use Rattle.sparse_coo_dense.specs.CooPlain.{plain_of_coo}
+use Rattle.mtxkit_matrices.specs.Coordinates.{dimensions_of}
 use Rattle.mtxkit_matrices.specs.Orders.{IsByColumns}
+use Rattle.mtxkit_matrices.specs.declared.coordinates.Dimensions.{Dimensions}
+use Rattle.mtxkit_commands.specs.SystemErrors.{system_fault}
 use Rattle.mtxkit_matrices.specs.Values.{IsSymmetricMatrix}
 use Rattle.mtxkit_matrices.specs.declared.systems.SystemError.TheVariants as system
 use Rattle.mtxkit_commands.specs.Systems.{plain_of_integers, IsSolved}
@@ -38,7 +41,11 @@ returns g c =
     let value = g.T.Ring.value in
     let reduced = g.T.Residues.reduced in
     subst (λ f. IsSolved R value reduced c.args.modulus c.args.order c.args.a.now c.args.b.now (Err f))
-    (sym c.system_fault.ensures)
+    (sym (c.system_fault.ensures
+    ∙ ap (λ (d : Dimensions). system_fault c.args.modulus d c.of-b.result c.in-Err.error)
+    c.of-a.ensures
+    ∙ ap (λ (d : Dimensions). system_fault c.args.modulus (dimensions_of c.args.a.now) d
+    c.in-Err.error) c.of-b.ensures))
     (refused R value c.in_ok-matrix.matrix c.in_ok-sides.sides c.args.a.now c.args.b.now
     c.in_ok-matrix.ensures c.in_ok-sides.ensures c.args.modulus c.args.order c.in-Err.error
     c.in-Err.ensures.shapes c.in-Err.ensures.refused)
