@@ -1,8 +1,5 @@
 use Rattle.std.proofs.Common.{Err, ap, subst, sym, ◌∙◌}
 use Rattle.sparse_coo_dense.specs.CooPlain.{plain_of_coo}
-use Rattle.mtxkit_matrices.specs.Coordinates.{dimensions_of}
-use Rattle.mtxkit_matrices.specs.declared.coordinates.Dimensions.{Dimensions}
-use Rattle.mtxkit_commands.specs.SystemErrors.{check_fault}
 use Rattle.mtxkit_matrices.specs.declared.solutions.CheckError.TheVariants as check
 use Rattle.mtxkit_commands.specs.Systems.{plain_of_integers, IsTested}
 use Rattle.mtxkit_commands.proofs.Solving.{product-same, untested, equation-same, equation_at_ok}

@@ -1,10 +1,7 @@
 use Rattle.std.proofs.Common.{Err, ap, sym, subst, ◌∙◌}
 use Rattle.sparse_algebra.specs.Plain.{Plain}
 use Rattle.sparse_coo_dense.specs.CooPlain.{plain_of_coo}
-use Rattle.mtxkit_matrices.specs.Coordinates.{dimensions_of}
 use Rattle.mtxkit_matrices.specs.Orders.{IsByColumns}
-use Rattle.mtxkit_matrices.specs.declared.coordinates.Dimensions.{Dimensions}
-use Rattle.mtxkit_commands.specs.SystemErrors.{system_fault}
 use Rattle.mtxkit_matrices.specs.Values.{IsSymmetricMatrix}
 use Rattle.mtxkit_matrices.specs.declared.systems.SystemError.TheVariants as system
 use Rattle.mtxkit_commands.specs.Systems.{plain_of_integers, IsSolved}
