@@ -77,31 +77,8 @@ pub fn run(rt: &HostRuntime, turn: &mut Turn, case: &str) -> Outcome {
             let order = ORDER;
             run_args(rt, turn, Command::Permute { order, file: A })
         }
-        "fill" => {
-            let order = FillOrder::File(ORDER);
-            let form = Form::Lines;
-            run_args(
-                rt,
-                turn,
-                Command::Fill {
-                    file: A,
-                    order,
-                    form,
-                },
-            )
-        }
-        "fill json" => {
-            let (order, form) = (FillOrder::Natural, Form::Json);
-            run_args(
-                rt,
-                turn,
-                Command::Fill {
-                    file: A,
-                    order,
-                    form,
-                },
-            )
-        }
+        "fill" => run_args(rt, turn, fill(FillOrder::File(ORDER), Form::Lines)),
+        "fill json" => run_args(rt, turn, fill(FillOrder::Natural, Form::Json)),
         "eval" => run_args(rt, turn, square()),
         "solve" => run_args(rt, turn, solve(None)),
         "solve modulo" => run_args(rt, turn, solve(modulus)),
@@ -118,6 +95,17 @@ fn info(file: &'static str, form: Form) -> Command<'static>
     ensures { IsSized result }
 {
     Command::Info { file, form }
+}
+
+// Facts about the fill of A.
+fn fill(order: FillOrder<'static>, form: Form) -> Command<'static>
+    ensures { IsSized result }
+{
+    Command::Fill {
+        file: A,
+        order,
+        form,
+    }
 }
 
 // The square of A.
