@@ -2,7 +2,7 @@
 use Rattle.std.specs.Prelude.{◌≡◌, ◌≢◌, ◌⊎◌, ℕ, ℤ, [], ◌∷◌, Option, None, Some}
 use Rattle.sparse_algebra.specs.Moduli.{mod_ring}
 use Rattle.sparse_algebra.specs.Plain.{Plain}
-use Rattle.sparse_compressed.specs.Compressed.{arrays_of, Compressed, IsSound}
+use Rattle.sparse_compressed.specs.Compressed.{arrays_of, Compressed}
 use Rattle.c_arrays.specs.Arrays.{plain_by_rows}
 use Rattle.c_arrays.specs.declared.refusal.Refusal.{Refusal}
 use Rattle.c_arrays.specs.declared.refusal.Refusal.TheVariants.{EmptyHandle, RingMismatch}

@@ -1,7 +1,7 @@
 -- Lists of wrapping integers, and the lists of whole numbers that their texts mean.
 use Rattle.std.proofs.Common.{◌≡◌, ℕ, ◌<◌, List, [], ◌∷◌, ◌++◌}
 use Rattle.std.proofs.Common.{length, map, get_or, refl, sym, ap, ◌∙◌}
-use Rattle.std.specs.Prelude.{◌||◌, ◌&&◌, Bool, true, false, nat_eq, All}
+use Rattle.std.specs.Prelude.{◌||◌, ◌&&◌, All}
 use Rattle.std.specs.List.{list_any, flat_map}
 use Rattle.std.proofs.lemmas.List.{length-map}
 use Rattle.std.proofs.lemmas.List.Elements.{All-map}
@@ -10,9 +10,6 @@ use Rattle.nalgebra_sparse.specs.Sums.{sum_by, where_true}
 use Rattle.nalgebra_sparse.specs.Plain.{is_at}
 use Rattle.nalgebra_sparse.specs.Coo.{Coo, IsInside}
 use Rattle.nalgebra_sparse.specs.CooPlain.{plain_of_coo}
-use Rattle.nalgebra_sparse.specs.Compressed.{Compressed, lane_triplets, transposed}
-use Rattle.nalgebra_sparse.specs.PlainOfLanes.{plain_of_cols}
-use Rattle.nalgebra_sparse.specs.OneMatrix.{coo_of_cols}
 use Rattle.nalgebra_sparse.specs.Meaning.{value_triplet, values_of}
 use Rattle.nalgebra_sparse.specs.Written.{heading, size_line, triplet_line, written_text_with, text_of}
 
@@ -67,39 +64,3 @@ module _ {T V : Type 0} (h : T → V) where
       → All (λ t. P t.2) (values_of h m).triplets
   values-read P own m = All-map (λ t. P t.2) (value_triplet h) m.triplets
       (λ k t lt. own (get_or m.triplets k t).2)
-
--- ---- lists by columns
-
-and_comm : (b c : Bool) → (b && c) ≡ (c && b)
-and_comm true true = refl
-and_comm true false = refl
-and_comm false true = refl
-and_comm false false = refl
-
-module _ {T : Type 0} where
-  any-cols : (i j : ℕ) (ts : List (ℕ × ℕ × T))
-      → list_any (is_at i j) (map transposed ts) ≡ list_any (is_at j i) ts
-  any-cols i j [] = refl
-  any-cols i j (t ∷ ts) =
-      ap (λ b. b || list_any (is_at i j) (map transposed ts))
-      (and_comm (nat_eq t.1 i) (nat_eq t.0 j)) ∙ ap (λ b. is_at j i t || b) (any-cols i j ts)
-
-  module _ (R : CommRing) (f : T → R.Carrier) where
-    sum-cols : (i j : ℕ) (ts : List (ℕ × ℕ × T))
-        → sum_by R (λ t. where_true R (is_at i j t) (f t.2)) (map transposed ts)
-        ≡ sum_by R (λ t. where_true R (is_at j i t) (f t.2)) ts
-    sum-cols i j [] = refl
-    sum-cols i j (t ∷ ts) =
-        ap (λ b. R.add (where_true R b (f t.2))
-        (sum_by R (λ t. where_true R (is_at i j t) (f t.2)) (map transposed ts)))
-        (and_comm (nat_eq t.1 i) (nat_eq t.0 j))
-        ∙ ap (R.add (where_true R (is_at j i t) (f t.2))) (sum-cols i j ts)
-
-    -- the list of a matrix by columns has its plain matrix
-    pub plain-cols : (m : Compressed T) → plain_of_coo R f (coo_of_cols m) ≡ plain_of_cols R f m
-    plain-cols m = λ k. record {
-      rows = m.pattern.minor_dim;
-      cols = m.pattern.major_dim;
-      has = λ i j. any-cols i j (lane_triplets m) k;
-      value = λ i j. sum-cols i j (lane_triplets m) k;
-    }

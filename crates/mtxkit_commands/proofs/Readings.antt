@@ -1,5 +1,5 @@
 -- The record of files that were read one after the other.
-use Rattle.std.proofs.Common.{◌≡◌, ◌+◌, ◌<◌, ◌≤◌, ℕ, List, [], ◌∷◌, ◌++◌, Ok, length, take, drop, get_or, map}
+use Rattle.std.proofs.Common.{◌≡◌, ◌+◌, ◌<◌, ◌≤◌, ℕ, List, [], ◌∷◌, ◌++◌, Ok, length, take, drop, get_or}
 use Rattle.std.proofs.Common.{refl, sym, ap, subst, ◌∙◌, append_assoc, take-append-drop, length-append, arith}
 use Rattle.std.proofs.Common.{◌≢◌, ◌-◌, zero, suc}
 use Rattle.std.specs.Prelude.{slice_get, Option, Some, None, IfSome}

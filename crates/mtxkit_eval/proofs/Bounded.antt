@@ -1,15 +1,12 @@
 -- Values whose bound is below 2 ^ 127.
-use Rattle.std.proofs.Common.{◌≡◌, ◌≤◌, ◌<◌, ◌^◌, ◌-◌, ℕ, All, List, map, Ok, arith, ap, ◌∙◌, sym}
-use Rattle.std.specs.Prelude.{unsigned_abs}
+use Rattle.std.proofs.Common.{◌≡◌, ◌≤◌, ◌<◌, ◌^◌, ◌-◌, ℕ, All, List, map, Ok, arith, ap, ◌∙◌}
 use Rattle.std.specs.Int.{w128}
-use Rattle.sparse_algebra.specs.Plain.{Plain}
-use Rattle.sparse_algebra.specs.Whole.{whole_ring}
 use Rattle.sparse_algebra.specs.Wrapping.{wrapping_ring}
 use Rattle.sparse_algebra.specs.declared.scalar.wide.W128.{W128}
 use Rattle.sparse_compressed.specs.Compressed.{Compressed, IsSound}
 use Rattle.sparse_expr.specs.declared.expr.Expr.{Expr}
 use Rattle.mtxkit_eval.specs.Extents.{cap, extent_of, matrix_extent, IsWithin}
-use Rattle.mtxkit_eval.specs.Values.{exact_of, exact_value, HasValue, IsUnbounded}
+use Rattle.mtxkit_eval.specs.Values.{exact_of, exact_value, HasValue}
 use Rattle.mtxkit_eval.specs.Rings.{reduced128}
 use Rattle.mtxkit_eval.proofs.Bounds.{value-within}
 use Rattle.mtxkit_eval.proofs.Magnitudes.{exact, within-extent}

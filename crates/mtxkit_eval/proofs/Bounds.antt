@@ -1,17 +1,15 @@
 -- The values of an expression are within its extent.
-use Rattle.std.proofs.Common.{◌≡◌, ℕ, zero, suc, ◌+◌, ◌*◌, ◌≤◌, ◌<◌, ◌^◌, ◌-◌, ℤ, pos, negsuc, Bool, true, false}
-use Rattle.std.proofs.Common.{List, [], ◌∷◌, All, map, Result, Ok, Err, refl, sym, ap, subst, ◌∙◌, arith}
-use Rattle.std.specs.Prelude.{◌+ℤ◌, ◌*ℤ◌, neg_ℤ, unsigned_abs, Option, Some, None, slice_get, nat_eq, ◌&&◌, if◌then◌else◌, nat_lt}
-use Rattle.std.proofs.Math.Nat.{mul_comm, mul-le-mul_left}
-use Rattle.std.proofs.lemmas.Bool.{and_parts}
-use Rattle.std.proofs.lemmas.Bool.Decides.{Decides-eqb}
+use Rattle.std.proofs.Common.{◌≡◌, ℕ, zero, suc, ◌+◌, ◌*◌, ◌≤◌, ◌<◌, ◌^◌, ◌-◌, ℤ, Bool, true, false}
+use Rattle.std.proofs.Common.{List, [], ◌∷◌, All, map, Result, Ok, Err, subst, ◌∙◌, arith}
+use Rattle.std.specs.Prelude.{◌+ℤ◌, ◌*ℤ◌, neg_ℤ, unsigned_abs, slice_get, nat_eq, ◌&&◌, if◌then◌else◌}
+use Rattle.std.proofs.Math.Nat.{mul-le-mul_left}
 use Rattle.std.proofs.lemmas.Int.{ints, unsigned_abs-mul}
 use Rattle.std.proofs.lemmas.List.Elements.{All-head, All-tail}
-use Rattle.sparse_algebra.specs.Plain.{Plain, plain_sum, plain_product, plain_difference, plain_transpose, plain_negation}
+use Rattle.sparse_algebra.specs.Plain.{Plain, plain_sum, plain_product, plain_transpose, plain_negation}
 use Rattle.sparse_algebra.specs.Sums.{sum_below}
 use Rattle.sparse_algebra.specs.Whole.{whole_ring}
 use Rattle.mtxkit_eval.specs.Extents.{IsWithin, extent_of, extent_at, found_extent, sum_extent}
-use Rattle.mtxkit_eval.specs.Extents.{product_extent, transposed_extent, extent_from, cap, capped}
+use Rattle.mtxkit_eval.specs.Extents.{product_extent, transposed_extent}
 use Rattle.sparse_expr.specs.Value.{both, one, found, input_at, sum_of, difference_of, product_of, value_of, same_sizes}
 use Rattle.sparse_expr.specs.declared.expr.Expr.{Expr}
 use Rattle.sparse_expr.specs.declared.expr.Expr.TheVariants as tree

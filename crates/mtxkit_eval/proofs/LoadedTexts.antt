@@ -1,11 +1,10 @@
 -- Texts loaded one after the other, as matrices with exact sums.
 use Rattle.std.proofs.Common.{◌≡◌, ◌⊎◌, ℕ, ◌+◌, ◌<◌, ◌≤◌, List, [], ◌∷◌, ◌++◌, length, map, take, drop, get_or}
-use Rattle.std.proofs.Common.{refl, sym, ap, subst, ◌∙◌, append_assoc, take-append-drop, String, string_bytes, arith}
-use Rattle.std.specs.List.{AllZip}
+use Rattle.std.proofs.Common.{sym, ap, subst, ◌∙◌, append_assoc, take-append-drop, arith}
 use Rattle.std.proofs.lemmas.List.{map-append, take_all, take_more, length-map, length-take-le}
 use Rattle.sparse_algebra.specs.declared.scalar.wide.W128.{W128}
 use Rattle.sparse_compressed.specs.Compressed.{Compressed}
-use Rattle.mtxkit_texts.specs.Loaded.{MeansWhole, IsWholeFailure}
+use Rattle.mtxkit_texts.specs.Loaded.{IsWholeFailure}
 use Rattle.mtxkit_texts.specs.declared.failure.Failure.{Failure}
 use Rattle.mtxkit_eval.specs.Evaluated.{AllMeanWhole, IsFirstFailed, IsMeantBy}
 

@@ -1,14 +1,14 @@
 -- The value of an expression over the images of matrices under a ring homomorphism.
 use Rattle.std.proofs.Common.{◌≡◌, ℕ, zero, suc, Bool, true, false, List, [], ◌∷◌, map, Result, Ok, Err}
-use Rattle.std.proofs.Common.{Some, None, refl, sym, ap, ◌∙◌}
+use Rattle.std.proofs.Common.{refl, sym, ap, ◌∙◌}
 use Rattle.std.specs.Prelude.{Option, slice_get, nat_eq, ◌&&◌, if◌then◌else◌}
 use Rattle.sparse_algebra.specs.Algebra.{CommRing}
-use Rattle.sparse_algebra.specs.Plain.{Plain, plain_sum, plain_difference, plain_product}
+use Rattle.sparse_algebra.specs.Plain.{Plain}
 use Rattle.sparse_algebra.specs.Plain.{plain_transpose, plain_negation}
 use Rattle.sparse_algebra.specs.RingMaps.{IsRingMap, plain_map}
 use Rattle.sparse_algebra.proofs.RingMapLemmas.{map-sum, map-negation, map-difference, map-product}
 use Rattle.sparse_expr.specs.Value.{both, one, found, input_at, sum_of, difference_of, product_of}
-use Rattle.sparse_expr.specs.Value.{value_of, same_sizes}
+use Rattle.sparse_expr.specs.Value.{value_of}
 use Rattle.sparse_expr.specs.declared.expr.Expr.{Expr}
 use Rattle.sparse_expr.specs.declared.expr.Expr.TheVariants as tree
 use Rattle.sparse_expr.specs.declared.error.ExprError.{ExprError}

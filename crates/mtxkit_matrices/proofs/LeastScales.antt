@@ -1,9 +1,8 @@
 -- A text whose value is no integer cannot be scaled by less than the value's least scale.
-use Rattle.std.proofs.Common.{◌≡◌, ℕ, ℤ, ◌<◌, List, [], ◌∷◌, ◌++◌, Option, Some, refl, sym, ap, subst}
+use Rattle.std.proofs.Common.{◌≡◌, ℕ, ℤ, ◌<◌, List, [], ◌∷◌, ◌++◌, Some, refl, sym, ap, subst}
 use Rattle.std.proofs.Common.{◌∙◌, true, inl, inr}
 use Rattle.sparse_parser.specs.declared.header.Format.{Format}
 use Rattle.sparse_parser.specs.declared.header.Format.TheVariants.{Coordinate, Array}
-use Rattle.sparse_parser.specs.declared.header.Header.{Header}
 use Rattle.sparse_parser.specs.Grammar.{AreContents, AreHeaded, AreWords, IsHeaded}
 use Rattle.sparse_parser.proofs.ContentLaws.{contents_are}
 use Rattle.sparse_io.proofs.OneMeaning.{headed_written, written_same}

@@ -1,7 +1,7 @@
 -- Matrices whose values are all zero, and differences of matrices with the same values.
 use Rattle.std.proofs.Common.{◌≡◌, ℕ, ◌<◌, ◌≤◌, ◌⊎◌, inl, inr, length, slice_index_or}
 use Rattle.std.proofs.Common.{refl, sym, ap, ◌∙◌, arith}
-use Rattle.std.proofs.lemmas.Bool.{cases_Bool, cases_lt}
+use Rattle.std.proofs.lemmas.Bool.{cases_Bool}
 use Rattle.sparse_algebra.proofs.RingLemmas.{cancel}
 use Rattle.sparse_pattern.proofs.OffsetsInLanes.{lane_of_offset}
 use Rattle.sparse_compressed.proofs.Arrays.{offset_within}

@@ -4,7 +4,7 @@ use Rattle.std.specs.Prelude.{List, [], ◌∷◌, ◌++◌, codes}
 use Rattle.std.specs.Fmt.{decimal}
 use Rattle.std.specs.List.{flat_map}
 use Rattle.sparse_algebra.specs.Plain.{below}
-use Rattle.mtxkit_matrices.specs.Pictures.{CellCounts, is_black, count_at}
+use Rattle.mtxkit_matrices.specs.Pictures.{CellCounts, is_black}
 
 -- ---- portable bitmaps
 

@@ -1,8 +1,8 @@
 -- The fill of a pattern has no entry above the diagonal.
-use Rattle.std.proofs.Common.{◌≡◌, ℕ, ◌≤◌, ◌<◌, inl, inr, true, Bool, arith}
+use Rattle.std.proofs.Common.{◌≡◌, ℕ, ◌≤◌, ◌<◌, inl, inr, arith}
 use Rattle.std.specs.Prelude.{nat_le, IsTrue}
 use Rattle.std.proofs.lemmas.Bool.Decides.{nat_tests}
-use Rattle.sparse_pattern.specs.Raw.{Raw, IsEntry}
+use Rattle.sparse_pattern.specs.Raw.{Raw}
 use Rattle.sparse_factor.specs.Fill.{InFill, StoresByColumns, TriangleBase}
 use Rattle.sparse_factor.specs.declared.factorization.Triangle.TheVariants.{Both}
 use Rattle.mtxkit_patterns.specs.Columns.{IsLower}

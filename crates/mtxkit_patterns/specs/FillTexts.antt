@@ -1,5 +1,5 @@
 -- The text of `mtxkit fill`.
-use Rattle.std.specs.Prelude.{◌≡◌, ◌≢◌, ◌⊎◌, ℕ, List, length, Option, Some, None}
+use Rattle.std.specs.Prelude.{◌≡◌, ◌≢◌, ◌⊎◌, ℕ, List, Option, Some, None}
 use Rattle.sparse_pattern.specs.Raw.{Raw}
 use Rattle.sparse_permutation.specs.PermutedPatterns.{IsPermutedPattern}
 use Rattle.sparse_permutation.specs.Permutations.{IsOrder}

@@ -14,7 +14,6 @@ use Rattle.sparse_permutation.specs.declared.error.PermutationError.TheVariants.
 use Rattle.sparse_permutation.specs.declared.error.PermutationError.TheVariants as permutation
 use Rattle.mtxkit_texts.specs.AnyField.{MeansPlaces, IsPlacesFailure}
 use Rattle.mtxkit_texts.specs.Loaded.{MeansIntegers, IsRefused}
-use Rattle.mtxkit_texts.specs.declared.failure.Failure.{Failure}
 use Rattle.mtxkit_texts.specs.declared.failure.Failure.TheVariants.{OutOfMemory}
 use Rattle.mtxkit_patterns.specs.OrderLists.{IsColumn, numbers_of, index_of}
 use Rattle.mtxkit_patterns.specs.OrderTexts.{order_text}

@@ -1,6 +1,6 @@
 -- A text of ones is written line by line.
-use Rattle.std.proofs.Common.{◌≡◌, ℕ, Bool, true, false, List, [], ◌∷◌, ◌++◌, length, Option, Some, None}
-use Rattle.std.proofs.Common.{refl, sym, ap, subst, ◌∙◌, inl, inr, append_assoc, append-nil}
+use Rattle.std.proofs.Common.{◌≡◌, ℕ, Bool, true, false, List, [], ◌∷◌, ◌++◌, Option, Some, None}
+use Rattle.std.proofs.Common.{refl, sym, ap, subst, ◌∙◌, append_assoc, append-nil}
 use Rattle.std.specs.Prelude.{if◌then◌else◌}
 use Rattle.sparse_parser.specs.declared.header.Header.{Header}
 use Rattle.sparse_parser.specs.Grammar.{AreLines}
@@ -12,7 +12,7 @@ use Rattle.mtxkit_texts.specs.declared.ones.Stage.{Stage}
 use Rattle.mtxkit_texts.specs.declared.ones.Stage.TheVariants.{Head, Sizes, Entries}
 use Rattle.mtxkit_texts.specs.InnerOnes.{AreOnesAbove, next_stage, stage_lines, stage_words}
 use Rattle.mtxkit_texts.specs.InnerOnes.{stage_under, words_under}
-use Rattle.mtxkit_texts.specs.Ones.{AreOnesOf, ended, has_no_contents, lines_below, lines_under}
+use Rattle.mtxkit_texts.specs.Ones.{AreOnesOf, ended, has_no_contents, lines_under}
 use Rattle.mtxkit_texts.specs.Ones.{ones_lines, spaced}
 
 -- what is written for a line, and then for the lines below it

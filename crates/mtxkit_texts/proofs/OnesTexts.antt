@@ -1,6 +1,6 @@
 -- The text of ones of a document with real or complex values is a document.
-use Rattle.std.proofs.Common.{◌≡◌, ℕ, ◌<◌, Bool, true, false, not, eqb, List, [], ◌∷◌, ◌++◌, length, map}
-use Rattle.std.proofs.Common.{get_or, Option, Some, None, refl, sym, ap, subst, ◌∙◌, arith, inl, inr}
+use Rattle.std.proofs.Common.{◌≡◌, ℕ, ◌<◌, Bool, true, false, not, List, [], ◌∷◌, ◌++◌, length, map}
+use Rattle.std.proofs.Common.{get_or, Some, None, refl, sym, ap, ◌∙◌, arith, inl, inr}
 use Rattle.std.specs.Prelude.{codes, filter, if◌then◌else◌}
 use Rattle.std.specs.List.{AllByRecursion, list_all}
 use Rattle.std.proofs.lemmas.Bool.{eqb-true, eqb-false, not-true}
@@ -18,7 +18,7 @@ use Rattle.sparse_parser.specs.Bytes.{is_blank, is_line_end}
 use Rattle.sparse_parser.specs.Grammar.{AreLines, IsDocument, IsHeaded, IsOneLine}
 use Rattle.sparse_parser.specs.Grammar.{is_entry, is_index, is_size}
 use Rattle.sparse_parser.specs.Header.{says, format_of, field_of, symmetry_of, fields_of, header_of}
-use Rattle.sparse_parser.specs.InnerReading.{is_content, words_of, written_lines, written_of}
+use Rattle.sparse_parser.specs.InnerReading.{is_content, words_of, written_lines}
 use Rattle.sparse_parser.specs.Meaning.{is_of_field}
 use Rattle.sparse_parser.proofs.ContentLaws.{content_line, is_content-comment, lines_headed}
 use Rattle.sparse_parser.proofs.LineLaws.{lines_only}
@@ -29,8 +29,8 @@ use Rattle.sparse_parser.proofs.WrittenWords.{index_text, not_comment, plain_tex
 use Rattle.sparse_io.proofs.OneMeaning.{headed_written}
 use Rattle.mtxkit_texts.specs.Headers.{is_supported_field}
 use Rattle.mtxkit_texts.specs.HeaderLines.{format_name, symmetry_name}
-use Rattle.mtxkit_texts.specs.Ones.{AreOnesOf, IsOnesText, copied, ended, entry_lines, entry_words}
-use Rattle.mtxkit_texts.specs.Ones.{has_no_contents, head_words, lines_below, lines_under, no_entry, one}
+use Rattle.mtxkit_texts.specs.Ones.{AreOnesOf, IsOnesText, copied, ended, entry_lines}
+use Rattle.mtxkit_texts.specs.Ones.{has_no_contents, head_words, lines_below, no_entry, one}
 use Rattle.mtxkit_texts.specs.Ones.{one_words, ones_lines, spaced, unconjugated, with_ones}
 use Rattle.mtxkit_texts.proofs.OneWords.{copy-index, copy-one}
 

@@ -1,5 +1,5 @@
 -- The facts and the text of `mtxkit info`.
-use Rattle.std.specs.Prelude.{◌≡◌, ◌≢◌, ◌⊎◌, ℕ, pos, Bool, true, false, List, ◌++◌, codes, Option}
+use Rattle.std.specs.Prelude.{◌≡◌, ◌≢◌, ◌⊎◌, ℕ, pos, Bool, true, false, List, ◌++◌, codes}
 use Rattle.std.specs.Ordering.{int_eq}
 use Rattle.sparse_algebra.specs.WrappingValues.{w128_number}
 use Rattle.sparse_algebra.specs.declared.scalar.wide.W128.{W128}

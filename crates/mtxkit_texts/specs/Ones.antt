@@ -1,5 +1,5 @@
 -- Texts with the value 1 in place of each value: their places are those of the texts.
-use Rattle.std.specs.Prelude.{◌≡◌, ℕ, Bool, true, false, if◌then◌else◌, List, [], ◌∷◌, ◌++◌, map}
+use Rattle.std.specs.Prelude.{◌≡◌, ℕ, Bool, true, if◌then◌else◌, List, [], ◌∷◌, ◌++◌, map}
 use Rattle.std.specs.Prelude.{codes, slice_index, ◌==◌, Option, Some, None}
 use Rattle.std.specs.Str.{is_utf8}
 use Rattle.sparse_parser.specs.declared.header.Field.{Field}

@@ -82,6 +82,7 @@ pub use Rattle.sparse_dense_ops.specs.SparseVectors
 -- conversions
 pub use Rattle.sparse_convert.specs.FromDense
 pub use Rattle.sparse_convert.specs.OneMatrix
+pub use Rattle.sparse_convert.proofs.MatrixLists
 pub use Rattle.sparse_convert.specs.ToDense
 -- sums and differences
 pub use Rattle.sparse_sums.specs.PatternSums

@@ -2,13 +2,12 @@
 use Rattle.std.proofs.Common.{◌≡◌, List, [], ◌∷◌, ap, sym, subst, ◌∙◌}
 use Rattle.sparse_algebra.specs.Algebra.{CommRing}
 use Rattle.sparse_algebra.specs.Plain.{plain_transpose}
-use Rattle.sparse_compressed.specs.Compressed.{lane_triplets}
 use Rattle.sparse_coo_dense.specs.CooPlain.{plain_of_coo}
 use Rattle.sparse_compressed.proofs.MatrixTransposes.{plain_transposed}
 use Rattle.sparse_convert.specs.OneMatrix.{Representation, Triplets, Rows, Cols}
 use Rattle.sparse_convert.specs.OneMatrix.{IsSoundRepresentation, plain_of_representation}
 use Rattle.sparse_convert.specs.OneMatrix.{IsConverted, ConvertsThrough, ConvertsTo}
-use Rattle.sparse_convert.proofs.StoredTriplets.{plain_of_transposed_list}
+use Rattle.sparse_convert.proofs.MatrixLists.{columns-list}
 
 module _ (R : CommRing) {T : Type 0} (f : T → R.Carrier) (z : T) where
   -- one conversion
@@ -22,8 +21,7 @@ module _ (R : CommRing) {T : Type 0} (f : T → R.Carrier) (z : T) where
   converted_same (Rows m) (Rows n) sx sy h = absurd h
   converted_same (Rows m) (Cols n) sx sy h =
       ap (plain_transpose R) (plain_transposed R f z m n sx sy h)
-  converted_same (Cols n) (Triplets a) sx sy h = ap (plain_of_coo R f) h
-      ∙ plain_of_transposed_list R f n.pattern.major_dim n.pattern.minor_dim (lane_triplets n)
+  converted_same (Cols n) (Triplets a) sx sy h = ap (plain_of_coo R f) h ∙ columns-list R f n
   converted_same (Cols n) (Rows m) sx sy h = plain_transposed R f z n m sx sy h
   converted_same (Cols m) (Cols n) sx sy h = absurd h
 

@@ -13,6 +13,7 @@ mod MergedLanes
 mod InOrder
 mod SortedByMinor
 mod StoredTriplets
+pub mod MatrixLists
 mod ConversionsKeepPlain
 pub mod DenseLanes
 mod AppendedLanes

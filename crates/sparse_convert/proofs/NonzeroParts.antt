@@ -22,7 +22,7 @@ use Rattle.sparse_convert.specs.FromDense.{full_lanes, row_triplets, column_trip
 use Rattle.sparse_convert.specs.FromDense.{IsNonzeroPart}
 use Rattle.sparse_convert.proofs.Folds.{any-filter, any-flat_map, any-map, sum_by-filter}
 use Rattle.sparse_convert.proofs.Folds.{sum_by-flat_map, sum_by-map, sum_where, where_and}
-use Rattle.sparse_convert.proofs.StoredTriplets.{plain_of_transposed_list}
+use Rattle.sparse_convert.proofs.MatrixLists.{plain_of_transposed_list}
 use Rattle.sparse_convert.proofs.DenseLanes.{column_lanes, kept_columns}
 
 -- ---- tests of numbers

@@ -1,13 +1,8 @@
 -- The triplets of a compressed matrix, as three lists, and transposed.
-use Rattle.std.proofs.Common.{◌≡◌, ℕ, ◌<◌, List, [], ◌∷◌, length, map, nat_eq, ap}
+use Rattle.std.proofs.Common.{◌≡◌, ℕ, ◌<◌, List, [], ◌∷◌, length, map, ap}
 use Rattle.std.proofs.Common.{sym, ◌∙◌, refl, arith}
 use Rattle.std.proofs.lemmas.List.{length-map, same_lists, get_or_default, get_or-map}
 use Rattle.std.proofs.lemmas.Simd.{map-map}
-use Rattle.sparse_algebra.specs.Algebra.{CommRing}
-use Rattle.sparse_algebra.specs.Sums.{where_true}
-use Rattle.sparse_algebra.specs.Plain.{is_at, plain_of_triplets, plain_transpose}
-use Rattle.sparse_algebra.proofs.PlainLemmas.{and_comm, same_plain}
-use Rattle.sparse_algebra.proofs.SumLemmas.{sum_by-same}
 use Rattle.sparse_coo_dense.specs.Coo.{coo_of, zip_triplets, AreParts}
 use Rattle.sparse_coo_dense.proofs.CooParts.{parts-split}
 use Rattle.sparse_pattern.specs.Raw.{Raw, IsValid, entries_of}
@@ -17,7 +12,6 @@ use Rattle.sparse_compressed.specs.Compressed.{lane_triplets, transposed}
 use Rattle.sparse_pattern.proofs.OffsetsInLanes.{lane_of_offset}
 use Rattle.sparse_compressed.proofs.Arrays.{entry_at, pairs_of-triplets}
 use Rattle.sparse_compressed.proofs.TripletBounds.{lane_triplets-inside}
-use Rattle.sparse_convert.proofs.Folds.{any-map, any-same, sum_by-map}
 
 -- the minor indices of the entries are the indices of the pattern
 indices-entries : (d : Raw) → IsValid d → map (λ (p : ℕ × ℕ). p.1) (entries_of d) ≡ d.indices
@@ -90,15 +84,3 @@ module _ {T : Type 0} where
         (map (λ (t : ℕ × ℕ × T). t.0) (lane_triplets m))
         (map (λ (t : ℕ × ℕ × T). t.2) (lane_triplets m))
     parts_by_cols = exchanged_parts parts_by_rows
-
--- the plain matrix of the transposed triplets is the transpose
-pub plain_of_transposed_list : (R : CommRing) {T : Type 0} (f : T → R.Carrier) (rows cols : ℕ)
-    (ts : List (ℕ × ℕ × T))
-    → plain_of_triplets R f cols rows (map transposed ts) ≡ plain_transpose R
-    (plain_of_triplets R f rows cols ts)
-plain_of_transposed_list R {T} f rows cols ts = same_plain _ _ refl refl
-    (λ i j. any-map (is_at i j) transposed ts
-    ∙ any-same _ _ (λ t. and_comm (nat_eq t.1 i) (nat_eq t.0 j)) ts)
-    (λ i j. sum_by-map R (λ t. where_true R (is_at i j t) (f t.2)) transposed ts
-    ∙ sum_by-same R _ _ (λ t. ap (λ b. where_true R b (f t.2))
-    (and_comm (nat_eq t.1 i) (nat_eq t.0 j))) ts)

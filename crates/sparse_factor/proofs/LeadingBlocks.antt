@@ -7,11 +7,10 @@
 -- - `stops`: if the first n rows and columns have factors, and the first n + 1 have none, then no more have any
 -- - `stops_whole`, `started_between`, `upper_half`, `found_between`: the bisection, if all rows and columns have factors,
 --   at first, where its upper half remains, and at its end
--- - `columns-list`: the list of a CSC matrix has its plain matrix
 use Rattle.std.proofs.Common.{◌≡◌, ℕ, ◌+◌, ◌-◌, ◌<◌, ◌≤◌, inl, inr, Bool, true, false, ◌&&◌, min, max, List}
-use Rattle.std.proofs.Common.{[], ◌∷◌, ◌++◌, length, map, ap, sym, subst, ◌∙◌, refl, append_assoc, arith}
-use Rattle.std.specs.Prelude.{◌||◌, nat_eq, nat_lt}
-use Rattle.std.specs.List.{flat_map, list_any}
+use Rattle.std.proofs.Common.{[], ◌∷◌, ◌++◌, length, ap, sym, subst, ◌∙◌, refl, append_assoc, arith}
+use Rattle.std.specs.Prelude.{◌||◌}
+use Rattle.std.specs.List.{flat_map}
 use Rattle.std.proofs.lemmas.Bool.{cases_Bool, cases_lt}
 use Rattle.std.proofs.lemmas.Bool.Decides.{nat_tests}
 use Rattle.std.proofs.Math.Nat.{min-le_left, max-eq_left, max-eq_right}
@@ -21,10 +20,9 @@ use Rattle.sparse_algebra.specs.Sums.{sum_by, where_true}
 use Rattle.sparse_algebra.proofs.SumLemmas.{sum_by-append, where_no}
 use Rattle.sparse_coo_dense.specs.Coo.{Coo, appended, coo_of}
 use Rattle.sparse_coo_dense.specs.CooPlain.{plain_of_coo}
-use Rattle.sparse_compressed.specs.Compressed.{Compressed, lane_triplets, transposed}
+use Rattle.sparse_compressed.specs.Compressed.{Compressed}
 use Rattle.sparse_compressed.specs.PlainOfLanes.{plain_of_cols}
-use Rattle.sparse_convert.specs.OneMatrix.{coo_of_cols}
-use Rattle.sparse_factor.specs.Factorisations.{plain_symmetric, IsFactorisation, IsUnitLower}
+use Rattle.sparse_factor.specs.Factorisations.{plain_symmetric, IsUnitLower}
 use Rattle.sparse_factor.specs.Factors.{diagonal, plain_of_factors, symmetric_of}
 use Rattle.sparse_factor.specs.Factors.{Factors, HasNoFactors, HavePivots}
 use Rattle.sparse_factor.proofs.PlainProducts.{columns_of, factorisation_of, symmetric-transposed}
@@ -268,38 +266,3 @@ module _ (R : CommRing) {T : Type 0} (f : T → R.Carrier) where
         let found = factors_of_leading (symmetric_of R f m)
         (plain_symmetric R (plain_of_coo R f a)) n block_rows same_values given in
         none found.0 found.1 found.2
-
--- ---- the list of a CSC matrix
-
-and_comm : (b c : Bool) → (b && c) ≡ (c && b)
-and_comm true true = refl
-and_comm true false = refl
-and_comm false true = refl
-and_comm false false = refl
-
-module _ {T : Type 0} where
-  any-columns : (i j : ℕ) (ts : List (ℕ × ℕ × T))
-      → list_any (is_at i j) (map transposed ts) ≡ list_any (is_at j i) ts
-  any-columns i j [] = refl
-  any-columns i j (t ∷ ts) =
-      ap (λ b. b || list_any (is_at i j) (map transposed ts))
-      (and_comm (nat_eq t.1 i) (nat_eq t.0 j)) ∙ ap (λ b. is_at j i t || b) (any-columns i j ts)
-
-  module _ (R : CommRing) (f : T → R.Carrier) where
-    sum-columns : (i j : ℕ) (ts : List (ℕ × ℕ × T))
-        → sum_by R (λ t. where_true R (is_at i j t) (f t.2)) (map transposed ts)
-        ≡ sum_by R (λ t. where_true R (is_at j i t) (f t.2)) ts
-    sum-columns i j [] = refl
-    sum-columns i j (t ∷ ts) =
-        ap (λ b. R.add (where_true R b (f t.2))
-        (sum_by R (λ t. where_true R (is_at i j t) (f t.2)) (map transposed ts)))
-        (and_comm (nat_eq t.1 i) (nat_eq t.0 j))
-        ∙ ap (R.add (where_true R (is_at j i t) (f t.2))) (sum-columns i j ts)
-
-    pub columns-list : (m : Compressed T) → plain_of_coo R f (coo_of_cols m) ≡ plain_of_cols R f m
-    columns-list m = λ k. record {
-      rows = m.pattern.minor_dim;
-      cols = m.pattern.major_dim;
-      has = λ i j. any-columns i j (lane_triplets m) k;
-      value = λ i j. sum-columns i j (lane_triplets m) k;
-    }

@@ -1,12 +1,12 @@
 -- Dense matrices with permuted rows, as plain matrices, and undone.
-use Rattle.std.proofs.Common.{◌≡◌, ℕ, ◌+◌, ◌*◌, ◌<◌, inl, inr, Bool, true, false, ◌&&◌, List, length}
+use Rattle.std.proofs.Common.{◌≡◌, ℕ, ◌+◌, ◌*◌, ◌<◌, inl, inr, ◌&&◌, List, length}
 use Rattle.std.proofs.Common.{map, get_or, ap, sym, ◌∙◌, refl, arith}
 use Rattle.std.specs.Prelude.{nat_lt}
 use Rattle.std.proofs.lemmas.List.{get_or-map}
 use Rattle.std.proofs.lemmas.Nat.{mul-add-lt}
 use Rattle.sparse_algebra.specs.Algebra.{CommRing}
 use Rattle.sparse_algebra.specs.Sums.{where_true}
-use Rattle.sparse_algebra.proofs.Cases.{and_both, and_parts, true_or_false}
+use Rattle.sparse_algebra.proofs.Cases.{true_or_false}
 use Rattle.sparse_algebra.proofs.PlainLemmas.{same_plain}
 use Rattle.sparse_coo_dense.specs.Dense.{Dense, dense_of, value_at, HasValues}
 use Rattle.sparse_coo_dense.specs.DensePlain.{plain_of_dense, is_inside}

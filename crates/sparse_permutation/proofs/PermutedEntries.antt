@@ -1,5 +1,5 @@
 -- The entries of a permuted matrix.
-use Rattle.std.proofs.Common.{◌≡◌, ℕ, ◌<◌, List, length, get_or, ap, sym, ◌∙◌}
+use Rattle.std.proofs.Common.{◌≡◌, ℕ, ◌<◌, List, get_or, ap, sym, ◌∙◌}
 use Rattle.sparse_algebra.specs.Algebra.{CommRing}
 use Rattle.sparse_algebra.proofs.Cases.{and_both, and_parts}
 use Rattle.sparse_compressed.specs.Compressed.{Compressed, IsSound}

@@ -1,5 +1,5 @@
 -- Permuted plain matrices: transposes, compositions and inverses.
-use Rattle.std.proofs.Common.{◌≡◌, ℕ, ◌<◌, ◌↔◌, inl, inr, Bool, true, false, List, length, get_or}
+use Rattle.std.proofs.Common.{◌≡◌, ℕ, ◌<◌, ◌↔◌, inl, inr, true, false, List, length, get_or}
 use Rattle.std.proofs.Common.{ap, sym, ◌∙◌, refl, arith}
 use Rattle.std.specs.Prelude.{nat_lt, ◌&&◌}
 use Rattle.std.proofs.lemmas.Bool.Decides.{Decides-ltb}
@@ -9,7 +9,7 @@ use Rattle.sparse_algebra.specs.Plain.{Plain, IsProper, IsWithin, plain_transpos
 use Rattle.sparse_algebra.proofs.Cases.{and_both, and_parts, true_or_false}
 use Rattle.sparse_algebra.proofs.PlainLemmas.{same_plain, and_comm}
 use Rattle.sparse_permutation.specs.Permutations.{IsOrder, IsInverse, composed}
-use Rattle.sparse_permutation.specs.PermutedPlain.{plain_rows_permuted, plain_permuted, IsSymmetric}
+use Rattle.sparse_permutation.specs.PermutedPlain.{plain_rows_permuted, plain_permuted}
 use Rattle.sparse_permutation.proofs.Orders.{order_below, inverse_exists, composed_at}
 
 -- a test that i is below n, met

@@ -1,5 +1,5 @@
 -- A sum over the numbers below n, and whether one of them passes a test, do not change if the numbers are permuted.
-use Rattle.std.proofs.Common.{◌≡◌, ◌≢◌, ℕ, zero, suc, ◌<◌, inl, inr, Bool, true, List, length, get_or}
+use Rattle.std.proofs.Common.{◌≡◌, ◌≢◌, ℕ, zero, suc, ◌<◌, inl, inr, Bool, List, length, get_or}
 use Rattle.std.proofs.Common.{ap, sym, ◌∙◌, refl, arith}
 use Rattle.std.specs.Prelude.{nat_eq}
 use Rattle.std.proofs.lemmas.Bool.{cases_eq}

@@ -1,5 +1,5 @@
 -- Triplets whose rows and columns are renumbered.
-use Rattle.std.specs.Prelude.{ℕ, List, length, map, slice_index}
+use Rattle.std.specs.Prelude.{ℕ, List, map, slice_index}
 use Rattle.sparse_coo_dense.specs.Coo.{Coo, coo_of}
 
 module _ {T : Type 0} where

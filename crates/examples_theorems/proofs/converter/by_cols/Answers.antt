@@ -6,7 +6,8 @@ use Rattle.nalgebra_sparse.specs.OneMatrix.{coo_of_cols}
 use Rattle.nalgebra_sparse.specs.PlainOfLanes.{plain_of_cols}
 use Rattle.nalgebra_sparse.specs.Wrapping.{wrapping_ring, class_of}
 use Rattle.nalgebra_sparse.specs.WrappingValues.{w64_value}
-use Rattle.examples_theorems.proofs.ReadValues.{plain-read, plain-cols}
+use Rattle.nalgebra_sparse.specs.MatrixLists.{columns-list}
+use Rattle.examples_theorems.proofs.ReadValues.{plain-read}
 use Rattle.examples_theorems.proofs.converter.by_cols.Goals as goal
 
 pub returns : goal.returns
@@ -24,6 +25,6 @@ returns c =
         values_of w64_number (coo_of_cols matrix),
         c.in_ok-other.ensures,
         plain-read w64_number R (class_of w64) (coo_of_cols matrix)
-            ∙ plain-cols R w64_value matrix,
+            ∙ columns-list R w64_value matrix,
       ),
     )

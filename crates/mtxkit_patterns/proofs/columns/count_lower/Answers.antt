@@ -2,7 +2,6 @@ use Rattle.std.specs.Prelude.{nat_le}
 use Rattle.std.proofs.Common.{◌≡◌, ℕ, ◌+◌, ◌≤◌, ◌∷◌, length, ap, sym, ◌∙◌, arith}
 use Rattle.std.proofs.lemmas.List.Sums.{count_by-le-length}
 use Rattle.sparse_pattern.specs.Raw.{entries_of}
-use Rattle.mtxkit_patterns.specs.Columns.{count_lower}
 use Rattle.mtxkit_patterns.proofs.CountedEntries.{counted}
 use Rattle.mtxkit_patterns.proofs.columns.count_lower.Goals as goal
 

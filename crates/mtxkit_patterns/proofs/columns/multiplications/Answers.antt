@@ -1,6 +1,6 @@
 use Rattle.std.proofs.Common.{◌≡◌, ◌*◌, ◌+◌, ◌<◌, ◌≤◌, ◌^◌, length, ap, sym, ◌∙◌, arith}
-use Rattle.sparse_pattern.specs.Raw.{start_of, end_of}
-use Rattle.mtxkit_patterns.specs.Columns.{products_below, pairs_of, rows_below, below_diagonal}
+use Rattle.sparse_pattern.specs.Raw.{end_of}
+use Rattle.mtxkit_patterns.specs.Columns.{pairs_of, rows_below, below_diagonal}
 use Rattle.mtxkit_patterns.proofs.ColumnProducts.{few_more, products_more}
 use Rattle.mtxkit_patterns.proofs.columns.multiplications.Goals as goal
 

@@ -1,4 +1,4 @@
-use Rattle.std.proofs.Common.{List, ℕ, subst, sym, inr}
+use Rattle.std.proofs.Common.{subst, sym, inr}
 use Rattle.std.proofs.lemmas.Result.{IfOk-weaker, IfErr-weaker}
 use Rattle.mtxkit_texts.specs.Ones.{AreOnesOf}
 use Rattle.mtxkit_texts.proofs.UnsupportedTexts.{ones_meant, ones_refused}

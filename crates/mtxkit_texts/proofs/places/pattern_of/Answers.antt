@@ -1,6 +1,6 @@
 use Rattle.std.proofs.Common.{ap, sym, ◌∙◌}
 use Rattle.sparse_algebra.specs.Plain.{Plain}
-use Rattle.mtxkit_texts.specs.Loaded.{ring64, value64}
+use Rattle.mtxkit_texts.specs.Loaded.{ring64}
 use Rattle.mtxkit_texts.proofs.places.pattern_of.Goals as goal
 
 pub returns : goal.returns

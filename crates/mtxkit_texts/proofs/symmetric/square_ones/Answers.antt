@@ -1,4 +1,4 @@
-use Rattle.std.proofs.Common.{ℕ, length, refl, sym, subst}
+use Rattle.std.proofs.Common.{length, refl, sym, subst}
 use Rattle.mtxkit_texts.specs.Loaded.{MeansMatrixBy}
 use Rattle.mtxkit_texts.proofs.symmetric.square_ones.Goals as goal
 

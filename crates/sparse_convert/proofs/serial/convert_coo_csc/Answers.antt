@@ -2,7 +2,8 @@ use Rattle.std.proofs.Common.{ap, ◌∙◌}
 use Rattle.sparse_algebra.specs.Plain.{plain_of_triplets, plain_transpose}
 use Rattle.sparse_coo_dense.proofs.CooParts.{parts-split}
 use Rattle.sparse_compressed.specs.PlainOfLanes.{plain_of_cols}
-use Rattle.sparse_convert.proofs.StoredTriplets.{exchanged_parts, plain_of_transposed_list}
+use Rattle.sparse_convert.proofs.StoredTriplets.{exchanged_parts}
+use Rattle.sparse_convert.proofs.MatrixLists.{plain_of_transposed_list}
 use Rattle.sparse_convert.proofs.StoredTriplets.{zip_of_transposed}
 use Rattle.sparse_convert.proofs.serial.convert_coo_csc.Goals as goal
 

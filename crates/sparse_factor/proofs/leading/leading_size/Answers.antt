@@ -1,6 +1,5 @@
 use Rattle.std.proofs.Common.{arith}
 use Rattle.sparse_coo_dense.specs.CooPlain.{plain_of_coo}
-use Rattle.sparse_factor.specs.Factorisations.{plain_symmetric}
 use Rattle.sparse_factor.proofs.LeadingBlocks.{found_between, started_between, stops_whole}
 use Rattle.sparse_factor.proofs.leading.leading_size.Goals as goal
 

@@ -1,8 +1,7 @@
 use Rattle.std.proofs.Common.{sym, ◌∙◌}
-use Rattle.sparse_compressed.specs.Compressed.{lane_triplets}
 use Rattle.sparse_convert.specs.OneMatrix.{Triplets, Rows, Cols}
 use Rattle.sparse_convert.proofs.ConversionsKeepPlain.{ConvertsTo-same, ConvertsTo-sound}
-use Rattle.sparse_convert.proofs.StoredTriplets.{plain_of_transposed_list}
+use Rattle.sparse_convert.proofs.MatrixLists.{columns-list}
 use Rattle.sparse_convert.proofs.serial.laws.one_matrix_law.Goals as goal
 
 pub returns : goal.returns
@@ -24,9 +23,7 @@ returns g c =
           (equal.cols m n (sound x (Cols m) s left) (sound x (Cols n) s right)).1
           (same x (Cols m) s left ∙ sym (same x (Cols n) s right));
       rows_and_back = λ m n sm sn back. (equal.rows m n sm sn).1 (sym back);
-      cols_and_back = λ m n sm sn back. (equal.cols m n sm sn).1 (sym (back
-          ∙ plain_of_transposed_list R f m.pattern.major_dim m.pattern.minor_dim
-          (lane_triplets m)));
+      cols_and_back = λ m n sm sn back. (equal.cols m n sm sn).1 (sym (back ∙ columns-list R f m));
       same_lists = λ a b m n k l sm sn sk sl lists left right. (
         (equal.rows m k sm sk).1 (left.rows ∙ lists ∙ sym right.rows),
         (equal.cols n l sn sl).1 (left.cols ∙ lists ∙ sym right.cols),

@@ -1,11 +1,10 @@
 mod ColumnReads
-use Rattle.std.proofs.Common.{◌≡◌, ℕ, ◌+◌, ◌<◌, ◌≤◌, length, map, slice_index}
+use Rattle.std.proofs.Common.{◌≡◌, ℕ, ◌+◌, ◌<◌, ◌≤◌, length, map}
 use Rattle.std.proofs.Common.{◌≢◌, refl, ap, ◌∙◌, arith}
 use Rattle.std.proofs.lemmas.List.{length-map, length-replicate}
-use Rattle.sparse_pattern.specs.Raw.{Raw, raw_of, start_of, IsValid}
+use Rattle.sparse_pattern.specs.Raw.{start_of}
 use Rattle.sparse_pattern.proofs.BuiltLanes.{all_built, minor_index_below}
 use Rattle.sparse_factor.specs.Fill.{LowerBase, Filled}
-use Rattle.sparse_factor.specs.InnerColumns.{AreRowsBelow}
 use Rattle.sparse_factor.proofs.FillLaws.{low_filled}
 use Rattle.sparse_factor.proofs.LinkedToParent.{merged_next}
 use Rattle.sparse_factor.proofs.Merged.{none_merged, are_columns, rows_below, filled_within}

@@ -4,7 +4,7 @@ use Rattle.sparse_algebra.specs.Plain.{Plain}
 use Rattle.sparse_coo_dense.specs.CooPlain.{plain_of_coo}
 use Rattle.sparse_factor.specs.Factorisations.{plain_symmetric}
 use Rattle.sparse_factor.specs.LeadingBlocks.{StopsAt}
-use Rattle.sparse_factor.proofs.LeadingBlocks.{columns-list}
+use Rattle.sparse_convert.proofs.MatrixLists.{columns-list}
 use Rattle.sparse_factor.proofs.ldl.Ldl.factored_size.Goals as goal
 
 pub returns : goal.returns

@@ -1,4 +1,4 @@
-use Rattle.std.proofs.Common.{◌≡◌, take, drop, max}
+use Rattle.std.proofs.Common.{◌≡◌, drop, max}
 use Rattle.mtxkit_matrices.specs.LargestCounts.{largest}
 use Rattle.mtxkit_matrices.proofs.pictures.picture.Picture.largest_count.Given as goal
 
