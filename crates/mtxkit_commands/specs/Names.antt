@@ -6,8 +6,7 @@ use Rattle.std.specs.Fmt.{decimal}
 use Rattle.std.specs.Io.KnownBytes.{Appends}
 use Rattle.std.specs.declared.io.ErrorKind.{ErrorKind}
 use Rattle.std.specs.declared.io.ErrorKind.TheVariants as io
-use Rattle.mtxkit_matrices.specs.declared.decimals.error.ScaleError.{ScaleError}
-use Rattle.mtxkit_matrices.specs.declared.decimals.error.ScaleError.TheVariants as scale
+use Rattle.mtxkit_matrices.specs.ScaleFailures.{faulty_line}
 use Rattle.mtxkit_patterns.specs.declared.order_error.OrderError.{OrderError}
 use Rattle.mtxkit_patterns.specs.declared.order_error.OrderError.TheVariants as order
 use Rattle.mtxkit_texts.specs.declared.failure.Failure.{Failure}
@@ -145,17 +144,6 @@ abbrev pub fault_line : Failure → Option ℕ
 fault_line (Input number kind location) = Some location.line
 fault_line failure = None
 
--- the number of the line with the fault, if numbers are not scaled
-abbrev pub unscaled_line : ScaleError → Option ℕ
-unscaled_line (scale.Header number fault) = Some number
-unscaled_line (scale.Field number) = Some number
-unscaled_line (scale.Sizes number fault) = Some number
-unscaled_line (scale.Entry number) = Some number
-unscaled_line (scale.Fraction number least) = Some number
-unscaled_line (scale.Range number) = Some number
-unscaled_line scale.Ended = None
-unscaled_line scale.OutOfMemory = None
-
 -- the number of the file that an error of an order is about
 abbrev pub order_number : OrderError → ℕ
 order_number (order.Failed failure) = 1
@@ -175,7 +163,7 @@ with_line (Some path) (Some number) = Some (path ++ (codes ":" ++ decimal number
 abbrev pub error_file : Command → CommandError → Option (List ℕ)
 error_file command (Failed failure) = with_line (fault_names command failure) (fault_line failure)
 error_file command (Unscaled error least) =
-    with_line (Some (first_file command)) (unscaled_line error)
+    with_line (Some (first_file command)) (faulty_line error)
 error_file command (Misordered error) = with_line (file_of command (order_number error)) None
 error_file command (Unevaluated error) = None
 error_file command (Unwritten kind) = None

@@ -2,7 +2,8 @@
 
 ghost use Rattle.std.specs.Prelude.{◌≡◌, IfOk, IfErr, Some, string_bytes};
 ghost use Rattle.mtxkit_commands.specs.Commands.{IsScaleAnswer, IsScaleError, IsUnscaledText};
-ghost use Rattle.mtxkit_commands.specs.Names.{unscaled_line, with_line};
+ghost use Rattle.mtxkit_commands.specs.Names.{with_line};
+ghost use Rattle.mtxkit_matrices.specs.ScaleFailures.{faulty_line};
 ghost use Rattle.mtxkit_commands.specs.Names.{IsErrorLine, IsReported};
 
 use crate::command_error::CommandError;
@@ -58,7 +59,7 @@ pub(crate) fn report_unscaled<E: Sink>(
     err: &mut E,
 ) -> u8
     ensures status { result ≡ 1 }
-    ensures reported { IsReported (with_line (Some file.now) (unscaled_line error))
+    ensures reported { IsReported (with_line (Some file.now) (faulty_line error))
         (E.accepted err.old) (E.accepted err.new) (E.failures err.old) (E.failures err.new) }
 {
     write_line(unscaled_line(alloc, file, error, least), err);
@@ -74,10 +75,10 @@ fn unscaled_line(
     least: Option<u32>,
 ) -> Result<String, AllocError>
     ensures { IfOk result (λ line. IsErrorLine
-        (with_line (Some file.now) (unscaled_line error)) (string_bytes line)) }
+        (with_line (Some file.now) (faulty_line error)) (string_bytes line)) }
 {
     let mut line = String::new(alloc);
-    push_name(alloc, &mut line, Some(file), line_of(error))?;
+    push_name(alloc, &mut line, Some(file), error.line())?;
     let why = format!(in alloc; ": {error}{}\n", Hint(error, least))?;
     line.push_str(why.as_str())?;
     Ok(line)
@@ -100,20 +101,5 @@ impl Display for Hint {
             (ScaleError::Fraction(_, None), None) => f.write_str(" for any K"),
             _ => Ok(()),
         }
-    }
-}
-
-// Returns the number of the line with the fault, if there is one.
-fn line_of(error: ScaleError) -> Option<usize>
-    ensures { result ≡ unscaled_line error }
-{
-    match error {
-        ScaleError::Header(number, _)
-        | ScaleError::Field(number)
-        | ScaleError::Sizes(number, _)
-        | ScaleError::Entry(number)
-        | ScaleError::Fraction(number, _)
-        | ScaleError::Range(number) => Some(number),
-        ScaleError::Ended | ScaleError::OutOfMemory => None,
     }
 }

@@ -1,5 +1,5 @@
 -- Why the numbers of a text are not scaled.
-use Rattle.std.specs.Prelude.{◌≡◌, ◌≢◌, ◌⊎◌, ℕ, Bool, true, false, ◌&&◌, List, [], ◌∷◌, ◌++◌}
+use Rattle.std.specs.Prelude.{◌≡◌, ◌≢◌, ◌⊎◌, ℕ, Option, Bool, true, false, ◌&&◌, List, [], ◌∷◌, ◌++◌}
 use Rattle.std.specs.Prelude.{Some, None}
 use Rattle.sparse_parser.specs.declared.header.Format.{Format}
 use Rattle.sparse_parser.specs.declared.header.Format.TheVariants.{Coordinate, Array}
@@ -108,3 +108,14 @@ IsScaleFailure scale text (errors.Fraction n least) =
 IsScaleFailure scale text (errors.Range n) = HasNoValue misfits.Range scale text n
 IsScaleFailure scale text errors.Ended = EndsEarly text
 IsScaleFailure scale text errors.OutOfMemory = Unit {0}
+
+-- the number of the line at fault, if one is
+abbrev pub faulty_line : ScaleError → Option ℕ
+faulty_line (errors.Header n fault) = Some n
+faulty_line (errors.Field n) = Some n
+faulty_line (errors.Sizes n fault) = Some n
+faulty_line (errors.Entry n) = Some n
+faulty_line (errors.Fraction n least) = Some n
+faulty_line (errors.Range n) = Some n
+faulty_line errors.Ended = None
+faulty_line errors.OutOfMemory = None

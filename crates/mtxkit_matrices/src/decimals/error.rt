@@ -1,5 +1,8 @@
 //! Why a text is not scaled.
 
+ghost use Rattle.std.specs.Prelude.{◌≡◌};
+ghost use Rattle.mtxkit_matrices.specs.ScaleFailures.{faulty_line};
+
 use sparse_faults::LineFault;
 use std::alloc::{AllocError, AllocFailed};
 use std::error::Error;
@@ -29,7 +32,9 @@ pub enum ScaleError {
 
 impl ScaleError {
     /// Returns the number of the line at fault, if one is.
-    pub fn line(self) -> Option<usize> {
+    pub fn line(self) -> Option<usize>
+        ensures { result ≡ faulty_line self }
+    {
         match self {
             ScaleError::Header(number, _)
             | ScaleError::Field(number)
