@@ -1,6 +1,6 @@
 -- What a command has written when it fails: nothing, or a part of its answer.
 -- - `not_begun`: before the first write
--- - `begun_run`, `begun_fill`: after a failed run of an expression, and a failed write of a pattern
+-- - `begun_run`, `begun_pattern`: after a failed run of an expression, and a failed write of a pattern
 -- - `HasBegun-map`: a part of an answer, as one of another kind
 -- - `HasBegun-kept`, `HasBegun-answered`, `IsAnswered-kept`: after a flush, which keeps what was written
 use Rattle.std.proofs.Common.{◌≡◌, ◌⊎◌, ℕ, List, [], Option, Some, None, Result, Ok, Err, OnErr}
@@ -8,14 +8,20 @@ use Rattle.std.proofs.Common.{inl, inr, refl, sym, subst, ◌∙◌}
 use Rattle.std.proofs.lemmas.List.{append-nil}
 use Rattle.std.specs.declared.io.ErrorKind.{ErrorKind}
 use Rattle.std.specs.Io.KnownBytes.{Keeps, Appends, append_known}
+use Rattle.std.specs.Prelude.{codes}
+use Rattle.nalgebra_sparse.specs.Compressed.{Compressed}
+use Rattle.nalgebra_sparse.specs.OneMatrix.{coo_of_cols}
+use Rattle.nalgebra_sparse.specs.Raw.{Raw}
 use Rattle.nalgebra_sparse.specs.Run.{RefusesRun, Writes, WritesSome, text_in, effect}
 use Rattle.nalgebra_sparse.specs.Sink.{AppendsSome}
+use Rattle.nalgebra_sparse.specs.Written.{text_of}
 use Rattle.sparse_expr.specs.declared.calculator.OutputOrder.{OutputOrder}
 use Rattle.sparse_expr.specs.declared.error.ExprError.{ExprError}
 use Rattle.sparse_expr.specs.declared.error.ExprError.TheVariants.{Input, Write, OutOfMemory}
 use Rattle.sparse_expr.specs.declared.error.ExprError.TheVariants.{NoSuchInput, Shape}
 use Rattle.sparse_expr.specs.declared.expr.Expr.{Expr}
 use Rattle.mtx_commands.specs.Commands.{IsAnswered}
+use Rattle.mtx_commands.specs.Fills.{WritesPattern}
 use Rattle.mtx_commands.specs.Writes.{HasBegun, WritesPart}
 
 -- ---- outputs whose bytes may be known
@@ -49,6 +55,11 @@ AppendsSome-whole : (old new : Option (List ℕ)) (text : List ℕ) → Appends 
     → AppendsSome old new text
 AppendsSome-whole old new text is =
     record { done = text; rest = []; parts = sym (append-nil text); appended = is }
+
+-- a fact about an error, whichever it is
+pub OnErr-always : {T E X : Type 0} (result : Result T E) → X → OnErr result X
+OnErr-always (Ok x) h = tt
+OnErr-always (Err e) h = h
 
 -- ---- parts of answers
 
@@ -129,6 +140,15 @@ module _ (form : OutputOrder) (texts : List (List ℕ)) (expr : Expr) where
   begun_run old new before after last OutOfMemory (count, inl same) = inl (Keeps-is old new same)
   begun_run old new before after last OutOfMemory (count, inr some) = some_begun old new some
   begun_run old new before after last error why = absurd why
+
+-- ---- a failed write of a pattern
+
+pub begun_pattern : (pattern : Raw) (matrix : Compressed (Unit {0})) (old new : Option (List ℕ))
+    → matrix.pattern ≡ pattern
+    → AppendsSome old new (text_of (codes "pattern") (λ x. []) (coo_of_cols matrix))
+    → HasBegun (WritesPattern pattern) old new
+begun_pattern pattern matrix old new has part = HasBegun-text old new _
+    (record { matrix = matrix; has = has; appended = Appends-known old _ }) part
 
 -- ---- after a flush
 
