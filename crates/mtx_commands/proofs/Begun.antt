@@ -22,7 +22,7 @@ use Rattle.sparse_expr.specs.declared.error.ExprError.TheVariants.{NoSuchInput, 
 use Rattle.sparse_expr.specs.declared.expr.Expr.{Expr}
 use Rattle.mtx_commands.specs.Commands.{IsAnswered}
 use Rattle.mtx_commands.specs.Fills.{WritesPattern}
-use Rattle.mtx_commands.specs.Writes.{HasBegun, WritesPart}
+use Rattle.mtx_commands.specs.Writes.{HasBegun}
 
 -- ---- outputs whose bytes may be known
 
