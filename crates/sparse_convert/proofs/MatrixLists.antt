@@ -1,7 +1,7 @@
 -- The plain matrices of lists by columns: public laws, for proofs of crates above too.
 -- - `plain_of_transposed_list`: the transposed triplets have the transposed plain matrix
 -- - `columns-list`: the list of a CSC matrix has its plain matrix
-use Rattle.std.proofs.Common.{◌≡◌, ℕ, List, map, nat_eq, ap, refl}
+use Rattle.std.proofs.Common.{◌≡◌, ℕ, List, map, nat_eq, ap, refl, ◌∙◌}
 use Rattle.sparse_algebra.specs.Algebra.{CommRing}
 use Rattle.sparse_algebra.specs.Sums.{where_true}
 use Rattle.sparse_algebra.specs.Plain.{is_at, plain_of_triplets, plain_transpose}
