@@ -15,7 +15,8 @@ ghost use Rattle.mtxkit_texts.specs.declared.failure.Failure.TheVariants.{OutOfM
 
 use crate::failure::Failure;
 use crate::field::{integer_text, pattern_text};
-use crate::loaded::{header_of, read_integers, read_pattern_list};
+use crate::headers::header_of;
+use crate::loaded::{read_integers, read_pattern_list};
 use crate::pattern_texts::write_pattern;
 use crate::places::ones_of;
 use crate::values::narrow_sums;
