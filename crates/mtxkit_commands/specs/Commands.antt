@@ -6,7 +6,7 @@ use Rattle.std.specs.declared.io.ErrorKind.{ErrorKind}
 use Rattle.std.specs.declared.io.ErrorKind.TheVariants as io
 use Rattle.std.specs.Io.KnownBytes.{Appends}
 use Rattle.mtxkit_texts.specs.AnyField.{IsPlacesFailure}
-use Rattle.mtxkit_texts.specs.Facts.{WritesInfo, IsInfoFailure}
+use Rattle.mtxkit_facts.specs.Facts.{WritesInfo, IsInfoFailure}
 use Rattle.mtxkit_texts.specs.Headers.{header_in}
 use Rattle.mtxkit_texts.specs.Loaded.{IsValuesFailure}
 use Rattle.mtxkit_texts.specs.Lower.{IsSymmetricFailure, Symmetrised}

@@ -6,7 +6,7 @@ use Rattle.mtxkit_patterns.specs.Permuted.{WritesPermuted, IsUnpermuted}
 use Rattle.mtxkit_patterns.specs.declared.order_error.OrderError.{OrderError}
 use Rattle.mtxkit_patterns.specs.declared.order_error.OrderError.TheVariants as order
 use Rattle.mtxkit_patterns.specs.declared.square.Method.{Method}
-use Rattle.mtxkit_texts.specs.declared.facts.Form.{Form}
+use Rattle.mtxkit_facts.specs.declared.facts.Form.{Form}
 use Rattle.mtxkit_texts.specs.declared.failure.Failure.{Failure}
 use Rattle.mtxkit_commands.specs.Inputs.{Reading, IsUnread}
 use Rattle.mtxkit_commands.specs.Reads.{ReadsOne, ReadsTwo, FailsOne, IsSecondUnread}

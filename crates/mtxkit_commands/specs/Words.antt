@@ -5,8 +5,8 @@ use Rattle.std.specs.Option.{option_map}
 use Rattle.clap.specs.Matches.{first_value, matched_of, one_text, raw_values}
 use Rattle.clap.specs.declared.parser.matches.Found.{Found}
 use Rattle.sparse_expr.specs.declared.calculator.OutputOrder.TheVariants.{Rows}
-use Rattle.mtxkit_texts.specs.declared.facts.Form.{Form}
-use Rattle.mtxkit_texts.specs.declared.facts.Form.TheVariants.{Lines}
+use Rattle.mtxkit_facts.specs.declared.facts.Form.{Form}
+use Rattle.mtxkit_facts.specs.declared.facts.Form.TheVariants.{Lines}
 use Rattle.mtxkit_commands.specs.Names.{target_file, paths}
 use Rattle.mtxkit_matrices.specs.declared.orders.EliminationOrder.{EliminationOrder}
 use Rattle.mtxkit_matrices.specs.declared.orders.EliminationOrder.TheVariants as elimination

@@ -13,10 +13,10 @@ use crate::inputs::{Texts, read_text};
 use crate::orders::{filled_of, ordered_of, permuted_of};
 use crate::scaled::scaled_of;
 use crate::systems::{check_text, solve_text};
+use mtxkit_facts::info_text;
 use mtxkit_matrices::EliminationOrder;
 use mtxkit_texts::{
-    Failure, copy_text, info_text, integer_text, places_text, spy_bitmap, spy_blocks, spy_svg,
-    symmetric_text,
+    Failure, copy_text, integer_text, places_text, spy_bitmap, spy_blocks, spy_svg, symmetric_text,
 };
 use std::alloc::Global;
 

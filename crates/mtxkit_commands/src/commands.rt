@@ -8,9 +8,10 @@ ghost use Rattle.mtxkit_commands.specs.Names.{first_path, named_file, path_at, p
 ghost use Rattle.mtxkit_commands.specs.Names.{target_file, saved_file, fault_file};
 ghost use Rattle.mtxkit_commands.specs.Names.{first_of_fill, order_number, second_of_fill};
 
+use mtxkit_facts::Form;
 use mtxkit_matrices::EliminationOrder;
 use mtxkit_patterns::{Method, OrderError};
-use mtxkit_texts::{Failure, Form};
+use mtxkit_texts::Failure;
 use sparse_expr::OutputOrder;
 
 /// A command. Its files are given by their paths, and `-` is standard input.

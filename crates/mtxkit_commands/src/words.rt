@@ -16,9 +16,9 @@ ghost use Rattle.mtxkit_commands.specs.Words.{GivesMethod, GivesOrder, IsNamedFi
 use crate::command_line::command_line;
 use crate::commands::{Command, FillOrder, Target, Values};
 use clap::{ArgMatches, Error};
+use mtxkit_facts::Form;
 use mtxkit_matrices::EliminationOrder;
 use mtxkit_patterns::Method;
-use mtxkit_texts::Form;
 use sparse_expr::OutputOrder;
 use std::alloc::Global;
 
