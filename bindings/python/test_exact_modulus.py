@@ -165,6 +165,22 @@ def check_systems():
                 assert copy.deepcopy(factors).D.tolist() == d
 
 
+def check_stored_zeros():
+    """In each order the factors have a place for each entry and its fill, also for an entry with the value 0: modulo a
+    prime the same places as modulo 2^64."""
+    for _ in range(CASES):
+        size = chance.randrange(1, 6)
+        pairs = [(i, j) for j in range(size) for i in range(j) if chance.random() < 0.5]
+        i, j = np.array([*pairs, *((k, k) for k in range(size))]).T
+        zeros = Exact.from_triplets((size, size), i, j, (i == j).astype(np.int64))
+        modular = Exact.from_triplets((size, size), i, j, (i == j).astype(np.int64), modulus=101)
+        for order in ["natural", "amd", "rcm", list(range(size)), chance.sample(range(size), size)]:
+            a, b = (it.factor(assume_symmetric=True, order=order) for it in (zeros, modular))
+            assert a.order.tolist() == b.order.tolist() and a.L.nnz >= len(pairs) + size
+            assert a.L.indptr.tolist() == b.L.indptr.tolist() and a.L.indices.tolist() == b.L.indices.tolist()
+            assert a.L.toarray().tolist() == b.L.toarray().tolist() == np.eye(size).tolist() and (a.D == b.D).all()
+
+
 def refused(error, call, *words, **more):
     try:
         call(*words, **more)
@@ -234,6 +250,7 @@ def check_singular():
 check_chains()
 check_dense()
 check_systems()
+check_stored_zeros()
 check_errors()
 check_singular()
 print(f"python: {CASES} chains over Exact modulo each of {len(MODULI)} primes equal plain matrices, and each error is raised")

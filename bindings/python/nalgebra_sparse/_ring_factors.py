@@ -9,6 +9,7 @@ import scipy.sparse as sp
 from ._calls import call
 from ._errors import error_of
 from ._factorisation import Factorisation
+from ._matrices import assemble_csc
 from ._operands import Integers, dense_of
 from ._systems import factored, solve_lower
 
@@ -18,15 +19,19 @@ _WRONG_LENGTH, _OUT_OF_BOUNDS, _REPEATED = 2, 3, 4
 
 
 def permuted(matrix: sp.csr_array, order: Optional[Integers]) -> sp.csc_array:
-    """Returns P A P^T by columns, where P takes rows and columns in an order, and A is the symmetric matrix with the
-    entries of a matrix on and above the diagonal; without an order, the matrix itself by columns."""
+    """Returns the entries on and above the diagonal of P A P^T by columns, where P takes rows and columns in an order, and A
+    is the symmetric matrix with the entries of a matrix on and above the diagonal. Without an order, returns the matrix
+    itself by columns.
+
+    Entries with the value 0 are kept: they are places of the factors. SciPy's sums would drop them.
+    """
     if order is None:
         return matrix.tocsc()
-    upper = sp.triu(matrix, format="csr")
-    symmetric = sp.csr_array(upper + sp.triu(upper, 1, format="csr").T)
-    taken = sp.csc_array(symmetric[order][:, order])
-    taken.sort_indices()
-    return taken
+    entries, at = matrix.tocoo(), np.empty(order.size, np.int64)
+    at[order] = np.arange(order.size)
+    of_upper = entries.row <= entries.col
+    i, j = at[entries.row[of_upper]], at[entries.col[of_upper]]
+    return sp.csc_array(assemble_csc(matrix.shape, np.minimum(i, j), np.maximum(i, j), entries.data[of_upper]))
 
 
 def _check_order(order: Integers, size: int) -> None:
