@@ -48,6 +48,25 @@ def check_solution():
     assert run("solve", "--prime", "101", "a.mtx", "b.mtx") == run_apart("solve", "a.mtx", "b.mtx") == (0, said, "")
 
 
+def check_long_fractions():
+    """Fractions are written whole, also those with more digits than Python writes unless it is told to."""
+    size = 50
+    entries = [*(f"{i} {i} {10**17}" for i in range(1, size + 1)), *(f"{i + 1} {i} 1" for i in range(1, size))]
+    for name, lines in (
+        ("long.mtx", [f"{HEAD} coordinate integer general", f"{size} {size} {len(entries)}", *entries]),
+        ("ones.mtx", [f"{HEAD} array integer general", f"{size} 1", *["1"] * size]),
+    ):
+        with open(name, "w", encoding="ascii") as file:
+            file.write("\n".join(lines) + "\n")
+    if hasattr(sys, "set_int_max_str_digits"):
+        sys.set_int_max_str_digits(640)
+    status, said, errors = run("solve", "long.mtx", "ones.mtx")
+    assert (status, errors) == (0, ""), errors
+    x = [Fraction(line) for line in said.splitlines()]
+    assert len(x) == size and len(said.splitlines()[-1]) > 1500
+    assert all(10**17 * now + before == 1 for before, now in zip([0, *x], x))
+
+
 def check_errors():
     """Each error is one line that names the file, and no traceback."""
     for words, part in [
@@ -84,6 +103,7 @@ def main():
                 file.write(text)
         os.chdir(folder)
         check_solution()
+        check_long_fractions()
         check_errors()
         os.chdir(HERE)
     print("python: the command solves a system over the fractions, and each error is one line")

@@ -63,6 +63,9 @@ def _parser() -> argparse.ArgumentParser:
 def main(arguments: Optional[Sequence[str]] = None) -> int:
     """Runs the command. Returns its exit status: 1 at an error, which is one line on standard error."""
     words = _parser().parse_args(arguments)
+    if hasattr(sys, "set_int_max_str_digits"):
+        # Numerators and denominators may have more digits than Python writes unless it is told to.
+        sys.set_int_max_str_digits(0)
     try:
         for row in _solution(words.a, words.b, words.prime).tolist():
             print(*row)
