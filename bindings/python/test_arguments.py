@@ -175,10 +175,28 @@ def check_dtypes():
     assert np.array_equal(ns.assemble_csr((3, 3), strided, np.array([1, 2]), np.array([3, 4])).toarray(), want)
     refused(ns.IndexOutOfBounds, ns.assemble_csr, (2, 2), np.array([-1], np.int8), ONE, ONE)
     refused(ns.IndexOutOfBounds, ns.assemble_csr, (2, 2), np.array([2**64 - 1], np.uint64), ONE, ONE)
+    for dtype in ("i4", "i8", "u4", "u8"):
+        matrix = sp.csr_array((2, 2), dtype=np.int64)
+        # The entries of the first row are not in order.
+        matrix.data, matrix.indices, matrix.indptr = np.array([2, 1, 2, 7]), np.array([1, 0, 0, 1], dtype), np.array([0, 2, 4], dtype)
+        assert ns.Exact.from_scipy(matrix).toarray().tolist() == [[1, 2], [2, 7]], dtype
+        for assumed in (False, True):
+            assert ns.solve_rational(matrix, np.array([3, 9]), assume_symmetric=assumed).tolist() == [1, 1], dtype
     for b in (np.arange(6).reshape(3, 2), np.arange(6, dtype=np.int16).reshape(3, 2), np.arange(12).reshape(3, 4)[:, ::2]):
         assert np.array_equal(ns.multiply_dense(sp.csr_matrix(PLAIN), b), PLAIN @ b)
         lower = np.array([[1, 0, 0], [2, 3, 0], [0, 1, 1]])
         assert np.array_equal(lower @ ns.solve_lower(sp.csc_array(lower), b), b)
+
+
+def check_read_only():
+    """Operands may be read-only, also empty ones, and solves do not write them."""
+    for columns in (0, 1, 2):
+        b = np.ones((2, columns), np.int64)
+        b.flags.writeable = False
+        for modulus in (None, 7):
+            a = ns.Exact.from_scipy(sp.csr_array(np.array([[1, 2], [2, 5]])), modulus)
+            for call in (a.solve_lower, a.solve_upper, a.solve, a.factor().solve, a.__matmul__):
+                assert call(b).tolist() == call(b.copy()).tolist() and call(b).shape == b.shape and (b == 1).all()
 
 
 def check_forms():
@@ -247,6 +265,7 @@ check_masks()
 check_table()
 check_exceptions()
 check_dtypes()
+check_read_only()
 check_forms()
 check_import()
 count = check_package()

@@ -35,7 +35,8 @@ def own(name: str, handle: Any, lock: Any) -> Iterator[Any]:
 def solved(name: str, b: Any, rows: int, *arguments: Any) -> Integers:
     """Calls a solve in place over a copy of b, and returns X in the shape of b."""
     values, cols = dense_of("b", b, rows)
-    if np.may_share_memory(values, b):
+    # An empty array shares no memory, but may be the given one, which may be read-only.
+    if np.may_share_memory(values, b) or not values.flags.writeable:
         values = np.array(values)
     call(name, *arguments, cols, values)
     return values.reshape(b.shape, order="F")

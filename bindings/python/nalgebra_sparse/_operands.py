@@ -99,12 +99,13 @@ def _vector(name: str, array: Any) -> Integers:
 
 def indices_of(name: str, array: Any) -> Integers:
     """Returns a contiguous array of 64-bit indices: the array itself, or one copy. A negative index becomes one that is
-    out of bounds."""
+    out of bounds, and one of 2^63 or more a negative one."""
     array = _vector(name, array)
     if array.dtype.kind not in "iu":
         raise TypeError(f"{name} must have a dtype of integers, not {array.dtype}")
     wide = array.dtype.kind == "u" and array.dtype.itemsize == 8
-    return np.require(array, np.uint64 if wide else np.int64, ["C", "A"])
+    # The library reads the same bits as numbers without a sign.
+    return np.require(array, np.uint64 if wide else np.int64, ["C", "A"]).view(np.int64)
 
 
 def order_of(order: Any) -> Integers:
@@ -160,7 +161,7 @@ def sorted_arrays(lanes: Lanes) -> tuple[Integers, Integers, Integers]:
     offsets, indices, values = lanes.arrays
     lengths = np.diff(offsets)
     sound = offsets.size == lanes.sizes[0] + 1 and offsets[0] == 0 and offsets[-1] == indices.size == values.size
-    if not sound or offsets.dtype.kind == "u" or (lengths < 0).any():
+    if not sound or (lengths < 0).any():
         return lanes.arrays
     order = np.lexsort((indices, np.repeat(np.arange(lengths.size), lengths)))
     return offsets, indices[order], values[order]
