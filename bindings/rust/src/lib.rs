@@ -11,6 +11,7 @@ mod operations;
 mod operators;
 mod orders;
 mod ring_matrix;
+mod ring_systems;
 mod room;
 mod shared;
 mod symmetric;

@@ -60,7 +60,8 @@ impl Matrix {
     }
 
     /// Returns the exact factors `L D L^T` of `P A P^T`, where A is the symmetric matrix of [`Matrix::factor`] and P takes
-    /// its rows and columns in an order. They solve `A X = B` itself.
+    /// its rows and columns in an order. They solve `A X = B` itself. Entries below the diagonal have no effect:
+    /// [`Matrix::factor_in_order_checked`] tests that the matrix is symmetric.
     ///
     /// # Errors
     ///

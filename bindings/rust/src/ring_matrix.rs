@@ -5,7 +5,7 @@ use std::fmt;
 use crate::calls::RingHandle;
 use crate::error::answer;
 use crate::shared::Shared;
-use crate::{calls, factor_symmetric_mod, singular_column_mod, solve_symmetric_mod, Arrays, Columns, Error, Factors, Rows};
+use crate::{calls, Arrays, Error, Rows};
 
 /// A matrix modulo one of [`MODULI`](crate::MODULI), which the library owns together with its modulus.
 ///
@@ -235,44 +235,6 @@ impl RingMatrix {
                 own.pointer(), cols, b.as_ptr(), b.len(), values.as_mut_ptr(), values.len(),
             )
         })
-    }
-
-    /// Returns the X of [`solve_symmetric_mod`] for the symmetric matrix whose entries on and above the diagonal are
-    /// those of this matrix, which is copied and transposed. B and X have `cols` columns.
-    ///
-    /// # Errors
-    ///
-    /// [`Error::OutOfMemory`]; [`Error::ShapeMismatch`] if the matrix is not square; [`Error::InvalidStructure`] if `b`
-    /// has another number of values; [`Error::Singular`] if no factorisation exists.
-    pub fn solve_symmetric(&self, cols: usize, b: &[i64]) -> Result<Vec<i64>, Error> {
-        self.with_columns(|modulus, a| solve_symmetric_mod(modulus, a, cols, b))
-    }
-
-    /// Returns the exact factors of [`factor_symmetric_mod`] of this symmetric matrix.
-    ///
-    /// # Errors
-    ///
-    /// [`Error::OutOfMemory`]; [`Error::ShapeMismatch`] if the matrix is not square; [`Error::Singular`] if no
-    /// factorisation exists.
-    pub fn factor(&self) -> Result<Factors, Error> {
-        self.with_columns(factor_symmetric_mod)
-    }
-
-    /// Returns the column at which that factorisation stops, or `None` if there are factors, as
-    /// [`singular_column_mod`] does.
-    ///
-    /// # Errors
-    ///
-    /// [`Error::OutOfMemory`]; [`Error::ShapeMismatch`] if the matrix is not square.
-    pub fn singular_column(&self) -> Result<Option<usize>, Error> {
-        self.with_columns(singular_column_mod)
-    }
-
-    /// Returns the result of a call over the modulus and the arrays of the matrix by columns.
-    fn with_columns<T>(&self, call: impl FnOnce(u64, Columns<'_>) -> Result<T, Error>) -> Result<T, Error> {
-        // The arrays of the transpose by rows are those of the matrix by columns.
-        let rows = self.transpose()?.to_arrays()?;
-        call(self.modulus()?, rows.as_rows().transposed())
     }
 
     /// Returns a second handle of the matrix. No array is copied.

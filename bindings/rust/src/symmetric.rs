@@ -3,7 +3,7 @@
 use crate::systems::check_square;
 use crate::{
     factor_symmetric, factor_symmetric_mod, solve_symmetric, solve_symmetric_mod, subtract, subtract_mod, transpose, Arrays,
-    Columns, Error, Factorisation, Factors, Matrix, Rows,
+    Columns, Error, Factorisation, Factors, Matrix, Order, Rows,
 };
 
 /// Returns the X of [`solve_symmetric`], for a matrix that is tested to be symmetric. The test computes its transpose
@@ -67,12 +67,29 @@ impl Matrix {
     ///
     /// Those of [`Matrix::factor`]; [`Error::NotSymmetric`] if the matrix is not its transpose.
     pub fn factor_checked(&self) -> Result<Factorisation, Error> {
-        let (rows, cols) = self.shape()?;
-        if rows != cols {
-            return Err(Error::ShapeMismatch);
-        }
+        self.factor_in_order_checked(Order::Natural)
+    }
+
+    /// Returns the factors of [`Matrix::factor_in_order`], for a matrix that is tested to be symmetric.
+    ///
+    /// # Errors
+    ///
+    /// Those of [`Matrix::factor_in_order`]; [`Error::NotSymmetric`] if the matrix is not its transpose.
+    ///
+    /// # Examples
+    ///
+    /// ```
+    /// use nalgebra_sparse_exact::{Error, Matrix, Order};
+    ///
+    /// // 0 1 / 5 1 is not symmetric.
+    /// let a = Matrix::from_triplets((2, 2), &[0, 1, 1], &[1, 0, 1], &[1, 5, 1])?;
+    /// assert_eq!(a.factor_in_order_checked(Order::Given(&[1, 0])).err(), Some(Error::NotSymmetric));
+    /// # Ok::<(), Error>(())
+    /// ```
+    pub fn factor_in_order_checked(&self, order: Order<'_>) -> Result<Factorisation, Error> {
+        // If the matrix is not square, the shapes differ.
         require_zeros(&self.subtract(&self.transpose()?)?.to_arrays()?.values)?;
-        self.factor()
+        self.factor_in_order(order)
     }
 }
 
@@ -87,7 +104,8 @@ fn require_symmetric(
     require_zeros(&difference(rows, transpose(rows)?.as_rows())?.values)
 }
 
-fn require_zeros(values: &[i64]) -> Result<(), Error> {
+/// Tests that a difference of a matrix and its transpose is 0.
+pub(crate) fn require_zeros(values: &[i64]) -> Result<(), Error> {
     if values.iter().all(|&value| value == 0) {
         Ok(())
     } else {

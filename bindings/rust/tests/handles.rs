@@ -225,7 +225,13 @@ fn systems_are_refused() {
         assert_eq!(wide.order(order).unwrap_err(), Error::ShapeMismatch);
         assert_eq!(wide.factor_in_order(order).unwrap_err(), Error::ShapeMismatch);
         assert_eq!(even.factor_in_order(order).unwrap_err(), Error::Singular);
+        assert_eq!(wide.factor_in_order_checked(order).unwrap_err(), Error::ShapeMismatch);
+        assert_eq!(even.factor_in_order_checked(order).unwrap_err(), Error::Singular);
+        assert_eq!(upper.factor_in_order_checked(order).unwrap_err(), Error::NotSymmetric);
     }
+    let mut v = [3, 9];
+    mirrored.factor_in_order_checked(Order::Given(&[1, 0])).unwrap().solve_mut(1, &mut v).unwrap();
+    assert_eq!(v, [1, 1]);
     assert_eq!(upper.factor_in_order(Order::Given(&[1, 1])).unwrap_err(), Error::DuplicateEntry);
     assert_eq!(upper.factor_in_order(Order::Given(&[2, 0])).unwrap_err(), Error::IndexOutOfBounds);
     assert_eq!(upper.factor_in_order(Order::Given(&[0])).unwrap_err(), Error::InvalidStructure);

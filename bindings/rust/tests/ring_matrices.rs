@@ -62,11 +62,19 @@ fn symmetric_systems_are_solved() {
     let upper = assemble_csr(2, 2, &[0, 1, 1], &[0, 0, 1], &[2, 1, 3]).unwrap();
     assert_eq!(a.factor().unwrap(), factor_symmetric_mod(7, upper.as_rows().transposed()).unwrap());
     assert_eq!(a.singular_column().unwrap(), None);
+    assert_eq!(a.solve_symmetric_checked(1, &[8, 19]), Err(Error::NotSymmetric));
+    assert_eq!(a.factor_checked(), Err(Error::NotSymmetric));
+    // 2 1 / 8 3 is symmetric modulo 7.
+    let b = RingMatrix::from_triplets(7, (2, 2), &[0, 0, 1, 1], &[0, 1, 0, 1], &[2, 1, 8, 3]).unwrap();
+    assert_eq!(b.solve_symmetric_checked(1, &[8, 19]).unwrap(), [1, 6]);
+    assert_eq!(b.factor_checked(), a.factor());
     // 2 1 / 1 4 has the determinant 7.
     let none = RingMatrix::from_triplets(7, (2, 2), &[0, 0, 1, 1], &[0, 1, 0, 1], &[2, 1, 1, 4]).unwrap();
     assert_eq!(none.factor().unwrap_err(), Error::Singular);
     assert_eq!(none.solve_symmetric(1, &[1, 1]).unwrap_err(), Error::Singular);
     assert_eq!(none.singular_column().unwrap(), Some(1));
+    assert_eq!(none.factor_checked(), Err(Error::Singular));
+    assert_eq!(none.solve_symmetric_checked(1, &[1, 1]), Err(Error::Singular));
 }
 
 #[test]
@@ -79,6 +87,8 @@ fn refusals_are_errors() {
         assert_eq!(refused.unwrap_err(), Error::RingMismatch);
     }
     assert_eq!(wide.factor().unwrap_err(), Error::ShapeMismatch);
+    assert_eq!(wide.factor_checked().unwrap_err(), Error::ShapeMismatch);
+    assert_eq!(wide.solve_symmetric_checked(1, &[1]).unwrap_err(), Error::ShapeMismatch);
     assert_eq!(wide.multiply_dense(1, &[1]).unwrap_err(), Error::InvalidStructure);
     for modulus in [0, 1, 4, u64::MAX] {
         assert_eq!(RingMatrix::from_triplets(modulus, (1, 2), &[0], &[0], &[5]).unwrap_err(), Error::UnknownModulus);
