@@ -20,7 +20,7 @@ static inline const char *nalgebra_sparse_status_text(int32_t status) {
     case NALGEBRA_SPARSE_OUT_OF_MEMORY: return "an allocation failed";
     case NALGEBRA_SPARSE_INVALID_STRUCTURE: return "the arrays have lengths, offsets or an order that the format does not allow";
     case NALGEBRA_SPARSE_INDEX_OUT_OF_BOUNDS: return "a row or a column index is out of bounds";
-    case NALGEBRA_SPARSE_DUPLICATE_ENTRY: return "the same place is given more than once";
+    case NALGEBRA_SPARSE_DUPLICATE_ENTRY: return "the same place is given more than once, or a number occurs twice in an order";
     case NALGEBRA_SPARSE_TOO_SMALL: return "an array for the result is too small";
     case NALGEBRA_SPARSE_SINGULAR: return "a value that must have an inverse has none";
     case NALGEBRA_SPARSE_UNKNOWN_CHOICE: return "a number that chooses among cases is none of those that the call knows";
@@ -33,7 +33,7 @@ static inline const char *nalgebra_sparse_status_text(int32_t status) {
     case NALGEBRA_SPARSE_NOT_LOWER_TRIANGLE: return "a symmetric or skew-symmetric matrix has an entry above the diagonal";
     case NALGEBRA_SPARSE_NON_SQUARE: return "a symmetric or skew-symmetric matrix is not square";
     case NALGEBRA_SPARSE_UNREADABLE: return "the bytes of a text are not UTF-8";
-    case NALGEBRA_SPARSE_EMPTY_HANDLE: return "a handle has no matrix";
+    case NALGEBRA_SPARSE_EMPTY_HANDLE: return "a handle is empty";
     case NALGEBRA_SPARSE_SHAPE_MISMATCH: return "the shapes of the operands do not fit";
     case NALGEBRA_SPARSE_RING_MISMATCH: return "the operands have different moduli";
     case NALGEBRA_SPARSE_FILE_ERROR: return "a file can't be opened, read or written";

@@ -65,7 +65,7 @@ _REFUSALS: dict[int, tuple[type[Exception], str]] = {
     14: (InvalidText, "a symmetric or skew-symmetric matrix has an entry above the diagonal"),
     15: (InvalidText, "a symmetric or skew-symmetric matrix is not square"),
     16: (InvalidText, "the bytes of a text are not UTF-8"),
-    17: (Error, "a handle has no matrix"),
+    17: (Error, "a handle is empty"),
     18: (Error, "the shapes of the operands do not fit"),
     19: (RingMismatch, "the operands have different moduli"),
 }

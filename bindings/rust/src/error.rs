@@ -53,7 +53,7 @@ impl fmt::Display for Error {
             Error::OutOfMemory => "an allocation failed",
             Error::InvalidStructure => "the arrays have lengths, offsets or an order that the format does not allow",
             Error::IndexOutOfBounds => "a row or a column index is out of bounds",
-            Error::DuplicateEntry => "the same place is given more than once",
+            Error::DuplicateEntry => "the same place is given more than once, or a number occurs twice in an order",
             Error::Singular => "a value that must have an inverse has none",
             Error::UnknownModulus => "the modulus is none of those of the library",
             Error::InvalidText => "a text does not match the grammar, or a number in it is out of range",
