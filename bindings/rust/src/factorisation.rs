@@ -99,7 +99,8 @@ pub struct Factorisation {
 }
 
 impl Factorisation {
-    /// Replaces B by the X for which `A X = B`, in whichever order A was factored. B and X have `cols` columns and are stored column by column.
+    /// Replaces B by the X for which `A X = B`, in whichever order A was factored. B and X have `cols` columns and are
+    /// stored column by column.
     ///
     /// # Errors
     ///
