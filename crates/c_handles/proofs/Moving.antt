@@ -61,38 +61,46 @@ module _ {M : Type 1} {𝓤 : Ura M} (𝓛 : Logic 𝓤) (𝓜 : Model 𝓤 𝓛
       pointer_in ! p F $ returns ! (look_at ! 0 refl) $ free_all ! refl $ keep ! (0 ∷ []) $
       by ! then))
 
--- the contract of a function from A to B, of which nothing is left after the call but the result
+-- a function from A to B, which keeps the pointer `at` and what is owned, F
 module _ (A B : RattleType) where
   abbrev pub En : Ended
   En = record {
-    signature = record { lifetimes = 0; outlives = []; params = plain (λ _. A) ∷ []; result = plain (λ _. B) };
+    signature = record {
+      lifetimes = 0;
+      outlives = [];
+      params = plain (λ _. A) ∷ [];
+      result = plain (λ _. B);
+    };
     kept = (yes, tt);
   }
 
   abbrev pub stayed : Stays En.signature.params En.kept
   stayed = (stay_dropped (plain (λ _. A)) yes, tt)
 
-  module _ {M : Type 1} {𝓤 : Ura M} (𝓛 : Logic 𝓤) (𝓜 : Model 𝓤 𝓛.H) (𝓡 : Running 𝓤 𝓛.H 𝓜) (c : Clauses 𝓤 En)
-      (at : A.Denot → Ptr) (F : A.Denot → Fml) (to : A.Denot → B.Denot)
+  module _ {M : Type 1} {𝓤 : Ura M} (𝓛 : Logic 𝓤) (𝓜 : Model 𝓤 𝓛.H) (𝓡 : Running 𝓤 𝓛.H 𝓜)
+      (c : Clauses 𝓤 En) (at : A.Denot → Ptr) (F : A.Denot → Fml) (to : A.Denot → B.Denot)
       (opens : (d : A.Denot) (vs : List Val) → A.own_val d vs ≡ owned_by (at d) (F d) vs)
       (closes : (d : A.Denot) (vs : List Val) → B.own_val (to d) vs ≡ owned_by (at d) (F d) vs)
-      (silent : Silent 𝓛 0 (plain (λ _. A)) yes) where
+      (silent : Silent 𝓛 0 (plain (λ _. A)) yes)
+      (ws : (y : (walk_of 𝓛 En stayed c).Ghost) → Lasts En y.0.0 y.0.3)
+      (ensured : (y : (walk_of 𝓛 En stayed c).Ghost) → ent 𝓤 (emp 𝓤)
+      ((c y.0.0 y.0.3).ensures y.1 (to y.0.3.0) (at_exit En y.0.0 y.0.3 (ws y)))) where
     open 𝓛 use {H}
 
-    module _ (ws : (y : (walk_of 𝓛 En stayed c).Ghost) → Lasts En y.0.0 y.0.3)
-        (ensured : (y : (walk_of 𝓛 En stayed c).Ghost) → ent 𝓤 (emp 𝓤) ((c y.0.0 y.0.3).ensures y.1 (to y.0.3.0) (at_exit En y.0.0 y.0.3 (ws y)))) where
-      pub moves : (n m : List ℕ) (k : Callee) → Closed 𝓤 H (tables 𝓤 H 𝓜 𝓡 𝓡.env).C (tables 𝓤 H 𝓜 𝓡 𝓡.env).Λ k (carrier n m)
-          → Meets 𝓛 En.signature ((tables 𝓤 H 𝓜 𝓡 𝓡.env).C k) (closing 𝓛 En c)
-      moves n m k closed =
-          proved_at 𝓛 En stayed c 𝓜 𝓡 (Goes-dropped 𝓛 0 (plain (λ _. A)) yes silent, tt) k (carrier n m) closed (λ z are.
-          let d = z.0.3.0 in let Post = (walk_of 𝓛 En stayed c).post z in
-          qed 𝓛 ((‵ ftrue ⊛ ‵ (owns (types_at En.signature.params z.0.0) z.0.3 z.0.4))
-          ∷ raw ((c z.0.0 z.0.3).requires z.1) ∷ []) ∵
-          split ! $ move ! (1 ∷ []) $ fsplit ! $ keep ! (0 ∷ []) $
-          rewrite ! 0 (λ (X : Fml). ‵ X) (opens d z.0.4.0) refl $
-          by ! (carries 𝓛 𝓜 𝓡 n m (at d) (F d) z.0.4.0 Post
-          (qed 𝓛 (‵ (owned_by (at d) (F d) (word (at d) ∷ [])) ∷ []) ∵
-          rewrite ! 0 (λ (X : Fml). ‵ X) (sym (closes d (word (at d) ∷ []))) refl $
-          use0 𝓛 (raw ((c z.0.0 z.0.3).ensures z.1 (to d) (at_exit En z.0.0 z.0.3 (ws z)))) (ensured z) $
-          nothing ! $ nothing ! $ fjoin ! $ nothing ! $ keep ! (0 ∷ 1 ∷ 3 ∷ 2 ∷ []) $
-          by ! (leaves 𝓛 En stayed c z (word (at d)) (to d) (ws z) (tt, tt)))))
+    pub moves : (n m : List ℕ) (k : Callee)
+        → Closed 𝓤 H (tables 𝓤 H 𝓜 𝓡 𝓡.env).C (tables 𝓤 H 𝓜 𝓡 𝓡.env).Λ k (carrier n m)
+        → Meets 𝓛 En.signature ((tables 𝓤 H 𝓜 𝓡 𝓡.env).C k) (closing 𝓛 En c)
+    moves n m k closed =
+        proved_at 𝓛 En stayed c 𝓜 𝓡 (Goes-dropped 𝓛 0 (plain (λ _. A)) yes silent, tt) k
+        (carrier n m) closed (λ z are.
+        let d = z.0.3.0 in let Post = (walk_of 𝓛 En stayed c).post z in
+        qed 𝓛 ((‵ ftrue ⊛ ‵ (owns (types_at En.signature.params z.0.0) z.0.3 z.0.4))
+        ∷ raw ((c z.0.0 z.0.3).requires z.1) ∷ []) ∵
+        split ! $ move ! (1 ∷ []) $ fsplit ! $ keep ! (0 ∷ []) $
+        rewrite ! 0 (λ (X : Fml). ‵ X) (opens d z.0.4.0) refl $
+        by ! (carries 𝓛 𝓜 𝓡 n m (at d) (F d) z.0.4.0 Post
+        (qed 𝓛 (‵ (owned_by (at d) (F d) (word (at d) ∷ [])) ∷ []) ∵
+        rewrite ! 0 (λ (X : Fml). ‵ X) (sym (closes d (word (at d) ∷ []))) refl $
+        use0 𝓛 (raw ((c z.0.0 z.0.3).ensures z.1 (to d) (at_exit En z.0.0 z.0.3 (ws z))))
+        (ensured z) $ nothing ! $ nothing ! $ fjoin ! $ nothing ! $ keep ! (0 ∷ 1 ∷ 3 ∷ 2 ∷ []) $
+        by ! (leaves 𝓛 En stayed c z (word (at d)) (to d) (ws z) (tt, tt)))))

@@ -69,7 +69,9 @@ module _ {M : Type 1} {𝓤 : Ura M} (𝓛 : Logic 𝓤) (𝓜 : Model 𝓤 𝓛
     abbrev fn : Fn
     fn = inst_fn (layouts (a_type ∷ []) (T, tt)) code.function
 
-    module _ (κ : Lft) (q : Share) (bounds : AllOutlive En.signature.lifetimes En.signature.outlives (κ, tt)) (p : Ptr) (us : List Val) where
+    module _ (κ : Lft) (q : Share)
+        (bounds : AllOutlive En.signature.lifetimes En.signature.outlives (κ, tt)) (p : Ptr)
+        (us : List Val) where
       -- what the caller keeps: the token of the lifetime κ
       abbrev Kept : Fml
       Kept = fsep (flft κ q) ftrue

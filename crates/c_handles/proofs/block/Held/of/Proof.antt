@@ -57,4 +57,5 @@ of_spec 𝓤 𝓛 𝓜 𝓡 wired T L =
     (fact_i 𝓤 (Some v.value ≡ Some v.value) (emp 𝓤) refl) $ nothing ! $ nothing ! $ fjoin ! $
     returns ! (look_at ! 0 refl) $ free_all ! refl $ move ! (4 ∷ 3 ∷ []) $ join ! $
     keep ! (0 ∷ 1 ∷ 3 ∷ 2 ∷ []) $
-    by ! (leaves 𝓛 En hs c z (word v.at) (record { at = v.at; value = Some v.value }) (tt, tt) (tt, tt)))))
+    by ! (leaves 𝓛 En hs c z (word v.at) (record { at = v.at; value = Some v.value })
+    (tt, tt) (tt, tt)))))

@@ -13,7 +13,8 @@ use Rattle.c_handles.specs.contracts.handle.FactorHandle.{the_row, the_type}
 
 pub send : IsSend the_row
 send = let ps : IsSend RawPtr = search sendable in
-    owning_send the_type (ps, tt) (λ d. keyless factors_row (shared_send held_factors_row factors_send factors_sync) d.at d.value)
+    owning_send the_type (ps, tt) (λ d. keyless factors_row
+    (shared_send held_factors_row factors_send factors_sync) d.at d.value)
     (λ k. quiet (to the_type) (exits_of k (fields the_type)) ((struct_send (shape the_type) (
       ps,
       tt,
