@@ -1,4 +1,4 @@
--- Arrays that hold a matrix once its arrays are copied into them.
+-- Arrays that hold a matrix once its arrays are copied into them: `HoldsRows-put`, `HoldsDense-put`.
 use Rattle.std.proofs.Common.{◌≡◌, ℕ, ℤ, ◌*◌, ◌≤◌, List, length, map, take, ap, sym}
 use Rattle.std.proofs.Common.{subst, ◌∙◌, arith}
 use Rattle.sparse_algebra.specs.Algebra.{CommRing}

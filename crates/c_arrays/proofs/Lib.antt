@@ -1,6 +1,6 @@
 pub mod Answering
 pub mod ValidStatuses
-mod Holding
+pub mod Holding
 pub mod Joining
 mod Listing
 pub mod Meanings

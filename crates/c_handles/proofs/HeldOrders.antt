@@ -25,6 +25,7 @@ use Rattle.c_handles.specs.Held.{plain_held}
 use Rattle.c_handles.specs.Ordered.{permuted_symmetric, AreFactorsInOrder, HoldsFactorsInOrder}
 use Rattle.c_handles.specs.Ordered.{IsOrderUnwritten, IsTooShort, IsUnordered, WritesOrder}
 use Rattle.c_handles.specs.Ordered.{WritesSomeOrder}
+use Rattle.c_handles.specs.Solved.{IsSquare}
 use Rattle.c_handles.specs.declared.held_factors.HeldFactors.{HeldFactors}
 use Rattle.c_handles.specs.declared.held_factors.HeldFactors.TheVariants.{Ordered}
 
@@ -77,12 +78,16 @@ OnOk-WritesSomeOrder handle m a is same (Err e) p old new valid count written = 
 
 pub IfErr-IsUnordered : (handle : Option (Compressed W64)) (m a : Compressed W64) → handle ≡ Some m
     → a ≡ m → (answer : Result (Unit {0}) Refusal) (p room : List ℕ)
-    → length p ≡ a.pattern.major_dim → IfErr answer (IsTooShort (length p) room)
-    → IfErr answer (IsOutOfMemoryOr (IsUnordered handle room))
-IfErr-IsUnordered handle m a is same (Ok u) p room count fault = tt
-IfErr-IsUnordered handle m a is same (Err e) p room count fault =
-    let rows = count ∙ ap (λ (b : Plain ring64). b.rows) (plain_of_rows-held handle m a is same) in
-    inr (inr (fault.0, subst (λ (n : ℕ). length room < n) rows fault.1))
+    → a.pattern.major_dim ≡ a.pattern.minor_dim → length p ≡ a.pattern.major_dim
+    → IfErr answer (IsTooShort (length p) room) → IfErr answer (IsOutOfMemoryOr (IsUnordered handle room))
+IfErr-IsUnordered handle m a is same (Ok u) p room square count fault = tt
+IfErr-IsUnordered handle m a is same (Err e) p room square count fault =
+    let plain = plain_of_rows-held handle m a is same in
+    let rows = count ∙ ap (λ (b : Plain ring64). b.rows) plain in
+    inr (inr (
+      subst IsSquare plain square,
+      (fault.0, subst (λ (n : ℕ). length room < n) rows fault.1),
+    ))
 
 order-held : (handle : Option HeldFactors) (f s : HeldFactors) → handle ≡ Some f → s ≡ f
     → (p : List ℕ) → p ≡ order_in s → p ≡ order_held handle

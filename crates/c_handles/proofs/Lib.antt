@@ -4,6 +4,7 @@ mod HeapBox
 mod HeldPointers
 mod HeldFactors
 mod HeldOrders
-mod NarrowRows
+mod Moving
 mod PlainTexts
+mod Sending
 mod Triangles

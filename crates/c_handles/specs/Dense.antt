@@ -16,8 +16,9 @@ abbrev pub dense_product : Plain ring64 → ℕ → List ℤ → Plain ring64
 dense_product a m values = plain_full ring64 (plain_product ring64 a (plain_by_values ring64 a.cols m values))
 
 -- the error of a product with a dense matrix with m columns: the handle is empty, the dense matrix does not have m
--- values for each column of the matrix, or the array is too short for the product
+-- values for each column of the matrix, or else the array is too short for the product
 abbrev pub IsDenseProductError : Option (Compressed W64) → ℕ → List ℤ → List ℤ → Refusal → Type 0
 IsDenseProductError a m values room refusal = IsEmpty a refusal
     ⊎ (HasWrongLength (plain_held a).cols m values refusal
-    ⊎ ((refusal ≡ TooSmall) × (length room < (plain_held a).rows * m)))
+    ⊎ ((length values ≡ (plain_held a).cols * m) × (refusal ≡ TooSmall)
+    × (length room < (plain_held a).rows * m)))

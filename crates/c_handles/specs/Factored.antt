@@ -8,11 +8,11 @@ use Rattle.sparse_algebra.specs.declared.scalar.wrapping.W64.{W64}
 use Rattle.c_arrays.specs.Arrays.{ring64}
 use Rattle.c_arrays.specs.Refused.{HasWrongLength}
 use Rattle.c_arrays.specs.declared.refusal.Refusal.{Refusal}
-use Rattle.c_arrays.specs.declared.refusal.Refusal.TheVariants.{EmptyHandle, Singular}
+use Rattle.c_arrays.specs.declared.refusal.Refusal.TheVariants.{Singular}
 use Rattle.sparse_compressed.specs.Compressed.{Compressed}
 use Rattle.sparse_compressed.specs.PlainOfLanes.{plain_of_cols}
-use Rattle.c_handles.specs.Held.{plain_held}
-use Rattle.c_handles.specs.Solved.{IsNoSquare}
+use Rattle.c_handles.specs.Held.{plain_held, IsEmpty}
+use Rattle.c_handles.specs.Solved.{IsNoSquare, IsSquare}
 use Rattle.c_handles.specs.declared.held_factors.HeldFactors.{HeldFactors}
 use Rattle.c_handles.specs.declared.held_factors.HeldFactors.TheVariants.{Natural, Ordered}
 use Rattle.sparse_factor.specs.Factorisations.{plain_symmetric, IsFactorisation}
@@ -73,17 +73,13 @@ HoldsFactors handle a = (s : Factors W64) × (handle ≡ Some (Natural s))
     × IsFactorisation ring64 w64_value (plain_symmetric ring64 a)
     (plain_of_cols ring64 w64_value s.l) (diagonal ring64 w64_value zero64 s.d)
 
--- the error of a factorisation: the handle holds no square matrix, or the symmetric matrix has no factors L and D
+-- the error of a factorisation: the handle holds no square matrix, or else the symmetric matrix has no factors L and D
 abbrev pub IsUnfactored : Option (Compressed W64) → Refusal → Type 0
-IsUnfactored a refusal = IsNoSquare a refusal ⊎ ((refusal ≡ Singular)
+IsUnfactored a refusal = IsNoSquare a refusal ⊎ (IsSquare (plain_held a) × (refusal ≡ Singular)
     × ((l : Plain ring64) (d : ℕ → ring64.Carrier)
     → IsFactorisation ring64 w64_value (plain_symmetric ring64 (plain_held a)) l d → ⊥))
-
--- the error of an empty handle of factors
-abbrev pub HasNoFactors : Option HeldFactors → Refusal → Type 0
-HasNoFactors handle refusal = (refusal ≡ EmptyHandle) × (handle ≡ None)
 
 -- the error of a solve with factors: the handle is empty, or the right-hand side does not have m values for each row
 abbrev pub HasNoSystem : Option HeldFactors → ℕ → List ℤ → Refusal → Type 0
 HasNoSystem handle m b refusal =
-    HasNoFactors handle refusal ⊎ HasWrongLength (size_held handle) m b refusal
+    IsEmpty handle refusal ⊎ HasWrongLength (size_held handle) m b refusal

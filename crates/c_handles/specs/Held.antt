@@ -22,11 +22,11 @@ abbrev pub Holds : Option (Compressed W64) → Plain ring64 → Type 0
 Holds handle a = (m : Compressed W64) × (handle ≡ Some m) × (plain_of_rows ring64 w64_value m ≡ a)
 
 -- the error of an empty handle
-abbrev pub IsEmpty : Option (Compressed W64) → Refusal → Type 0
+abbrev pub IsEmpty : {T : Type 0} → Option T → Refusal → Type 0
 IsEmpty handle refusal = (refusal ≡ EmptyHandle) × (handle ≡ None)
 
 -- the error of two handles of which one is empty
-abbrev pub IsEitherEmpty : Option (Compressed W64) → Option (Compressed W64) → Refusal → Type 0
+abbrev pub IsEitherEmpty : {T : Type 0} → Option T → Option T → Refusal → Type 0
 IsEitherEmpty a b refusal = IsEmpty a refusal ⊎ IsEmpty b refusal
 
 -- the error of a sum: a handle is empty, or the matrices have different shapes

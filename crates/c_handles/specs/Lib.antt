@@ -5,5 +5,6 @@ pub mod Factored
 pub mod Ordered
 pub mod Owned
 pub mod Rings
+pub mod Rows
 pub mod Solved
 pub mod Texts

@@ -20,9 +20,9 @@ use Rattle.sparse_permutation.specs.Permutations.{IsOrder}
 use Rattle.sparse_permutation.specs.PermutedPlain.{plain_permuted}
 use Rattle.sparse_permutation.specs.declared.error.PermutationError.{PermutationError}
 use Rattle.sparse_permutation.specs.declared.error.PermutationError.TheVariants as fault
-use Rattle.c_handles.specs.Factored.{zero64, HasNoFactors, order_held}
-use Rattle.c_handles.specs.Held.{plain_held}
-use Rattle.c_handles.specs.Solved.{IsNoSquare}
+use Rattle.c_handles.specs.Factored.{order_held, zero64}
+use Rattle.c_handles.specs.Held.{plain_held, IsEmpty}
+use Rattle.c_handles.specs.Solved.{IsNoSquare, IsSquare}
 use Rattle.c_handles.specs.declared.held_factors.HeldFactors.{HeldFactors}
 use Rattle.c_handles.specs.declared.held_factors.HeldFactors.TheVariants.{Ordered}
 
@@ -40,16 +40,16 @@ WritesSomeOrder n before after = (order : List ℕ) × IsOrder order × (length 
 abbrev pub IsTooShort : ℕ → List ℕ → Refusal → Type 0
 IsTooShort n room refusal = (refusal ≡ TooSmall) × (length room < n)
 
--- the error of a call that writes an order of the matrix of a handle: the handle holds no square matrix, or the array is
--- too short
+-- the error of a call that writes an order of the matrix of a handle: the handle holds no square matrix, or else the
+-- array is too short
 abbrev pub IsUnordered : Option (Compressed W64) → List ℕ → Refusal → Type 0
-IsUnordered a room refusal =
-    IsNoSquare a refusal ⊎ IsTooShort (plain_held a).rows room refusal
+IsUnordered a room refusal = IsNoSquare a refusal
+    ⊎ (IsSquare (plain_held a) × IsTooShort (plain_held a).rows room refusal)
 
 -- the error of a call that writes the order of the factors of a handle: it is empty, or the array is too short
 abbrev pub IsOrderUnwritten : Option HeldFactors → List ℕ → Refusal → Type 0
 IsOrderUnwritten handle room refusal =
-    HasNoFactors handle refusal ⊎ IsTooShort (length (order_held handle)) room refusal
+    IsEmpty handle refusal ⊎ IsTooShort (length (order_held handle)) room refusal
 
 -- the error of a list with this fault
 abbrev pub refusal_of_order : PermutationError → Refusal
@@ -63,10 +63,10 @@ pub record IsFaultOfOrder (order : List ℕ) (refusal : Refusal) : Type 0 where
   pub first : IsFirstFault order error
   pub is : refusal ≡ refusal_of_order error
 
--- the error of a list that is no permutation of the numbers below n
+-- the error of a list that is no permutation of the numbers below n: its length is another, or else its first fault
 abbrev pub IsNoOrder : ℕ → List ℕ → Refusal → Type 0
 IsNoOrder n order refusal = ((refusal ≡ InvalidStructure) × (length order ≢ n))
-    ⊎ IsFaultOfOrder order refusal
+    ⊎ ((length order ≡ n) × IsFaultOfOrder order refusal)
 
 -- P A Pᵀ, where A is the symmetric matrix whose entries on and above the diagonal are those of a
 abbrev pub permuted_symmetric : List ℕ → Plain ring64 → Plain ring64
@@ -87,9 +87,10 @@ abbrev pub HoldsFactorsInOrder : Option HeldFactors → List ℕ → Plain ring6
 HoldsFactorsInOrder handle p a = (s : OrderedFactors W64) × (handle ≡ Some (Ordered s))
     × AreFactorsInOrder a p s
 
--- the error of a factorisation in the order p: the handle holds no square matrix, p is no permutation of its rows, or
--- P A Pᵀ has no factors L and D
+-- the error of a factorisation in the order p: the handle holds no square matrix, or else p is no permutation of its
+-- rows, or else P A Pᵀ has no factors L and D
 abbrev pub IsUnfactoredInOrder : Option (Compressed W64) → List ℕ → Refusal → Type 0
-IsUnfactoredInOrder a p refusal = IsNoSquare a refusal ⊎ (IsNoOrder (plain_held a).rows p refusal
-    ⊎ ((refusal ≡ Singular) × ((l : Plain ring64) (d : ℕ → ring64.Carrier)
-    → IsFactorisation ring64 w64_value (permuted_symmetric p (plain_held a)) l d → ⊥)))
+IsUnfactoredInOrder a p refusal = IsNoSquare a refusal ⊎ (IsSquare (plain_held a)
+    × (IsNoOrder (plain_held a).rows p refusal ⊎ (IsOrder p × (length p ≡ (plain_held a).rows)
+    × (refusal ≡ Singular) × ((l : Plain ring64) (d : ℕ → ring64.Carrier)
+    → IsFactorisation ring64 w64_value (permuted_symmetric p (plain_held a)) l d → ⊥))))

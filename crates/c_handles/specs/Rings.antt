@@ -5,7 +5,8 @@ use Rattle.sparse_algebra.specs.Plain.{Plain}
 use Rattle.sparse_compressed.specs.Compressed.{arrays_of, Compressed}
 use Rattle.c_arrays.specs.Arrays.{plain_by_rows}
 use Rattle.c_arrays.specs.declared.refusal.Refusal.{Refusal}
-use Rattle.c_arrays.specs.declared.refusal.Refusal.TheVariants.{EmptyHandle, RingMismatch}
+use Rattle.c_arrays.specs.declared.refusal.Refusal.TheVariants.{RingMismatch}
+use Rattle.c_handles.specs.Held.{IsEitherEmpty}
 use Rattle.c_handles.specs.declared.ring_matrix.RingMatrix.{RingMatrix}
 
 -- the modulus of the matrix that a handle holds; of an empty handle, 0
@@ -27,11 +28,7 @@ residues_held m handle = plain_by_rows (mod_ring m) (arrays_held handle)
 abbrev pub HoldsModulo : (m : ℕ) → Option RingMatrix → Plain (mod_ring m) → Type 0
 HoldsModulo m handle a = (s : RingMatrix) × (handle ≡ Some s) × (s.modulus ≡ m) × (plain_by_rows (mod_ring m) s.matrix ≡ a)
 
--- the error of an empty handle
-abbrev pub HasNoMatrix : Option RingMatrix → Refusal → Type 0
-HasNoMatrix handle refusal = (refusal ≡ EmptyHandle) × (handle ≡ None)
-
 -- the error of two handles: one is empty, or the moduli of their matrices differ
 abbrev pub IsRingError : Option RingMatrix → Option RingMatrix → Refusal → Type 0
-IsRingError a b refusal = (HasNoMatrix a refusal ⊎ HasNoMatrix b refusal)
+IsRingError a b refusal = IsEitherEmpty a b refusal
     ⊎ ((refusal ≡ RingMismatch) × (modulus_held a ≢ modulus_held b))

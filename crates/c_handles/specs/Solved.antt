@@ -42,16 +42,20 @@ abbrev pub IsNoSquare : Option (Compressed W64) → Refusal → Type 0
 IsNoSquare a refusal = IsEmpty a refusal
     ⊎ ((refusal ≡ ShapeMismatch) × ((plain_held a).rows ≢ (plain_held a).cols))
 
--- the error if the handle holds no square matrix, or the right-hand side does not have m values for each row
+abbrev pub IsSquare : Plain ring64 → Type 0
+IsSquare a = a.rows ≡ a.cols
+
+-- the error if the handle holds no square matrix, or else the right-hand side does not have m values for each row
 abbrev pub IsNoSystem : Option (Compressed W64) → ℕ → List ℤ → Refusal → Type 0
-IsNoSystem a m b refusal = IsNoSquare a refusal ⊎ HasWrongLength (plain_held a).rows m b refusal
+IsNoSystem a m b refusal = IsNoSquare a refusal
+    ⊎ (IsSquare (plain_held a) × HasWrongLength (plain_held a).rows m b refusal)
 
 -- the error Singular: there is a column to solve for, and some diagonal entry is missing or has no inverse
 abbrev pub IsSingularPart : Triangle → Plain ring64 → ℕ → Refusal → Type 0
 IsSingularPart triangle a m refusal =
     (refusal ≡ Singular) × (0 < m) × IsSingular ring64 w64_value (part_of triangle a)
 
--- the error of a triangular solve: the operands are not those of a square system, or its triangle is singular
+-- the error of a triangular solve: the operands are not those of a square system, or else its triangle is singular
 abbrev pub IsUnsolved : Triangle → Option (Compressed W64) → ℕ → List ℤ → Refusal → Type 0
-IsUnsolved triangle a m b refusal =
-    IsNoSystem a m b refusal ⊎ IsSingularPart triangle (plain_held a) m refusal
+IsUnsolved triangle a m b refusal = IsNoSystem a m b refusal ⊎ (IsSquare (plain_held a)
+    × (length b ≡ (plain_held a).rows * m) × IsSingularPart triangle (plain_held a) m refusal)

@@ -12,7 +12,7 @@ ghost use Rattle.c_handles.specs.Held.{plain_held};
 ghost use Rattle.c_handles.specs.Dense.{dense_product, IsDenseProductError};
 
 use crate::handle::MatrixHandle;
-use crate::held_matrix::shared;
+use crate::held::shared;
 use c_arrays::dense::dense_matrix_of;
 use c_arrays::refusal::Refusal;
 use c_arrays::writing::finish_dense;

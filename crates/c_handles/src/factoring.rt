@@ -1,23 +1,22 @@
-//! Exact factors L D Lᵀ held by handles: factorisation, solves, sharing and dropping.
+//! Exact factors L D Lᵀ held by handles: factorisation and solves.
 
 ghost use Rattle.std.specs.Prelude.{◌≡◌, Err, None, Some, IfErr, IfOk, OnOk, OnErr};
-ghost use Rattle.std.specs.Arc.{arc_value};
 ghost use Rattle.sparse_algebra.specs.WrappingValues.{w64_value};
 ghost use Rattle.c_arrays.specs.Arrays.{ring64};
 ghost use Rattle.c_arrays.specs.Refused.{IsOutOfMemoryOr};
-ghost use Rattle.c_arrays.specs.declared.refusal.Refusal.TheVariants.{EmptyHandle, OutOfMemory};
+ghost use Rattle.c_arrays.specs.declared.refusal.Refusal.TheVariants.{EmptyHandle};
 ghost use Rattle.sparse_compressed.specs.PlainOfLanes.{plain_of_cols, plain_of_rows};
 ghost use Rattle.c_handles.specs.Held.{plain_held};
-ghost use Rattle.c_handles.specs.Factored.{product_held, size_held, HasNoFactors, HasNoSystem};
+ghost use Rattle.c_handles.specs.Factored.{product_held, size_held, HasNoSystem};
 ghost use Rattle.c_handles.specs.Factored.{zero64, HoldsFactors, IsUnfactored};
 ghost use Rattle.c_handles.specs.Ordered.{AreFactorsInOrder, HoldsFactorsInOrder, IsUnfactoredInOrder};
 ghost use Rattle.c_handles.specs.Solved.{SolvesInPlace};
 ghost use Rattle.sparse_factor.specs.Factorisations.{plain_symmetric, IsFactorisation};
 ghost use Rattle.sparse_factor.specs.Factors.{diagonal};
 
-use crate::handle::{Block, FactorHandle, MatrixHandle, SharedFactors};
+use crate::handle::{FactorHandle, MatrixHandle};
+use crate::held::{put, shared};
 use crate::held_factors::HeldFactors;
-use crate::held_matrix::shared;
 use crate::ordering::permutation_of;
 use crate::solving::{Triangle, columns_of, put_dense, size_of};
 use c_arrays::dense::dense_matrix_of;
@@ -28,8 +27,6 @@ use sparse_factor::ldl::Ldl;
 use sparse_factor::ordered::OrderedLdl;
 use sparse_factor::ordered::error::OrderedFactorError;
 use std::alloc::Global;
-use std::mem;
-use std::sync::Arc;
 
 /// Stores in `out` the factors L and D of a symmetric matrix, whose entries on and above the diagonal are those of the
 /// matrix that `a` holds.
@@ -47,7 +44,7 @@ pub fn factor(alloc: Global, a: &mut MatrixHandle, out: &mut FactorHandle) -> Re
 {
     let a = shared(alloc, a)?;
     let factors = factors_of(alloc, &a)?;
-    put_factors(alloc, HeldFactors::Natural(factors), out)
+    put(alloc, HeldFactors::Natural(factors), out)
 }
 
 /// Stores in `out` the factors L and D of P A Pᵀ, with the permutation P: A is the symmetric matrix whose entries on and
@@ -75,7 +72,7 @@ pub fn factor_in_order(
 {
     let a = shared(alloc, a)?;
     let factors = factors_in_order(alloc, &a, order)?;
-    put_factors(alloc, HeldFactors::Ordered(factors), out)
+    put(alloc, HeldFactors::Ordered(factors), out)
 }
 
 /// Solves A X = B in place with the factors that a handle holds, where A is the symmetric matrix that was factored:
@@ -99,39 +96,11 @@ pub fn solve_factored(
     ensures unchanged { OnErr result (values.new ≡ values.old) }
     ensures fault { IfErr result (IsOutOfMemoryOr (HasNoSystem handle.old.value cols values.old)) }
 {
-    let factors = shared_factors(alloc, handle)?;
+    let factors = shared(alloc, handle)?;
     let mut x = dense_matrix_of(alloc, factors.size(), cols, values)?;
     factors.solve_mut(alloc, &mut x)?;
     put_dense(&x, values);
     Ok(())
-}
-
-/// Stores in `out` the factors that `a` holds: both handles share them.
-///
-/// # Errors
-///
-/// Returns `EmptyHandle` if `a` is empty. Otherwise fails only if an allocation fails. On an error `out` is unchanged.
-pub fn share_factors(
-    alloc: Global,
-    a: &mut FactorHandle,
-    out: &mut FactorHandle,
-) -> Result<(), Refusal>
-    ensures kept { a.new.value ≡ a.old.value }
-    ensures missing { a.old.value ≡ None → result ≡ Err EmptyHandle }
-    ensures done { OnOk result (out.new.value ≡ a.old.value) }
-    ensures unchanged { OnErr result (out.new.value ≡ out.old.value) }
-    ensures fault { IfErr result (IsOutOfMemoryOr (HasNoFactors a.old.value)) }
-{
-    let factors = shared_factors(alloc, a)?;
-    put_shared(alloc, factors, out)
-}
-
-/// Empties a handle, and drops the factors that it holds, if it holds any.
-pub fn clear_factors(alloc: Global, handle: &mut FactorHandle)
-    ensures { handle.new.value ≡ None }
-{
-    let old = mem::replace(handle, FactorHandle::empty());
-    discard(alloc, old);
 }
 
 // Returns the factors of the symmetric matrix whose entries on and above the diagonal are those of `a`.
@@ -165,89 +134,5 @@ fn factors_in_order(
         Err(OrderedFactorError::LengthMismatch) => Err(Refusal::InvalidStructure),
         Err(OrderedFactorError::Singular) => Err(Refusal::Singular),
         Err(OrderedFactorError::OutOfMemory) => Err(Refusal::OutOfMemory),
-    }
-}
-
-/// Returns the factors that a handle holds, with shared ownership: the handle holds them too.
-///
-/// # Errors
-///
-/// Returns `EmptyHandle` if the handle is empty. Otherwise fails only if the factors have too many owners
-/// (`OutOfMemory`).
-pub(crate) fn shared_factors(
-    alloc: Global,
-    handle: &mut FactorHandle,
-) -> Result<Arc<HeldFactors>, Refusal>
-    ensures kept { handle.new.value ≡ handle.old.value }
-    ensures missing { handle.old.value ≡ None → result ≡ Err EmptyHandle }
-    ensures factors { IfOk result (λ f. handle.old.value ≡ Some (arc_value f)) }
-    ensures fault { IfErr result (IsOutOfMemoryOr (HasNoFactors handle.old.value)) }
-{
-    let old = mem::replace(handle, FactorHandle::empty());
-    match old.into_box(alloc) {
-        None => Err(Refusal::EmptyHandle),
-        Some(held) => {
-            let factors = Arc::try_clone(&held.factors);
-            put_box(alloc, held, handle);
-            Ok(factors?)
-        }
-    }
-}
-
-// Stores factors in a handle, in place of what the handle holds. Fails only if an allocation fails; the handle is then
-// unchanged.
-fn put_factors(
-    alloc: Global,
-    factors: HeldFactors,
-    handle: &mut FactorHandle,
-) -> Result<(), Refusal>
-    ensures put { OnOk result (handle.new.value ≡ Some factors) }
-    ensures unchanged { OnErr result (handle.new.value ≡ handle.old.value) }
-    ensures memory { IfErr result (λ refusal. refusal ≡ OutOfMemory) }
-{
-    match Arc::new(alloc, factors) {
-        Ok(factors) => put_shared(alloc, factors, handle),
-        Err(failed) => {
-            drop(failed);
-            Err(Refusal::OutOfMemory)
-        }
-    }
-}
-
-// Stores factors, which other handles may share, in a handle, in place of what the handle holds. Fails only if an
-// allocation fails; the handle is then unchanged.
-fn put_shared(
-    alloc: Global,
-    factors: Arc<HeldFactors>,
-    handle: &mut FactorHandle,
-) -> Result<(), Refusal>
-    ensures put { OnOk result (handle.new.value ≡ Some (arc_value factors)) }
-    ensures unchanged { OnErr result (handle.new.value ≡ handle.old.value) }
-    ensures memory { IfErr result (λ refusal. refusal ≡ OutOfMemory) }
-{
-    match Box::new(alloc, SharedFactors { factors }) {
-        Ok(boxed) => {
-            put_box(alloc, boxed, handle);
-            Ok(())
-        }
-        Err(failed) => {
-            drop(failed);
-            Err(Refusal::OutOfMemory)
-        }
-    }
-}
-
-// Stores the factors of a box in a handle, in place of what the handle holds.
-fn put_box(alloc: Global, boxed: Box<SharedFactors>, handle: &mut FactorHandle)
-    ensures { handle.new.value ≡ Some boxed.value }
-{
-    let old = mem::replace(handle, FactorHandle::of(Block::of(boxed)));
-    discard(alloc, old);
-}
-
-// Drops the factors that a handle holds, if it holds any.
-fn discard(alloc: Global, handle: FactorHandle) {
-    if let Some(held) = handle.into_box(alloc) {
-        drop(held);
     }
 }

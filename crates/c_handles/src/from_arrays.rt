@@ -8,7 +8,7 @@ ghost use Rattle.c_arrays.specs.Refused.{IsFaultOf, IsFaultOfList, IsOutOfMemory
 ghost use Rattle.c_handles.specs.Held.{Holds};
 
 use crate::handle::MatrixHandle;
-use crate::held_matrix::put;
+use crate::held::put;
 use c_arrays::lanes::Lanes;
 use c_arrays::refusal::Refusal;
 use c_arrays::triplets::list_of;

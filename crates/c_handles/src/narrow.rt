@@ -13,7 +13,7 @@ ghost use Rattle.c_handles.specs.Held.{plain_held};
 ghost use Rattle.c_handles.specs.Narrow.{IsNarrow, IsTooWide, IsUnwrittenNarrow};
 
 use crate::handle::MatrixHandle;
-use crate::held_matrix::shared;
+use crate::held::shared;
 use c_arrays::refusal::Refusal;
 use c_arrays::scalars::put_scalars;
 use sparse_algebra::scalar::W64;

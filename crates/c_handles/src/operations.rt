@@ -9,11 +9,11 @@ ghost use Rattle.sparse_algebra.specs.Plain.{plain_sum, plain_transpose};
 ghost use Rattle.c_arrays.specs.Arrays.{ring64};
 ghost use Rattle.c_arrays.specs.Refused.{IsOutOfMemoryOr};
 ghost use Rattle.c_arrays.specs.declared.refusal.Refusal.TheVariants.{EmptyHandle};
-ghost use Rattle.c_handles.specs.Held.{plain_held, Holds, IsEmpty, IsEitherEmpty};
+ghost use Rattle.c_handles.specs.Held.{plain_held, Holds, IsEmpty};
 ghost use Rattle.c_handles.specs.Held.{IsSumError, IsProductError};
 
 use crate::handle::MatrixHandle;
-use crate::held_matrix::{put, put_shared, shared};
+use crate::held::{put, shared, shared_pair};
 use c_arrays::number::Number;
 use c_arrays::refusal::Refusal;
 use sparse_algebra::scalar::W64;
@@ -23,22 +23,6 @@ use sparse_products::transposes::transposed_csr;
 use sparse_sums::{add_csr, add_scaled_csr, scale_csr, sub_csr};
 use std::alloc::Global;
 use std::sync::Arc;
-
-/// Stores in `out` the matrix that `a` holds: both handles share it.
-///
-/// # Errors
-///
-/// Returns `EmptyHandle` if `a` is empty. Otherwise fails only if an allocation fails. On an error `out` is unchanged.
-pub fn share(alloc: Global, a: &mut MatrixHandle, out: &mut MatrixHandle) -> Result<(), Refusal>
-    ensures kept { a.new.value ≡ a.old.value }
-    ensures missing { a.old.value ≡ None → result ≡ Err EmptyHandle }
-    ensures done { OnOk result (Holds out.new.value (plain_held a.old.value)) }
-    ensures unchanged { OnErr result (out.new.value ≡ out.old.value) }
-    ensures fault { IfErr result (IsOutOfMemoryOr (IsEmpty a.old.value)) }
-{
-    let matrix = shared(alloc, a)?;
-    put_shared(alloc, matrix, out)
-}
 
 /// Stores in `out` the transpose of the matrix that `a` holds.
 ///
@@ -214,24 +198,5 @@ fn shared_alike(
     if a.nrows() != b.nrows() || a.ncols() != b.ncols() {
         return Err(Refusal::ShapeMismatch);
     }
-    Ok((a, b))
-}
-
-// Returns the matrices that two handles hold, with shared ownership.
-fn shared_pair(
-    alloc: Global,
-    a: &mut MatrixHandle,
-    b: &mut MatrixHandle,
-) -> Result<(Arc<CsrMatrix<W64>>, Arc<CsrMatrix<W64>>), Refusal>
-    ensures kept { (a.new.value ≡ a.old.value) × (b.new.value ≡ b.old.value) }
-    ensures first_missing { a.old.value ≡ None → result ≡ Err EmptyHandle }
-    ensures second_missing { b.old.value ≡ None
-        → IsErrAnd result (IsOutOfMemoryOr (IsEmpty b.old.value)) }
-    ensures first { IfOk result (λ p. a.old.value ≡ Some (arc_value p.0)) }
-    ensures second { IfOk result (λ p. b.old.value ≡ Some (arc_value p.1)) }
-    ensures fault { IfErr result (IsOutOfMemoryOr (IsEitherEmpty a.old.value b.old.value)) }
-{
-    let a = shared(alloc, a)?;
-    let b = shared(alloc, b)?;
     Ok((a, b))
 }

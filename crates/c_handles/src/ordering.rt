@@ -10,9 +10,8 @@ ghost use Rattle.c_handles.specs.Ordered.{refusal_of_order, WritesOrder, WritesS
 ghost use Rattle.c_handles.specs.Solved.{IsNoSquare};
 ghost use Rattle.sparse_permutation.specs.Permutations.{IsOrder};
 
-use crate::factoring::shared_factors;
 use crate::handle::{FactorHandle, MatrixHandle};
-use crate::held_matrix::shared;
+use crate::held::shared;
 use crate::solving::size_of;
 use c_arrays::refusal::Refusal;
 use c_arrays::scalars::put_items;
@@ -76,7 +75,7 @@ pub fn factor_order(
     ensures unchanged { OnErr result (out.new ≡ out.old) }
     ensures fault { IfErr result (IsOutOfMemoryOr (IsOrderUnwritten handle.old.value out.old)) }
 {
-    let factors = shared_factors(alloc, handle)?;
+    let factors = shared(alloc, handle)?;
     let order = factors.permutation(alloc)?;
     write_order(&order, out)
 }
@@ -122,6 +121,7 @@ fn refusal_of(error: PermutationError) -> Refusal
 // Returns an order of the rows and columns of a square matrix.
 fn order_of(alloc: Global, a: &CsrMatrix<W64>, method: Method) -> Result<Permutation, Refusal>
     ensures count { IfOk result (λ p. length p ≡ a.now.pattern.major_dim) }
+    ensures square { OnOk result (a.now.pattern.major_dim ≡ a.now.pattern.minor_dim) }
     ensures fault { IfErr result (IsOutOfMemoryOr (IsNoSquare (Some a.now))) }
 {
     size_of(a)?;

@@ -9,12 +9,11 @@ ghost use Rattle.c_arrays.specs.Rests.{KeepsRest};
 ghost use Rattle.c_arrays.specs.declared.refusal.Refusal.TheVariants.{EmptyHandle};
 ghost use Rattle.sparse_compressed.specs.PlainOfLanes.{plain_of_cols};
 ghost use Rattle.sparse_factor.specs.Factors.{diagonal};
-ghost use Rattle.c_handles.specs.Factored.{d_held, l_held, zero64, HasNoFactors};
+ghost use Rattle.c_handles.specs.Factored.{d_held, l_held, zero64};
 ghost use Rattle.c_handles.specs.Held.{plain_held, IsEmpty, IsUnwritten};
 
-use crate::factoring::shared_factors;
 use crate::handle::{FactorHandle, MatrixHandle};
-use crate::held_matrix::shared;
+use crate::held::shared;
 use c_arrays::refusal::Refusal;
 use c_arrays::writing::write_rows;
 use sparse_algebra::scalar::W64;
@@ -87,9 +86,9 @@ pub fn factor_sizes(alloc: Global, handle: &mut FactorHandle) -> Result<(usize, 
     ensures cols { IfOk result (λ sizes. sizes.0 ≡ (l_held handle.old.value).cols) }
     ensures places { IfOk result (λ sizes.
         sizes.1 ≡ place_count (plain_transpose ring64 (l_held handle.old.value))) }
-    ensures fault { IfErr result (IsOutOfMemoryOr (HasNoFactors handle.old.value)) }
+    ensures fault { IfErr result (IsOutOfMemoryOr (IsEmpty handle.old.value)) }
 {
-    let factors = shared_factors(alloc, handle)?;
+    let factors = shared(alloc, handle)?;
     let l = factors.ldl().l();
     Ok((l.nrows(), l.nnz()))
 }
@@ -111,9 +110,9 @@ pub fn copied_factors(
     ensures diagonal { IfOk result (λ s.
         diagonal ring64 w64_value zero64 s.1.items ≡ d_held handle.old.value) }
     ensures count { IfOk result (λ s. length s.1.items ≡ (l_held handle.old.value).rows) }
-    ensures fault { IfErr result (IsOutOfMemoryOr (HasNoFactors handle.old.value)) }
+    ensures fault { IfErr result (IsOutOfMemoryOr (IsEmpty handle.old.value)) }
 {
-    let factors = shared_factors(alloc, handle)?;
+    let factors = shared(alloc, handle)?;
     let ldl = factors.ldl();
     let l = ldl.l().clone(alloc)?;
     let d = Vec::from_slice(alloc, ldl.d())?;

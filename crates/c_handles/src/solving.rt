@@ -18,7 +18,7 @@ ghost use Rattle.c_handles.specs.declared.solving.Triangle.TheVariants.{Lower};
 ghost use Rattle.sparse_dense_ops.specs.Solutions.{plain_lower, IsSingular, IsSolution};
 
 use crate::handle::MatrixHandle;
-use crate::held_matrix::shared;
+use crate::held::shared;
 use c_arrays::dense::dense_matrix_of;
 use c_arrays::refusal::Refusal;
 use c_arrays::scalars::put_scalars;

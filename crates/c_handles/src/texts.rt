@@ -14,7 +14,7 @@ ghost use Rattle.c_handles.specs.Texts.{text_of_plain, HoldsMeaning, IsTextError
 ghost use Rattle.c_handles.specs.Texts.{IsTextUnwritten, TellsLength};
 
 use crate::handle::MatrixHandle;
-use crate::held_matrix::{put, shared};
+use crate::held::{put, shared};
 use c_arrays::refusal::Refusal;
 use c_arrays::scalars::put_items;
 use sparse_algebra::recall;

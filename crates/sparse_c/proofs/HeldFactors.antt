@@ -12,7 +12,8 @@ use Rattle.sparse_algebra.specs.declared.scalar.wrapping.W64.{W64}
 use Rattle.sparse_compressed.specs.Compressed.{Compressed}
 use Rattle.sparse_compressed.specs.PlainOfLanes.{plain_of_cols, plain_of_rows}
 use Rattle.sparse_factor.specs.Factors.{diagonal}
-use Rattle.c_handles.specs.Factored.{d_held, l_held, zero64, HasNoFactors}
+use Rattle.c_handles.specs.Factored.{d_held, l_held, zero64}
+use Rattle.c_handles.specs.Held.{IsEmpty}
 use Rattle.c_handles.specs.declared.held_factors.HeldFactors.{HeldFactors}
 use Rattle.sparse_c.proofs.Factoring.{same_elements}
 use Rattle.sparse_c.specs.Factors.{first_elements, HoldsFactors, WritesHeldFactors}
@@ -25,7 +26,7 @@ use Rattle.c_arrays.specs.Statuses.{number_of}
 use Rattle.c_arrays.specs.declared.refusal.Refusal.{Refusal}
 use Rattle.c_arrays.specs.declared.refusal.Refusal.TheVariants.{TooSmall}
 
-empty-not_too_small : (handle : Option HeldFactors) (e : Refusal) → HasNoFactors handle e
+empty-not_too_small : (handle : Option HeldFactors) (e : Refusal) → IsEmpty handle e
     → number_of e ≢ number_of TooSmall
 empty-not_too_small handle e fault same =
     let other : 17 ≢ 5 = omega arith in
@@ -52,7 +53,7 @@ module _ {V : Type 0} (items : V → List W64) (handle : Option HeldFactors)
   known = both _ _ answer (both _ _ answer columns pivots) count
 
   pub held_answered : (before after : OutputArrays) (old new : List ℤ) (status : ℤ)
-      → IfErr answer (IsOutOfMemoryOr (HasNoFactors handle))
+      → IfErr answer (IsOutOfMemoryOr (IsEmpty handle))
       → (status ≡ pos 0
       → MatchResult answer (λ s. HoldsFactors ring64 w64_value s.0 (items s.1) after new) (λ _. ⊥))
       → (status ≡ pos 0

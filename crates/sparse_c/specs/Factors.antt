@@ -8,7 +8,8 @@ use Rattle.sparse_compressed.specs.Compressed.{Compressed, IsSound}
 use Rattle.sparse_compressed.specs.PlainOfLanes.{plain_of_rows}
 use Rattle.sparse_factor.specs.Fill.{InFill, UpperBase}
 use Rattle.sparse_factor.specs.Factorisations.{IsFactorisation}
-use Rattle.c_handles.specs.Factored.{d_held, l_held, HasNoFactors as IsEmptyHandle}
+use Rattle.c_handles.specs.Factored.{d_held, l_held}
+use Rattle.c_handles.specs.Held.{IsEmpty}
 use Rattle.c_handles.specs.declared.held_factors.HeldFactors.{HeldFactors}
 use Rattle.sparse_c.specs.Rooms.{Shows}
 use Rattle.sparse_c.specs.Scalars.{Scalars}
@@ -110,4 +111,4 @@ pub record WritesHeldFactors (handle : Option HeldFactors) (before after : Outpu
   pub needed : status ≡ number_of TooSmall
       → after.places ≡ place_count (plain_transpose ring64 (l_held handle))
   pub refused : status ≢ pos 0
-      → IsRefusedFor (IsEmptyHandle handle) (AreHeldFactorsTooLong handle before old) status
+      → IsRefusedFor (IsEmpty handle) (AreHeldFactorsTooLong handle before old) status

@@ -1,5 +1,6 @@
 -- Calls over handles of matrices over residues.
 use Rattle.std.specs.Prelude.{◌≡◌, ◌⊎◌, ◌*◌, ℕ, ℤ, List, Option, length}
+use Rattle.sparse_algebra.specs.Algebra.{CommRing}
 use Rattle.sparse_algebra.specs.Moduli.{mod_ring}
 use Rattle.sparse_algebra.specs.Plain.{Plain, plain_product}
 use Rattle.sparse_coo_dense.specs.DensePlain.{plain_full}
@@ -13,13 +14,14 @@ use Rattle.c_arrays.specs.Refused.{HasWrongLength}
 use Rattle.c_arrays.specs.Written.{WritesRows}
 use Rattle.c_arrays.specs.declared.refusal.Refusal.{Refusal}
 use Rattle.c_arrays.specs.declared.refusal.Refusal.TheVariants.{ShapeMismatch}
-use Rattle.c_handles.specs.Rings.{arrays_held, modulus_held, residues_held, HasNoMatrix, IsRingError}
+use Rattle.c_handles.specs.Rings.{arrays_held, modulus_held, residues_held, HoldsModulo, IsRingError}
+use Rattle.c_handles.specs.Held.{Answers, IsEmpty}
 use Rattle.c_handles.specs.declared.ring_matrix.RingMatrix.{RingMatrix}
 
 -- the error of a call over one handle: it is empty, or its modulus is not listed. No call puts such a modulus behind a
 -- handle
 abbrev pub IsNoOperand : Option RingMatrix → Refusal → Type 0
-IsNoOperand handle refusal = HasNoMatrix handle refusal ⊎ IsUnlisted (modulus_held handle) refusal
+IsNoOperand handle refusal = IsEmpty handle refusal ⊎ IsUnlisted (modulus_held handle) refusal
 
 -- the error of a combination of two handles: one is empty, or their moduli differ, or else the shapes of their matrices
 -- do not fit, or the modulus is not listed
@@ -27,6 +29,14 @@ abbrev pub IsNoPair : Combination → Option RingMatrix → Option RingMatrix �
 IsNoPair how a b refusal = IsRingError a b refusal ⊎ ((modulus_held b ≡ modulus_held a)
     × (((refusal ≡ ShapeMismatch) × (HaveShapesFor how (arrays_held a) (arrays_held b) → ⊥))
     ⊎ IsUnlisted (modulus_held a) refusal))
+
+-- the contract of a call that puts the combination f of the matrices of two handles behind a third one: with the handles,
+-- the third before and after the call, and its status
+abbrev pub CombinesHeld : Combination → ((R : CommRing) → Plain R → Plain R → Plain R)
+    → Option RingMatrix → Option RingMatrix → Option RingMatrix → Option RingMatrix → ℤ → Type 0
+CombinesHeld how f a b before after status = let m = modulus_held a in
+    Answers status (IsNoPair how a b) (after ≡ before) ((modulus_held b ≡ m)
+    × HoldsModulo m after (f (mod_ring m) (residues_held m a) (residues_held m b)))
 
 -- the contract of a call that writes the matrix of a handle by rows, with the arrays before and after the call, and its
 -- status

@@ -2,6 +2,7 @@ pub mod Combinations
 pub mod Dense
 pub mod Factors
 pub mod Fills
+pub mod HeldOrders
 pub mod HeldRings
 pub mod InnerModulusLaws
 pub mod InnerTaskLaws

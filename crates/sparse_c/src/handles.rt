@@ -23,9 +23,8 @@ use crate::status::status;
 use c_arrays::lanes::Lanes;
 use c_handles::from_arrays::{put_rows, put_triplets};
 use c_handles::handle::MatrixHandle;
-use c_handles::held_matrix::clear;
+use c_handles::held::{clear, share};
 use c_handles::narrow::read_narrow;
-use c_handles::operations::share;
 use c_handles::reading::{read, sizes};
 use std::alloc::Global;
 
@@ -152,7 +151,7 @@ pub extern "C" fn nalgebra_sparse_matrix_clone(
     ensures kept { a.new.value ≡ a.old.value }
     ensures missing { a.old.value ≡ None → result ≡ number_of EmptyHandle }
     ensures answer { Answers result (IsEmpty a.old.value) (out.new.value ≡ out.old.value)
-        (Holds out.new.value (plain_held a.old.value)) }
+        (out.new.value ≡ a.old.value) }
 {
     status!(share(alloc, a, out))
 }

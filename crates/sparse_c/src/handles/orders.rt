@@ -6,8 +6,8 @@ ghost use Rattle.c_arrays.specs.declared.refusal.Refusal.TheVariants.{EmptyHandl
 ghost use Rattle.c_handles.specs.Factored.{order_held};
 ghost use Rattle.c_handles.specs.Held.{plain_held, Answers};
 ghost use Rattle.c_handles.specs.Ordered.{HoldsFactorsInOrder, IsOrderUnwritten};
-ghost use Rattle.c_handles.specs.Ordered.{IsUnfactoredInOrder, IsUnordered};
-ghost use Rattle.c_handles.specs.Ordered.{WritesOrder, WritesSomeOrder};
+ghost use Rattle.c_handles.specs.Ordered.{IsUnfactoredInOrder, WritesOrder};
+ghost use Rattle.sparse_c.specs.HeldOrders.{OrdersHeld};
 
 use crate::status::status;
 use c_handles::factoring::factor_in_order;
@@ -25,9 +25,7 @@ pub extern "C" fn nalgebra_sparse_matrix_minimum_degree(
 ) -> i32
     ensures kept { a.new.value ≡ a.old.value }
     ensures missing { a.old.value ≡ None → result ≡ number_of EmptyHandle }
-    ensures answer { Answers result (IsUnordered a.old.value out_order.old)
-        (out_order.new ≡ out_order.old)
-        (WritesSomeOrder (plain_held a.old.value).rows out_order.old out_order.new) }
+    ensures answer { OrdersHeld a.old.value out_order.old out_order.new result }
 {
     status!(order(alloc, a, Method::MinimumDegree, out_order))
 }
@@ -42,9 +40,7 @@ pub extern "C" fn nalgebra_sparse_matrix_reverse_cuthill_mckee(
 ) -> i32
     ensures kept { a.new.value ≡ a.old.value }
     ensures missing { a.old.value ≡ None → result ≡ number_of EmptyHandle }
-    ensures answer { Answers result (IsUnordered a.old.value out_order.old)
-        (out_order.new ≡ out_order.old)
-        (WritesSomeOrder (plain_held a.old.value).rows out_order.old out_order.new) }
+    ensures answer { OrdersHeld a.old.value out_order.old out_order.new result }
 {
     status!(order(alloc, a, Method::ReverseCuthillMckee, out_order))
 }

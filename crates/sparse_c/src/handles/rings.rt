@@ -12,8 +12,8 @@ ghost use Rattle.c_arrays.specs.Reduced.{IsReduced};
 ghost use Rattle.c_arrays.specs.Refused.{IsFaultOf, IsFaultOfList};
 ghost use Rattle.c_arrays.specs.Statuses.{number_of};
 ghost use Rattle.c_arrays.specs.declared.refusal.Refusal.TheVariants.{EmptyHandle, UnknownChoice};
-ghost use Rattle.c_handles.specs.Held.{Answers};
-ghost use Rattle.c_handles.specs.Rings.{arrays_held, modulus_held, HasNoMatrix, HoldsModulo};
+ghost use Rattle.c_handles.specs.Held.{Answers, IsEmpty};
+ghost use Rattle.c_handles.specs.Rings.{arrays_held, modulus_held, HoldsModulo};
 
 pub(crate) mod dense;
 pub(crate) mod operations;
@@ -24,7 +24,8 @@ use crate::handles::rings::tasks::{Task, store};
 use crate::moduli::by_modulus;
 use crate::status::status;
 use c_handles::handle::RingHandle;
-use c_handles::held_rings::{clear_ring, ring_sizes, share_ring, shared_ring};
+use c_handles::held::{clear, share, shared};
+use c_handles::held_rings::ring_sizes;
 use std::alloc::Global;
 
 /// Stores the matrix with these CSR arrays over the residues modulo a listed number in a handle.
@@ -86,7 +87,7 @@ pub extern "C" fn nalgebra_sparse_ring_matrix_sizes(
     ensures kept { a.new.value ≡ a.old.value }
     ensures missing { a.old.value ≡ None → result ≡ number_of EmptyHandle }
     ensures answer { let m = arrays_held a.old.value in
-        Answers result (HasNoMatrix a.old.value)
+        Answers result (IsEmpty a.old.value)
         ((out_modulus.new ≡ out_modulus.old) × (out_rows.new ≡ out_rows.old)
         × (out_cols.new ≡ out_cols.old) × (out_places.new ≡ out_places.old))
         ((out_modulus.new ≡ modulus_held a.old.value) × (out_rows.new ≡ m.pattern.major_dim)
@@ -122,7 +123,7 @@ pub extern "C" fn nalgebra_sparse_ring_matrix_read(
         (output_arrays out_offsets.new out_indices.new out_values.new out_places.new) result }
     ensures reduced { Shows (IsReduced (modulus_held a.old.value)) out_places.new out_values.new result }
 {
-    match shared_ring(alloc, a) {
+    match shared(alloc, a) {
         Ok(a) => {
             let mut room = room!(out_offsets, out_indices, out_values, out_places);
             by_modulus(alloc, a.modulus, Task::Rows(a.lanes()), &mut room)
@@ -140,10 +141,10 @@ pub extern "C" fn nalgebra_sparse_ring_matrix_clone(
 ) -> i32
     ensures kept { a.new.value ≡ a.old.value }
     ensures missing { a.old.value ≡ None → result ≡ number_of EmptyHandle }
-    ensures answer { Answers result (HasNoMatrix a.old.value) (out.new.value ≡ out.old.value)
+    ensures answer { Answers result (IsEmpty a.old.value) (out.new.value ≡ out.old.value)
         (out.new.value ≡ a.old.value) }
 {
-    status!(share_ring(alloc, a, out))
+    status!(share(alloc, a, out))
 }
 
 /// Empties a handle, and drops the matrix that it holds, if it holds one.
@@ -151,5 +152,5 @@ pub extern "C" fn nalgebra_sparse_ring_matrix_clone(
 pub extern "C" fn nalgebra_sparse_ring_matrix_free(alloc: Global, a: &mut RingHandle)
     ensures { a.new.value ≡ None }
 {
-    clear_ring(alloc, a);
+    clear(alloc, a);
 }

@@ -5,8 +5,8 @@ ghost use Rattle.sparse_algebra.specs.Plain.{plain_transpose};
 ghost use Rattle.c_arrays.specs.Arrays.{place_count, ring64, output_arrays};
 ghost use Rattle.c_arrays.specs.Statuses.{number_of};
 ghost use Rattle.c_arrays.specs.declared.refusal.Refusal.TheVariants.{EmptyHandle};
-ghost use Rattle.c_handles.specs.Held.{plain_held, Answers};
-ghost use Rattle.c_handles.specs.Factored.{l_held, product_held, size_held, HasNoFactors};
+ghost use Rattle.c_handles.specs.Held.{plain_held, Answers, IsEmpty};
+ghost use Rattle.c_handles.specs.Factored.{l_held, product_held, size_held};
 ghost use Rattle.c_handles.specs.Factored.{HasNoSystem, HoldsFactors, IsUnfactored};
 ghost use Rattle.c_handles.specs.Solved.{triangle_of, IsUnsolved, SolvesInPlace};
 ghost use Rattle.c_handles.specs.declared.solving.Triangle.TheVariants.{Lower, Upper};
@@ -14,8 +14,9 @@ ghost use Rattle.sparse_c.specs.Factors.{WritesHeldFactors};
 
 use crate::status::status;
 use crate::systems::factors::finish_factors;
-use c_handles::factoring::{clear_factors, factor, share_factors, solve_factored};
+use c_handles::factoring::{factor, solve_factored};
 use c_handles::handle::{FactorHandle, MatrixHandle};
+use c_handles::held::{clear, share};
 use c_handles::reading::{copied_factors, factor_sizes};
 use c_handles::solving::{Triangle, solve_triangle};
 use std::alloc::Global;
@@ -109,7 +110,7 @@ pub extern "C" fn nalgebra_sparse_factors_sizes(
     ensures kept { factors.new.value ≡ factors.old.value }
     ensures missing { factors.old.value ≡ None → result ≡ number_of EmptyHandle }
     ensures answer { let l = l_held factors.old.value in
-        Answers result (HasNoFactors factors.old.value)
+        Answers result (IsEmpty factors.old.value)
         ((out_size.new ≡ out_size.old) × (out_places.new ≡ out_places.old))
         ((out_size.new ≡ l.rows) × (out_size.new ≡ l.cols)
         × (out_places.new ≡ place_count (plain_transpose ring64 l))) }
@@ -163,10 +164,10 @@ pub extern "C" fn nalgebra_sparse_factors_clone(
 ) -> i32
     ensures kept { factors.new.value ≡ factors.old.value }
     ensures missing { factors.old.value ≡ None → result ≡ number_of EmptyHandle }
-    ensures answer { Answers result (HasNoFactors factors.old.value)
+    ensures answer { Answers result (IsEmpty factors.old.value)
         (out.new.value ≡ out.old.value) (out.new.value ≡ factors.old.value) }
 {
-    status!(share_factors(alloc, factors, out))
+    status!(share(alloc, factors, out))
 }
 
 /// Empties a handle, and drops the factors that it holds, if it holds any.
@@ -174,5 +175,5 @@ pub extern "C" fn nalgebra_sparse_factors_clone(
 pub extern "C" fn nalgebra_sparse_factors_free(alloc: Global, factors: &mut FactorHandle)
     ensures { factors.new.value ≡ None }
 {
-    clear_factors(alloc, factors);
+    clear(alloc, factors);
 }

@@ -1,4 +1,4 @@
-use Rattle.std.proofs.Common.{ℕ, List, inr, subst, refl}
+use Rattle.std.proofs.Common.{ℕ, List, inr, subst, sym, refl, ◌∙◌}
 use Rattle.sparse_algebra.specs.Plain.{Plain}
 use Rattle.sparse_algebra.specs.WrappingValues.{w64_value}
 use Rattle.c_arrays.specs.Arrays.{ring64}
@@ -20,9 +20,14 @@ pub returns-in-Err-Singular-clause-fault : goal.returns-in-Err-Singular-clause-f
 returns-in-Err-Singular-clause-fault c =
     let none = λ (p : List ℕ) (a : Plain ring64). (l : Plain ring64) (d : ℕ → ring64.Carrier)
     → IsFactorisation ring64 w64_value (permuted_symmetric p a) l d → ⊥ in
-    inr (inr (inr (
-      refl,
-      subst (λ (p : List ℕ). none p (plain_of_rows ring64 w64_value c.args.a.now))
-          c.in_ok-permutation.ensures.order (subst (none c.in_ok-permutation.permutation)
-          c.in_ok-columns.ensures (c.in-Err-Singular.ensures.singular c.in-Err-Singular.field-0-is)),
-    )))
+    inr (inr (
+      sym c.in_ok-size.ensures.rows ∙ c.in_ok-size.ensures.cols,
+      inr (
+        c.in_ok-permutation.ensures.valid,
+        c.in_ok-permutation.ensures.count ∙ c.in_ok-size.ensures.rows,
+        refl,
+        subst (λ (p : List ℕ). none p (plain_of_rows ring64 w64_value c.args.a.now))
+            c.in_ok-permutation.ensures.order (subst (none c.in_ok-permutation.permutation)
+            c.in_ok-columns.ensures (c.in-Err-Singular.ensures.singular c.in-Err-Singular.field-0-is)),
+      ),
+    ))

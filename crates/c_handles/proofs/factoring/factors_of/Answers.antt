@@ -1,4 +1,4 @@
-use Rattle.std.proofs.Common.{ℕ, inl, inr, ap, subst, ◌∙◌}
+use Rattle.std.proofs.Common.{ℕ, inl, inr, ap, subst, sym, ◌∙◌}
 use Rattle.std.proofs.lemmas.Result.{err_from_is_err_and}
 use Rattle.sparse_algebra.specs.Plain.{Plain}
 use Rattle.sparse_algebra.specs.WrappingValues.{w64_value}
@@ -24,6 +24,7 @@ returns-in_err-factors-clause-fault c =
     → IsFactorisation ring64 w64_value (plain_symmetric ring64 a) l d → ⊥ in
     rw p.1 (elim e.kinds [
       | inl singular ↦ inr (inr (
+        sym c.in_ok-size_of.ensures.rows ∙ c.in_ok-size_of.ensures.cols,
         p.2 ∙ ap refusal_of_operation singular,
         subst none c.in_ok-columns.ensures (e.singular singular),
       ))

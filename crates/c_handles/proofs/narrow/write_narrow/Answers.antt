@@ -1,9 +1,9 @@
 use Rattle.std.proofs.Common.{◌<◌, ◌≡◌, length, inl, inr, ap, sym, subst, ◌∙◌, map, refl, take}
 use Rattle.sparse_algebra.specs.Integers.{element_of}
 use Rattle.sparse_algebra.specs.WrappingValues.{w64_value}
+use Rattle.c_arrays.proofs.Holding.{HoldsRows-put}
 use Rattle.c_arrays.proofs.Meanings.{place_count-rows}
 use Rattle.c_arrays.specs.Arrays.{ring64}
-use Rattle.c_handles.proofs.NarrowRows.{HoldsRows-put}
 use Rattle.c_handles.proofs.narrow.write_narrow.Goals as goal
 
 pub returns-then-indices-count-clause-fault : goal.returns-then-indices-count-clause-fault
@@ -29,7 +29,7 @@ returns-clause-written c =
     let os = c.put_narrow.new.target in
     let is = c.put_narrow-2.new.target in
     let vs = c.put_scalars.new.target in
-    HoldsRows-put c.args.matrix.now c.csr_data.ensures.sound os is vs
+    HoldsRows-put ring64 w64_value c.args.matrix.now c.csr_data.ensures.sound os is vs
     (length c.csr_data.result.2.now)
     (subst (λ xs. take (length xs) os ≡ xs) c.csr_data.ensures.offsets c.put_narrow.ensures.written)
     (subst (λ xs. take (length xs) is ≡ xs) c.csr_data.ensures.indices

@@ -8,7 +8,7 @@ use Rattle.c_handles.proofs.operations.scale.Goals as goal
 
 pub returns-clause-done : goal.returns-clause-done
 returns-clause-done c =
-    let a = plain_of_rows-held c.args.a.now.value _ _ c.in_ok-a.ensures.matrix c.deref.ensures in
+    let a = plain_of_rows-held c.args.a.now.value _ _ c.in_ok-a.ensures.value c.deref.ensures in
     let same : to_z w64 (of_z w64 c.args.factor) ≡ c.args.factor = search rules in
     let factor = c.from_number.ensures ∙ ap (element_of ring64) same in
     OnOk-Holds c.put.result c.put.new.handle.value _ _ c.put.ensures.put

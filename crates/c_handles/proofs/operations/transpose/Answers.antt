@@ -6,6 +6,6 @@ use Rattle.c_handles.proofs.operations.transpose.Goals as goal
 
 pub returns-clause-done : goal.returns-clause-done
 returns-clause-done c =
-    let a = plain_of_rows-held c.args.a.now.value _ _ c.in_ok-a.ensures.matrix c.deref.ensures in
+    let a = plain_of_rows-held c.args.a.now.value _ _ c.in_ok-a.ensures.value c.deref.ensures in
     OnOk-Holds c.put.result c.put.new.handle.value _ _ c.put.ensures.put
     (c.in_ok-transpose.ensures ∙ (λ i. plain_transpose ring64 (a i)))

@@ -5,4 +5,4 @@ use Rattle.c_handles.proofs.texts.text_of.Goals as goal
 
 pub returns-clause-text : goal.returns-clause-text
 returns-clause-text c = c.in_ok-text_of_rows.ensures ∙ ap text_of_plain
-    (plain_of_rows-held c.args.a.now.value _ _ c.in_ok-a.ensures.matrix c.deref.ensures)
+    (plain_of_rows-held c.args.a.now.value _ _ c.in_ok-a.ensures.value c.deref.ensures)

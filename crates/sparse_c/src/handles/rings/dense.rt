@@ -11,7 +11,7 @@ ghost use Rattle.c_handles.specs.Rings.{arrays_held, modulus_held};
 use crate::arguments::{DenseOperands, Numbers};
 use crate::moduli::by_modulus;
 use c_handles::handle::RingHandle;
-use c_handles::held_rings::shared_ring;
+use c_handles::held::shared;
 use c_handles::ring_matrix::RingMatrix;
 use std::alloc::Global;
 
@@ -32,7 +32,7 @@ pub extern "C" fn nalgebra_sparse_ring_matrix_multiply_dense(
     ensures reduced { Shows (IsReduced (modulus_held a.old.value))
         ((arrays_held a.old.value).pattern.major_dim * cols) out_values.new result }
 {
-    match shared_ring(alloc, a) {
+    match shared(alloc, a) {
         Ok(a) => write_product(alloc, &a, cols, b_values, out_values),
         Err(refusal) => refusal.status(),
     }

@@ -9,20 +9,21 @@ ghost use Rattle.sparse_algebra.specs.Plain.{plain_difference, plain_product};
 ghost use Rattle.sparse_algebra.specs.Plain.{plain_scaled, plain_sum};
 ghost use Rattle.sparse_algebra.specs.Plain.{plain_transpose};
 ghost use Rattle.sparse_c.specs.Combinations.{combined_by, HaveShapesFor};
-ghost use Rattle.sparse_c.specs.HeldRings.{IsNoOperand, IsNoPair};
+ghost use Rattle.sparse_c.specs.HeldRings.{CombinesHeld, IsNoOperand, IsNoPair};
 ghost use Rattle.sparse_c.specs.declared.arguments.Combination.TheVariants.{Difference, Multiples};
 ghost use Rattle.sparse_c.specs.declared.arguments.Combination.TheVariants.{Product, Sum};
 ghost use Rattle.c_arrays.specs.Refused.{IsOutOfMemoryOr};
 ghost use Rattle.c_arrays.specs.Statuses.{number_of};
 ghost use Rattle.c_arrays.specs.declared.refusal.Refusal.TheVariants.{EmptyHandle, OutOfMemory};
-ghost use Rattle.c_handles.specs.Held.{Answers};
-ghost use Rattle.c_handles.specs.Rings.{modulus_held, residues_held, HasNoMatrix, HoldsModulo};
+ghost use Rattle.c_handles.specs.Held.{Answers, IsEmpty};
+ghost use Rattle.c_handles.specs.Rings.{modulus_held, residues_held, HoldsModulo};
 
 use crate::arguments::{Combination, Multiple, Pair};
 use crate::handles::rings::tasks::{Task, store};
 use c_arrays::refusal::Refusal;
 use c_handles::handle::RingHandle;
-use c_handles::held_rings::{shared_ring, shared_ring_pair};
+use c_handles::held::shared;
+use c_handles::held_rings::shared_ring_pair;
 use c_handles::ring_matrix::RingMatrix;
 use sparse_csr_csc::csr::CsrMatrix;
 use std::alloc::Global;
@@ -41,7 +42,7 @@ pub extern "C" fn nalgebra_sparse_ring_matrix_transpose(
         Answers result (IsNoOperand a.old.value) (out.new.value ≡ out.old.value) (HoldsModulo m
         out.new.value (plain_transpose (mod_ring m) (residues_held m a.old.value))) }
 {
-    match shared_ring(alloc, a) {
+    match shared(alloc, a) {
         Ok(a) => store(alloc, a.modulus, Task::Transpose(a.lanes()), out),
         Err(refusal) => refusal.status(),
     }
@@ -61,7 +62,7 @@ pub extern "C" fn nalgebra_sparse_ring_matrix_scale(
         Answers result (IsNoOperand a.old.value) (out.new.value ≡ out.old.value) (HoldsModulo m
         out.new.value (plain_scaled ring (element_of ring factor) (residues_held m a.old.value))) }
 {
-    match shared_ring(alloc, a) {
+    match shared(alloc, a) {
         Ok(a) => {
             let multiple = Multiple {
                 factor,
@@ -85,10 +86,8 @@ pub extern "C" fn nalgebra_sparse_ring_matrix_add(
     ensures first_missing { a.old.value ≡ None → result ≡ number_of EmptyHandle }
     ensures second_missing { b.old.value ≡ None
         → (result ≡ number_of EmptyHandle) ⊎ (result ≡ number_of OutOfMemory) }
-    ensures answer { let m = modulus_held a.old.value in
-        Answers result (IsNoPair Sum a.old.value b.old.value) (out.new.value ≡ out.old.value)
-        ((modulus_held b.old.value ≡ m) × HoldsModulo m out.new.value (plain_sum (mod_ring m)
-        (residues_held m a.old.value) (residues_held m b.old.value))) }
+    ensures answer { CombinesHeld Sum (λ ring a b. plain_sum ring a b)
+        a.old.value b.old.value out.old.value out.new.value result }
 {
     combine(alloc, Combination::Sum, (1, 1), a, b, out)
 }
@@ -105,11 +104,8 @@ pub extern "C" fn nalgebra_sparse_ring_matrix_subtract(
     ensures first_missing { a.old.value ≡ None → result ≡ number_of EmptyHandle }
     ensures second_missing { b.old.value ≡ None
         → (result ≡ number_of EmptyHandle) ⊎ (result ≡ number_of OutOfMemory) }
-    ensures answer { let m = modulus_held a.old.value in
-        Answers result (IsNoPair Difference a.old.value b.old.value)
-        (out.new.value ≡ out.old.value) ((modulus_held b.old.value ≡ m)
-        × HoldsModulo m out.new.value (plain_difference (mod_ring m)
-        (residues_held m a.old.value) (residues_held m b.old.value))) }
+    ensures answer { CombinesHeld Difference (λ ring a b. plain_difference ring a b)
+        a.old.value b.old.value out.old.value out.new.value result }
 {
     combine(alloc, Combination::Difference, (1, 1), a, b, out)
 }
@@ -128,12 +124,10 @@ pub extern "C" fn nalgebra_sparse_ring_matrix_add_scaled(
     ensures first_missing { a.old.value ≡ None → result ≡ number_of EmptyHandle }
     ensures second_missing { b.old.value ≡ None
         → (result ≡ number_of EmptyHandle) ⊎ (result ≡ number_of OutOfMemory) }
-    ensures answer { let m = modulus_held a.old.value in let ring = mod_ring m in
-        Answers result (IsNoPair Multiples a.old.value b.old.value)
-        (out.new.value ≡ out.old.value) ((modulus_held b.old.value ≡ m)
-        × HoldsModulo m out.new.value (plain_sum ring
-        (plain_scaled ring (element_of ring alpha) (residues_held m a.old.value))
-        (plain_scaled ring (element_of ring beta) (residues_held m b.old.value)))) }
+    ensures answer { CombinesHeld Multiples
+        (λ ring a b. plain_sum ring (plain_scaled ring (element_of ring alpha) a)
+        (plain_scaled ring (element_of ring beta) b))
+        a.old.value b.old.value out.old.value out.new.value result }
 {
     combine(alloc, Combination::Multiples, (alpha, beta), a, b, out)
 }
@@ -150,10 +144,8 @@ pub extern "C" fn nalgebra_sparse_ring_matrix_multiply(
     ensures first_missing { a.old.value ≡ None → result ≡ number_of EmptyHandle }
     ensures second_missing { b.old.value ≡ None
         → (result ≡ number_of EmptyHandle) ⊎ (result ≡ number_of OutOfMemory) }
-    ensures answer { let m = modulus_held a.old.value in
-        Answers result (IsNoPair Product a.old.value b.old.value) (out.new.value ≡ out.old.value)
-        ((modulus_held b.old.value ≡ m) × HoldsModulo m out.new.value (plain_product (mod_ring m)
-        (residues_held m a.old.value) (residues_held m b.old.value))) }
+    ensures answer { CombinesHeld Product (λ ring a b. plain_product ring a b)
+        a.old.value b.old.value out.old.value out.new.value result }
 {
     combine(alloc, Combination::Product, (1, 1), a, b, out)
 }
@@ -171,11 +163,9 @@ fn combine(
     ensures first_missing { a.old.value ≡ None → result ≡ number_of EmptyHandle }
     ensures second_missing { b.old.value ≡ None
         → (result ≡ number_of EmptyHandle) ⊎ (result ≡ number_of OutOfMemory) }
-    ensures answer { let m = modulus_held a.old.value in let ring = mod_ring m in
-        Answers result (IsNoPair how a.old.value b.old.value) (out.new.value ≡ out.old.value)
-        ((modulus_held b.old.value ≡ m) × HoldsModulo m out.new.value (combined_by ring how
-        (element_of ring scales.0) (residues_held m a.old.value)
-        (element_of ring scales.1) (residues_held m b.old.value))) }
+    ensures answer { CombinesHeld how (λ ring a b. combined_by ring how
+        (element_of ring scales.0) a (element_of ring scales.1) b)
+        a.old.value b.old.value out.old.value out.new.value result }
 {
     match operands(alloc, how, a, b) {
         Ok((a, b)) => {
@@ -202,7 +192,7 @@ fn operands(
     ensures kept { (a.new.value ≡ a.old.value) × (b.new.value ≡ b.old.value) }
     ensures first_missing { a.old.value ≡ None → result ≡ Err EmptyHandle }
     ensures second_missing { b.old.value ≡ None
-        → IsErrAnd result (IsOutOfMemoryOr (HasNoMatrix b.old.value)) }
+        → IsErrAnd result (IsOutOfMemoryOr (IsEmpty b.old.value)) }
     ensures first { IfOk result (λ p. a.old.value ≡ Some (arc_value p.0)) }
     ensures second { IfOk result (λ p. b.old.value ≡ Some (arc_value p.1)) }
     ensures ring { IfOk result (λ p. (arc_value p.1).modulus ≡ (arc_value p.0).modulus) }

@@ -28,7 +28,7 @@ use c_arrays::number::Number;
 use c_arrays::refusal::Refusal;
 use c_arrays::writing::finish_rows;
 use c_handles::handle::RingHandle;
-use c_handles::held_rings::put_ring;
+use c_handles::held::put;
 use c_handles::ring_matrix::{RingMatrix, numbers_of};
 use sparse_csr_csc::csr::CsrMatrix;
 use sparse_products::transposes::transposed_csr;
@@ -62,7 +62,7 @@ pub(crate) fn store(alloc: Global, modulus: u64, task: Task<'_>, out: &mut RingH
     let status = by_modulus(alloc, modulus, task, &mut matrix);
     match matrix {
         None => status,
-        Some(matrix) => status!(put_ring(alloc, RingMatrix { modulus, matrix }, out)),
+        Some(matrix) => status!(put(alloc, RingMatrix { modulus, matrix }, out)),
     }
 }
 

@@ -1,29 +1,20 @@
--- `Send` for `FactorHandle`: shared factors may be sent to another thread, and any thread may free a heap block.
-use mir.Raw.{raw}
-use base.Shift.{Keyless}
+-- `Send` for `FactorHandle`: what it shares may be sent to another thread, and any thread may free a heap block.
 use denote.Builtin.{RawPtr}
-use denote.Memory.{lone}
-use denote.RawPtr.{Ptr}
-use denote.Param.Send.{IsSend, owning_send, struct_send, sendable}
-use denote.Struct.Owning.{shape, fields, to}
+use denote.Param.Send.{owning_send, sendable, struct_send, IsSend}
+use denote.Struct.Owning.{fields, shape, to}
 use denote.Struct.Struct.{exits_of}
-use Rattle.std.specs.Prelude.{Option, None, Some}
-use Rattle.std_alloc.proofs.SendSync.{quiet, lies}
-use Rattle.std_heap.proofs.GlobalAllocator.TheSendSync.{the_frees}
-use Rattle.c_handles.specs.declared.held_factors.HeldFactors.{HeldFactors}
-use Rattle.c_handles.proofs.handle.SharedFactors.TheSendSync.{the_send as shared_send}
-use Rattle.c_handles.specs.Owned.{heap, owns_at}
+use Rattle.std_alloc.proofs.SendSync.{quiet}
+use Rattle.c_handles.proofs.held_factors.HeldFactors.TheSendSync.{the_send as factors_send, the_sync as factors_sync}
+use Rattle.c_handles.specs.contracts.held_factors.HeldFactors.{the_row as held_factors_row}
+use Rattle.c_handles.proofs.Sending.{keyless}
+use Rattle.c_handles.proofs.shared.Shared.TheSendSync.{the_send as shared_send}
+use Rattle.c_handles.specs.Rows.{factors_row}
 use Rattle.c_handles.specs.contracts.handle.FactorHandle.{the_row, the_type}
-use Rattle.c_handles.specs.contracts.handle.SharedFactors.{the_row as shared_row}
-
-owned : (p : Ptr) (x : Option HeldFactors) → Keyless (owns_at shared_row p x)
-owned p None = tt
-owned p (Some m) =
-    (lies shared_row shared_send p m, the_frees.frees heap (raw (lone shared_row.mir)) p)
 
 pub send : IsSend the_row
 send = let ps : IsSend RawPtr = search sendable in
-    owning_send the_type (ps, tt) (λ d. owned d.at d.value)
+    owning_send the_type (ps, tt) (λ d. keyless factors_row
+    (shared_send held_factors_row factors_send factors_sync) d.at d.value)
     (λ k. quiet (to the_type) (exits_of k (fields the_type)) ((struct_send (shape the_type) (
       ps,
       tt,

@@ -22,7 +22,7 @@ returns-in-Ok-clause-answered c =
     (to_z w32 (of_z w32 status)) =
     seen_rows same (read_held handle s _ _ status
     (held_parts handle _ c.deref.result.now c.deref-in-Ok.result.now c.lanes.result
-    c.in-Ok.ensures.matrix c.deref.ensures c.deref-in-Ok.ensures c.lanes.ensures.is)
+    c.in-Ok.ensures.value c.deref.ensures c.deref-in-Ok.ensures c.lanes.ensures.is)
     (subst IsSound (sym c.lanes.ensures.is) c.lanes.ensures.sound) c.by_modulus.ensures.does.answer) in
     let arrays = c.by_modulus.ensures.does.arrays in
     search rules

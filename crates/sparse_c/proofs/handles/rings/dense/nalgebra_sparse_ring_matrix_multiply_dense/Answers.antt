@@ -11,4 +11,4 @@ returns-in-Ok-clause-answered c =
     let same : to_z w32 (of_z w32 status) ≡ status = search rules in
     rw same (subst (λ (h : Option RingMatrix). WritesHeldProduct h c.args.cols c.args.b_values.now
     c.args.out_values.now c.write_product.new.out status)
-    (ap Some c.deref.ensures ∙ sym c.in-Ok.ensures.matrix) c.write_product.ensures.answered)
+    (ap Some c.deref.ensures ∙ sym c.in-Ok.ensures.value) c.write_product.ensures.answered)

@@ -18,5 +18,5 @@ returns-in-Ok-clause-answer c =
     rw (sym fits) (computed_from_one c.store.new.out.value same
     (λ m a. plain_scaled (mod_ring m) (element_of (mod_ring m) factor) a) handle s
     (held_parts handle _ c.deref-in-Ok.result.now c.deref.result.now c.lanes.result
-    c.in-Ok.ensures.matrix c.deref-in-Ok.ensures c.deref.ensures c.lanes.ensures.is)
+    c.in-Ok.ensures.value c.deref-in-Ok.ensures c.deref.ensures c.lanes.ensures.is)
     (subst IsSound (sym c.lanes.ensures.is) c.lanes.ensures.sound) c.store.ensures.answer)

@@ -14,5 +14,5 @@ returns-in-Ok-clause-answer c =
     let s : RingMatrix = record { modulus = c.deref.result.now.modulus; matrix = c.lanes.result } in
     computed_from_one c.store.new.out.value same (λ m a. plain_transpose (mod_ring m) a) handle s
     (held_parts handle _ c.deref.result.now c.deref-in-Ok.result.now c.lanes.result
-    c.in-Ok.ensures.matrix c.deref.ensures c.deref-in-Ok.ensures c.lanes.ensures.is)
+    c.in-Ok.ensures.value c.deref.ensures c.deref-in-Ok.ensures c.lanes.ensures.is)
     (subst IsSound (sym c.lanes.ensures.is) c.lanes.ensures.sound) c.store.ensures.answer
