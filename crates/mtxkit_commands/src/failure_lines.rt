@@ -6,9 +6,9 @@ ghost use Rattle.std.specs.Fmt.{decimal};
 ghost use Rattle.std.specs.Option.{option_map};
 ghost use Rattle.mtxkit_texts.specs.Statuses.{status_of};
 ghost use Rattle.mtxkit_commands.specs.Names.{fault_line, with_line, name_text};
-ghost use Rattle.mtxkit_commands.specs.Commands.{write_status};
-ghost use Rattle.mtxkit_commands.specs.Names.{IsErrorLine, IsReported, IsWritten};
-ghost use Rattle.mtxkit_commands.specs.Names.{IsSilent, IsWriteReported};
+ghost use Rattle.mtxkit_commands.specs.Outcomes.{write_status};
+ghost use Rattle.mtxkit_commands.specs.Reports.{IsErrorLine, IsReported, IsWritten};
+ghost use Rattle.mtxkit_commands.specs.Reports.{IsWriteReported, Tells};
 
 use mtxkit_texts::Failure;
 use sparse_io::{Sink, write_all_to};
@@ -40,9 +40,7 @@ pub(crate) fn report_write<E: Sink>(alloc: Global, kind: ErrorKind, err: &mut E)
     ensures statuses { (result ≡ 1) ⊎ (result ≡ 141) }
     ensures told { IsWriteReported kind (E.accepted err.old) (E.accepted err.new)
         (E.failures err.old) (E.failures err.new) }
-    ensures reported { result ≡ 1 → IsReported None (E.accepted err.old) (E.accepted err.new)
-        (E.failures err.old) (E.failures err.new) }
-    ensures stopped { result ≡ 141 → IsSilent (E.accepted err.old) (E.accepted err.new)
+    ensures tells { Tells (IsReported None) result (E.accepted err.old) (E.accepted err.new)
         (E.failures err.old) (E.failures err.new) }
 {
     match kind {

@@ -1,6 +1,6 @@
 use Rattle.std.proofs.Common.{subst, sym}
-use Rattle.mtxkit_commands.specs.Commands.{IsAnswer}
-use Rattle.mtxkit_commands.proofs.OrderRefusals.{one_read}
+use Rattle.mtxkit_commands.specs.Answers.{IsAnswer}
+use Rattle.mtxkit_commands.proofs.Readings.{one_read}
 use Rattle.mtxkit_commands.proofs.answers.answer_of.Goals as goal
 
 pub returns-in_ok-check_of-in-Check-clause-answer :

@@ -1,8 +1,8 @@
 use Rattle.std.proofs.Common.{inl, inr, map, string_bytes, sym, subst, ◌∙◌}
 use Rattle.std.proofs.lemmas.Result.{err_from_is_err_and}
 use Rattle.mtxkit_eval.specs.Evaluated.{IsEvalFailure, WritesValue}
-use Rattle.mtxkit_commands.specs.Commands.{IsEvalError}
-use Rattle.mtxkit_commands.specs.Names.{paths}
+use Rattle.mtxkit_commands.specs.Failures.{IsEvalError}
+use Rattle.mtxkit_arguments.specs.Files.{paths}
 use Rattle.mtxkit_commands.proofs.Evaluating.{eval-error}
 use Rattle.mtxkit_commands.proofs.evaluated.evaluated_of.Goals as goal
 

@@ -1,0 +1,5 @@
+pub mod Files
+pub mod Sizes
+pub mod Words
+pub mod Given
+pub mod Explained
