@@ -1,5 +1,6 @@
 -- Paths by their numbers.
 use Rattle.std.proofs.Common.{◌≡◌, ◌<◌, ◌≤◌, ◌≢◌, ◌-◌, ℕ, zero, suc, List, length, get_or, refl, sym, ap, ◌∙◌}
+use Rattle.std.proofs.Common.{arith}
 use Rattle.std.specs.Prelude.{slice_get, Option, Some, None, IfSome}
 use Rattle.std.specs.List.{HoldsAt}
 use Rattle.std.specs.Option.{option_map, option_copied, MatchOption}

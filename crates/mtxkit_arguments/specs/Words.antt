@@ -1,16 +1,19 @@
 -- The commands that arguments give.
-use Rattle.std.specs.Prelude.{◌≡◌, ◌≢◌, ℕ, List, codes, Option, Some, None}
+use Rattle.std.specs.Prelude.{◌≡◌, ◌≢◌, ℕ, List, codes, Option, Some, None, Bool, true, false}
+use Rattle.std.specs.Prelude.{unwrap_or}
 use Rattle.std.specs.Option.{option_map}
-use Rattle.clap.specs.Matches.{first_value, matched_of, one_text, raw_values, subcommand_name_of}
+use Rattle.clap.specs.Matches.{first_value, matched_of, raw_values, subcommand_name_of}
 use Rattle.clap.specs.Simple.{subcommand_rows_of}
 use Rattle.clap.specs.Walk.{rows_of}
 use Rattle.clap.specs.declared.parser.matches.ArgMatches.{ArgMatches}
 use Rattle.clap.specs.declared.parser.matches.Found.{Found}
-use Rattle.sparse_expr.specs.declared.calculator.OutputOrder.TheVariants.{Rows}
+use Rattle.sparse_expr.specs.declared.calculator.OutputOrder.{OutputOrder}
+use Rattle.sparse_expr.specs.declared.calculator.OutputOrder.TheVariants.{Rows, Cols}
 use Rattle.mtxkit_texts.specs.declared.facts.Form.{Form}
-use Rattle.mtxkit_texts.specs.declared.facts.Form.TheVariants.{Lines}
+use Rattle.mtxkit_texts.specs.declared.facts.Form.TheVariants.{Lines, Json}
 use Rattle.mtxkit_arguments.specs.Files.{target_file, paths}
-use Rattle.mtxkit_arguments.specs.Sizes.{default_size}
+use Rattle.mtxkit_arguments.specs.Optional.{GivesFlag, GivesNumber}
+use Rattle.mtxkit_arguments.specs.Sizes.{size_given}
 use Rattle.mtxkit_matrices.specs.declared.orders.EliminationOrder.{EliminationOrder}
 use Rattle.mtxkit_matrices.specs.declared.orders.EliminationOrder.TheVariants as elimination
 use Rattle.mtxkit_patterns.specs.declared.square.Method.{Method}
@@ -25,6 +28,7 @@ use Rattle.mtxkit_arguments.specs.declared.commands.Command.TheVariants.{Eval}
 use Rattle.mtxkit_arguments.specs.declared.options.FillOrder.{FillOrder}
 use Rattle.mtxkit_arguments.specs.declared.options.FillOrder.TheVariants as fill
 use Rattle.mtxkit_arguments.specs.declared.options.Target.{Target}
+use Rattle.mtxkit_arguments.specs.declared.options.Target.TheVariants.{Bitmap, Blocks, Svg}
 use Rattle.mtxkit_arguments.specs.declared.options.Values.{Values}
 use Rattle.mtxkit_arguments.specs.declared.options.Values.TheVariants.{Integers, Pattern}
 
@@ -83,32 +87,62 @@ GivesElimination (Some name) order = name ≡ elimination_name order
 abbrev pub IsArgument : Found → List ℕ → List ℕ → Type 0
 IsArgument words name text = first_value words name ≡ Some text
 
--- the output file is the one that the argument names, if any; - names the standard output, which is no file
-abbrev pub IsNamedFile : Option (List ℕ) → Option (List ℕ) → Type 0
-IsNamedFile None file = file ≡ None
-IsNamedFile (Some path) file =
-    (path ≡ codes "-" → file ≡ None) × (path ≢ codes "-" → file ≡ Some path)
+-- the target of a picture without an output file, by the flags for block characters and for SVG
+abbrev pub shown_on : Bool → Bool → Target
+shown_on true svg = Blocks
+shown_on false true = Svg
+shown_on false false = Bitmap
+
+-- the target is the output file that is named, if any; - names the standard output, which is no file
+abbrev pub IsTargetOf : Found → Option (List ℕ) → Target → Type 0
+IsTargetOf words None target = (text svg : Bool) × GivesFlag words (codes "text") text
+    × GivesFlag words (codes "svg") svg × (target ≡ shown_on text svg)
+IsTargetOf words (Some path) target = (path ≡ codes "-" → target ≡ Bitmap)
+    × (path ≢ codes "-" → target_file target ≡ Some path)
 
 -- the arguments with this name are these texts
 abbrev pub AreArguments : Found → List ℕ → List (List ℕ) → Type 0
 AreArguments words name texts = option_map raw_values (matched_of words name) ≡ Some texts
 
--- facts are written as lines unless the arguments give a flag
-abbrev pub GivesForm : Found → Form → Type 0
-GivesForm words form = one_text words (codes "json") ≡ None → form ≡ Lines
+-- facts are written as lines unless a flag is given
+abbrev pub form_for : Bool → Form
+form_for true = Json
+form_for false = Lines
 
--- the command has the files, the field and the output file that these arguments name, and the default size, scale or
--- modulus if the arguments give none
+abbrev pub GivesForm : Found → Form → Type 0
+GivesForm words form = (json : Bool) × GivesFlag words (codes "json") json × (form ≡ form_for json)
+
+-- entries are written row by row unless a flag is given
+abbrev pub order_for : Bool → OutputOrder
+order_for true = Cols
+order_for false = Rows
+
+abbrev pub GivesOutputOrder : Found → OutputOrder → Type 0
+GivesOutputOrder words order =
+    (columns : Bool) × GivesFlag words (codes "columns") columns × (order ≡ order_for columns)
+
+-- the size, the scale and the modulus are those that are given; the default size and the scale 0 if none is
+abbrev pub GivesSize : Found → Target → ℕ → Type 0
+GivesSize words target size = (given : Option ℕ) × GivesNumber 64 words (codes "size") given
+    × (size ≡ size_given given target)
+
+abbrev pub GivesScale : Found → ℕ → Type 0
+GivesScale words scale =
+    (given : Option ℕ) × GivesNumber 32 words (codes "scale") given × (scale ≡ unwrap_or given 0)
+
+abbrev pub GivesModulus : Found → Option ℕ → Type 0
+GivesModulus words modulus = GivesNumber 64 words (codes "mod") modulus
+
+-- the command has the files, the field, the output file, the flags and the numbers that these arguments give
 abbrev pub GivesCommand : Found → Command → Type 0
 GivesCommand words (Info file form) = IsArgument words (codes "FILE") file.now × GivesForm words form
 GivesCommand words (Spy file size target) = IsArgument words (codes "FILE") file.now
-    × IsNamedFile (first_value words (codes "output")) (target_file target)
-    × (one_text words (codes "size") ≡ None → size ≡ default_size target)
+    × IsTargetOf words (first_value words (codes "output")) target × GivesSize words target size
 GivesCommand words (Copy file) = IsArgument words (codes "FILE") file.now
 GivesCommand words (Field file values) =
     IsArgument words (codes "FILE") file.now × IsArgument words (codes "FIELD") (field_name values)
-GivesCommand words (Integer file scale) = IsArgument words (codes "FILE") file.now
-    × (one_text words (codes "scale") ≡ None → scale ≡ 0)
+GivesCommand words (Integer file scale) =
+    IsArgument words (codes "FILE") file.now × GivesScale words scale
 GivesCommand words (Symmetric file) = IsArgument words (codes "FILE") file.now
 GivesCommand words (Order file method) = IsArgument words (codes "FILE") file.now
     × GivesMethod (first_value words (codes "METHOD")) method
@@ -118,14 +152,13 @@ GivesCommand words (Fill file order form) = IsArgument words (codes "FILE") file
     × (GivesOrder (first_value words (codes "order")) order × GivesForm words form)
 GivesCommand words (Eval modulus order expression files) =
     IsArgument words (codes "EXPR") expression.now × AreArguments words (codes "FILE") (paths files.now)
-    × (one_text words (codes "columns") ≡ None → order ≡ Rows)
-    × (one_text words (codes "mod") ≡ None → modulus ≡ None)
+    × GivesOutputOrder words order × GivesModulus words modulus
 GivesCommand words (Solve modulus order a b) = IsArgument words (codes "A") a.now
-    × IsArgument words (codes "B") b.now × (one_text words (codes "mod") ≡ None → modulus ≡ None)
+    × IsArgument words (codes "B") b.now × GivesModulus words modulus
     × GivesElimination (first_value words (codes "order")) order
 GivesCommand words (Check modulus a x b) = IsArgument words (codes "A") a.now
     × IsArgument words (codes "X") x.now × IsArgument words (codes "B") b.now
-    × (one_text words (codes "mod") ≡ None → modulus ≡ None)
+    × GivesModulus words modulus
 
 -- the command is that of the subcommand that `clap` met, and the subcommand's arguments give it
 pub record IsGiven (matches : ArgMatches) (command : Command) : Type 0 where

@@ -1,13 +1,13 @@
 //! The choices that arguments make: targets, sizes, orders and forms.
 
-ghost use Rattle.clap.specs.Matches.{found_of, first_value, one_text};
-ghost use Rattle.std.specs.Prelude.{◌≡◌, ◌<◌, IfSome, None, codes};
+ghost use Rattle.clap.specs.Matches.{found_of, first_value};
+ghost use Rattle.std.specs.Prelude.{◌≡◌, ◌<◌, IfSome, codes};
 ghost use Rattle.std.specs.Option.{option_map};
-ghost use Rattle.sparse_expr.specs.declared.calculator.OutputOrder.TheVariants.{Rows};
-ghost use Rattle.mtxkit_arguments.specs.Files.{target_file};
+ghost use Rattle.mtxkit_arguments.specs.Optional.{GivesFlag};
 ghost use Rattle.mtxkit_arguments.specs.Sizes.{size_given};
-ghost use Rattle.mtxkit_arguments.specs.Words.{field_name, GivesElimination, GivesForm};
-ghost use Rattle.mtxkit_arguments.specs.Words.{GivesMethod, GivesOrder, IsNamedFile};
+ghost use Rattle.mtxkit_arguments.specs.Words.{field_name, shown_on, IsTargetOf};
+ghost use Rattle.mtxkit_arguments.specs.Words.{GivesElimination, GivesForm, GivesMethod, GivesModulus};
+ghost use Rattle.mtxkit_arguments.specs.Words.{GivesOrder, GivesOutputOrder, GivesScale, GivesSize};
 
 use crate::options::{FillOrder, Target, Values};
 use clap::ArgMatches;
@@ -20,7 +20,7 @@ use sparse_expr::OutputOrder;
 pub(crate) fn form_of(words: &ArgMatches<'_>) -> Form
     ensures { GivesForm (found_of words.now) result }
 {
-    if words.get_flag("json") {
+    if flag(words, "json") {
         Form::Json
     } else {
         Form::Lines
@@ -30,20 +30,37 @@ pub(crate) fn form_of(words: &ArgMatches<'_>) -> Form
 /// Returns the target of a picture: the output file that is named, or else block characters, SVG or a bitmap. The name
 /// `-` is that of the standard output.
 pub(crate) fn target_of<'a>(words: &ArgMatches<'a>) -> Target<'a>
-    ensures { IsNamedFile (first_value (found_of words.now) (codes "output"))
-        (target_file result) }
+    ensures { IsTargetOf (found_of words.now) (first_value (found_of words.now) (codes "output"))
+        result }
 {
     match words.get_str("output") {
         Some("-") => Target::Bitmap,
         Some(path) => Target::File(path),
-        None if words.get_flag("text") => Target::Blocks,
-        None if words.get_flag("svg") => Target::Svg,
-        None => Target::Bitmap,
+        None => shown_on(flag(words, "text"), flag(words, "svg")),
     }
 }
 
-/// Returns the size that was given, if it is not 0, or else one that fits a terminal or a page.
-pub(crate) fn size_of(given: Option<usize>, target: Target<'_>) -> usize
+// Returns the target of a picture without an output file, by the flags for block characters and for SVG.
+fn shown_on<'a>(text: bool, svg: bool) -> Target<'a>
+    ensures { result ≡ shown_on text svg }
+{
+    match (text, svg) {
+        (true, _) => Target::Blocks,
+        (false, true) => Target::Svg,
+        (false, false) => Target::Bitmap,
+    }
+}
+
+/// Returns the size of a picture, which is not 0.
+pub(crate) fn size_of(words: &ArgMatches<'_>, target: Target<'_>) -> usize
+    ensures some { 0 < result }
+    ensures given { GivesSize (found_of words.now) target.entry result }
+{
+    size_given(words.get_one::<usize>("size"), target)
+}
+
+// Returns the size that was given, if it is not 0, or else one that fits a terminal or a page.
+fn size_given(given: Option<usize>, target: Target<'_>) -> usize
     ensures some { 0 < result }
     ensures given { result ≡ size_given given target.entry }
 {
@@ -53,6 +70,20 @@ pub(crate) fn size_of(given: Option<usize>, target: Target<'_>) -> usize
         (_, Target::Svg) => 128,
         (_, _) => 512,
     }
+}
+
+/// Returns the power of ten by which numbers are multiplied, 0 unless one is given.
+pub(crate) fn scale_of(words: &ArgMatches<'_>) -> u32
+    ensures { GivesScale (found_of words.now) result }
+{
+    words.get_one::<u32>("scale").unwrap_or(0)
+}
+
+/// Returns the modulus, if one is given.
+pub(crate) fn modulus_of(words: &ArgMatches<'_>) -> Option<u64>
+    ensures { GivesModulus (found_of words.now) result }
+{
+    words.get_one::<u64>("mod")
 }
 
 /// Returns whether this field is written with values.
@@ -97,9 +128,9 @@ pub(crate) fn fill_order<'a>(name: Option<&'a str>) -> FillOrder<'a>
 
 /// Returns the order in which entries are written.
 pub(crate) fn output_order(words: &ArgMatches<'_>) -> OutputOrder
-    ensures { one_text (found_of words.now) (codes "columns") ≡ None → result ≡ Rows }
+    ensures { GivesOutputOrder (found_of words.now) result }
 {
-    if words.get_flag("columns") {
+    if flag(words, "columns") {
         OutputOrder::Cols
     } else {
         OutputOrder::Rows
@@ -119,4 +150,11 @@ pub(crate) fn elimination_order(name: Option<&str>) -> Option<EliminationOrder>
         "rcm" => Some(EliminationOrder::ReverseCuthillMckee),
         _ => None,
     }
+}
+
+// Returns whether a flag is given.
+fn flag(words: &ArgMatches<'_>, name: &str) -> bool
+    ensures { GivesFlag (found_of words.now) name.now result }
+{
+    words.get_flag(name)
 }

@@ -6,7 +6,8 @@ ghost use Rattle.mtxkit_arguments.specs.Sizes.{IsSized};
 ghost use Rattle.mtxkit_arguments.specs.Words.{command_name, GivesCommand, IsGiven};
 
 use crate::choices::{
-    elimination_order, fill_order, form_of, method_of, output_order, size_of, target_of, values_of,
+    elimination_order, fill_order, form_of, method_of, modulus_of, output_order, scale_of, size_of,
+    target_of, values_of,
 };
 use crate::commands::Command;
 use clap::ArgMatches;
@@ -61,7 +62,7 @@ fn spy_of<'a>(words: &ArgMatches<'a>) -> Option<Command<'a>>
 {
     let file = words.get_str("FILE")?;
     let target = target_of(words);
-    let size = size_of(words.get_one::<usize>("size"), target);
+    let size = size_of(words, target);
     Some(Command::Spy { file, size, target })
 }
 
@@ -91,7 +92,7 @@ fn integer_of<'a>(words: &ArgMatches<'a>) -> Option<Command<'a>>
     ensures given { IfSome result (GivesCommand (found_of words.now)) }
 {
     let file = words.get_str("FILE")?;
-    let scale = words.get_one::<u32>("scale").unwrap_or(0);
+    let scale = scale_of(words);
     Some(Command::Integer { file, scale })
 }
 
@@ -142,7 +143,7 @@ fn eval_of<'m, 'a>(words: &'m ArgMatches<'a>) -> Option<Command<'m>>
 {
     let files = words.get_strs("FILE")?;
     Some(Command::Eval {
-        modulus: words.get_one::<u64>("mod"),
+        modulus: modulus_of(words),
         order: output_order(words),
         words: words.get_str("EXPR")?,
         files,
@@ -154,7 +155,7 @@ fn solve_of<'a>(words: &ArgMatches<'a>) -> Option<Command<'a>>
     ensures named { IfSome result (λ command. command_name command ≡ codes "solve") }
     ensures given { IfSome result (GivesCommand (found_of words.now)) }
 {
-    let modulus = words.get_one::<u64>("mod");
+    let modulus = modulus_of(words);
     let order = elimination_order(words.get_str("order"))?;
     let a = words.get_str("A")?;
     let b = words.get_str("B")?;
@@ -171,7 +172,7 @@ fn check_of<'a>(words: &ArgMatches<'a>) -> Option<Command<'a>>
     ensures named { IfSome result (λ command. command_name command ≡ codes "check") }
     ensures given { IfSome result (GivesCommand (found_of words.now)) }
 {
-    let modulus = words.get_one::<u64>("mod");
+    let modulus = modulus_of(words);
     let a = words.get_str("A")?;
     let x = words.get_str("X")?;
     let b = words.get_str("B")?;

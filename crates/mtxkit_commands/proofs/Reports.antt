@@ -1,13 +1,14 @@
 -- A line of an error was written, or none for an output that its reader has closed.
 use Rattle.std.proofs.Common.{◌≡◌, ℕ, List, Option, None, Result, Ok, Err, IfOk, IfErr, refl, inl}
-use Rattle.std.proofs.Common.{inr, codes, arith, sym, subst, ◌∙◌}
+use Rattle.std.proofs.Common.{inr, arith, sym, subst, ◌∙◌, ◌≢◌}
 use Rattle.std.specs.declared.io.ErrorKind.{ErrorKind}
 use Rattle.std.specs.declared.io.ErrorKind.TheVariants as io
-use Rattle.mtxkit_texts.specs.declared.failure.Failure.TheVariants.{Usage}
-use Rattle.mtxkit_commands.specs.Names.{error_file}
+use Rattle.mtxkit_texts.specs.declared.failure.Failure.{Failure}
+use Rattle.mtxkit_texts.specs.declared.failure.Failure.TheVariants.{OutOfMemory, Usage}
+use Rattle.mtxkit_commands.specs.Names.{error_file, fault_line, fault_names, with_line}
 use Rattle.mtxkit_commands.specs.Outcomes.{error_status, write_status, IsStatus}
 use Rattle.mtxkit_commands.specs.Reports.{HasReport, IsErrorLine, IsErrorReported, IsReported}
-use Rattle.mtxkit_commands.specs.Reports.{IsSilent, IsWriteReported, IsWritten, Tells}
+use Rattle.mtxkit_commands.specs.Reports.{IsSilent, IsWriteReported, IsWritten, memory_line, Tells}
 use Rattle.mtxkit_commands.specs.declared.command_error.CommandError.{CommandError}
 use Rattle.mtxkit_commands.specs.declared.command_error.CommandError.TheVariants.{Failed}
 use Rattle.mtxkit_commands.specs.declared.command_error.CommandError.TheVariants.{Unscaled}
@@ -16,17 +17,25 @@ use Rattle.mtxkit_commands.specs.declared.command_error.CommandError.TheVariants
 use Rattle.mtxkit_commands.specs.declared.command_error.CommandError.TheVariants.{Unwritten}
 use Rattle.mtxkit_arguments.specs.declared.commands.Command.{Command}
 
--- the line of the error was written, or the one that says that an allocation failed
+-- the line was written, or the one that says that an allocation failed
 pub reported : {S E : Type 0} (text : S → List ℕ) (made : Result S E) (path : Option (List ℕ))
     (old new : Option (List ℕ)) (before after : ℕ)
     → IfOk made (λ line. IsErrorLine path (text line))
     → IfOk made (λ line. IsWritten (text line) old new before after)
-    → IfErr made (λ _. IsWritten (codes "mtxkit: out of memory\n") old new before after)
+    → IfErr made (λ _. IsWritten memory_line old new before after)
     → IsReported path old new before after
 reported text (Ok line) path old new before after names written memory =
     record { line = text line; names = inl names; written = written }
 reported text (Err e) path old new before after names written memory =
-    record { line = codes "mtxkit: out of memory\n"; names = inr refl; written = memory }
+    record { line = memory_line; names = inr refl; written = memory }
+
+-- there was no line, so the one that says that an allocation failed was written
+pub memory_reported : {S E : Type 0} (made : Result S E) (failure : Failure)
+    (old new : Option (List ℕ)) (before after : ℕ) → IfOk made (λ _. failure ≢ OutOfMemory)
+    → IfErr made (λ _. IsWritten memory_line old new before after) → failure ≡ OutOfMemory
+    → IsWritten memory_line old new before after
+memory_reported (Ok line) failure old new before after not memory is = absurd (not is)
+memory_reported (Err e) failure old new before after not memory is = memory
 
 write_status-is : (kind : ErrorKind) → IsStatus (write_status kind)
 write_status-is io.BrokenPipe = inr refl
@@ -60,9 +69,18 @@ module _ (old new : Option (List ℕ)) (before after : ℕ) where
   silent_at_141 io.BrokenPipe is told = told
   silent_at_141 kind is told = absurd (omega (arith, is))
 
+  pub failure_reported : (command : Command) (failure : Failure)
+      → IsReported (with_line (fault_names command failure) (fault_line failure)) old new before after
+      → (failure ≡ OutOfMemory → IsWritten memory_line old new before after)
+      → IsErrorReported command (Failed failure) old new before after
+  failure_reported command OutOfMemory told memory = memory refl
+  failure_reported command failure told memory = told
+
   -- the line of an error with status 1 was written
   written_of_error : (command : Command) (error : CommandError) → error_status error ≡ 1
       → IsErrorReported command error old new before after → HasReport old new before after
+  written_of_error command (Failed OutOfMemory) is told =
+      (None, record { line = memory_line; names = inr refl; written = told })
   written_of_error command (Failed failure) is told =
       (error_file command (Failed failure), told)
   written_of_error command (Unscaled error least) is told =

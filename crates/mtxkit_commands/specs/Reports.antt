@@ -3,9 +3,11 @@ use Rattle.std.specs.Prelude.{◌≡◌, ◌⊎◌, ℕ, ◌+◌, List, ◌++◌
 use Rattle.std.specs.Io.KnownBytes.{Appends}
 use Rattle.std.specs.declared.io.ErrorKind.{ErrorKind}
 use Rattle.std.specs.declared.io.ErrorKind.TheVariants as io
+use Rattle.mtxkit_texts.specs.declared.failure.Failure.TheVariants.{OutOfMemory}
 use Rattle.mtxkit_arguments.specs.declared.commands.Command.{Command}
 use Rattle.mtxkit_commands.specs.Names.{error_file, name_text}
 use Rattle.mtxkit_commands.specs.declared.command_error.CommandError.{CommandError}
+use Rattle.mtxkit_commands.specs.declared.command_error.CommandError.TheVariants.{Failed}
 use Rattle.mtxkit_commands.specs.declared.command_error.CommandError.TheVariants.{Unwritten}
 
 -- the line begins with the program's name and the path of the file, if there is one
@@ -13,9 +15,12 @@ abbrev pub IsErrorLine : Option (List ℕ) → List ℕ → Type 0
 IsErrorLine path line =
     (rest : List ℕ) × (line ≡ (codes "mtxkit: " ++ name_text path) ++ rest)
 
--- the line says that an allocation failed
+-- the line that says that an allocation failed
+abbrev pub memory_line : List ℕ
+memory_line = codes "mtxkit: out of memory\n"
+
 abbrev pub IsMemoryLine : List ℕ → Type 0
-IsMemoryLine line = line ≡ codes "mtxkit: out of memory\n"
+IsMemoryLine line = line ≡ memory_line
 
 -- a text was appended, or a write of it failed: the number of failed writes rose by 1
 abbrev pub IsWritten : List ℕ → Option (List ℕ) → Option (List ℕ) → ℕ → ℕ → Type 0
@@ -49,9 +54,11 @@ abbrev pub IsWriteReported : ErrorKind → Option (List ℕ) → Option (List �
 IsWriteReported io.BrokenPipe old new before after = IsSilent old new before after
 IsWriteReported kind old new before after = IsReported None old new before after
 
--- an error of the command was reported
+-- an error of the command was reported; for an allocation that failed the line says so
 abbrev pub IsErrorReported : Command → CommandError → Option (List ℕ) → Option (List ℕ) → ℕ → ℕ
     → Type 0
+IsErrorReported command (Failed OutOfMemory) old new before after =
+    IsWritten memory_line old new before after
 IsErrorReported command (Unwritten kind) old new before after =
     IsWriteReported kind old new before after
 IsErrorReported command error old new before after =

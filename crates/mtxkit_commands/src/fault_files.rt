@@ -3,9 +3,10 @@
 ghost use Rattle.std.specs.Prelude.{◌≡◌, ◌++◌, IfOk, OnOk, Some, string_bytes};
 ghost use Rattle.std.specs.Option.{option_map};
 ghost use Rattle.mtxkit_texts.specs.Statuses.{status_of};
+ghost use Rattle.mtxkit_texts.specs.declared.failure.Failure.TheVariants.{OutOfMemory};
 ghost use Rattle.mtxkit_commands.specs.Names.{after_comma, fault_file, fault_line, fault_names};
 ghost use Rattle.mtxkit_commands.specs.Names.{file_names, is_shared, with_line};
-ghost use Rattle.mtxkit_commands.specs.Reports.{IsReported};
+ghost use Rattle.mtxkit_commands.specs.Reports.{IsReported, IsWritten, memory_line};
 
 use crate::failure_lines::{report, write_line};
 use mtxkit_arguments::Command;
@@ -26,6 +27,8 @@ pub(crate) fn report_failure<E: Sink>(
     ensures reported { IsReported
         (with_line (fault_names command.entry failure) (fault_line failure))
         (E.accepted err.old) (E.accepted err.new) (E.failures err.old) (E.failures err.new) }
+    ensures memory { failure ≡ OutOfMemory → IsWritten memory_line (E.accepted err.old)
+        (E.accepted err.new) (E.failures err.old) (E.failures err.new) }
 {
     if is_shared(failure) {
         report_shared(alloc, command, failure, err)
