@@ -3,7 +3,7 @@ use Rattle.std.specs.Prelude.{◌≡◌, ◌⊎◌, ◌+◌, ◌≤◌, ℕ, Lis
 use Rattle.std.specs.declared.io.Error.{Error}
 use Rattle.std.specs.declared.io.ErrorKind.{ErrorKind}
 use Rattle.std.specs.declared.io.ErrorKind.TheVariants as io
-use Rattle.std.specs.Io.KnownBytes.{Appends}
+use Rattle.std.specs.Io.KnownBytes.{Appends, Keeps}
 use Rattle.mtxkit_texts.specs.Statuses.{status_of}
 use Rattle.mtxkit_texts.specs.declared.failure.Failure.{Failure}
 use Rattle.mtxkit_texts.specs.declared.failure.Failure.TheVariants.{Unsaved}
@@ -85,3 +85,9 @@ abbrev pub HasAnswered : List Reading → List Reading → Option (List ℕ) →
 HasAnswered before after old new =
     ((command : Command) × IsAnswered command before after old new)
     ⊎ ((after ≡ before) × (text : List ℕ) × Appends old new text)
+
+-- the same, and the known bytes stayed as they were from then on
+abbrev pub HasFlushedAnswer : List Reading → List Reading → Option (List ℕ) → Option (List ℕ)
+    → Type 0
+HasFlushedAnswer before after old new =
+    (written : Option (List ℕ)) × HasAnswered before after old written × Keeps written new

@@ -1,13 +1,14 @@
 //! Runs the command that the arguments of `mtxkit` give, and returns the program's exit status.
 
 ghost use Rattle.std.specs.Prelude.{◌≡◌, ◌≢◌, ◌⊎◌, IfErr, IsTrue, None, ℕ, List};
-ghost use Rattle.std.specs.Io.KnownBytes.{Appends, Keeps};
+ghost use Rattle.std.specs.Io.KnownBytes.{Appends};
 ghost use Rattle.std.specs.IoError.{error_kind};
 ghost use Rattle.std.specs.Process.{exit_status};
 ghost use Rattle.mtxkit_arguments.specs.Given.{argument_fault};
 ghost use Rattle.mtxkit_arguments.specs.Words.{IsGiven};
 ghost use Rattle.mtxkit_arguments.specs.declared.commands.Command.{Command};
-ghost use Rattle.mtxkit_commands.specs.Outcomes.{HasAnswered, IsAnswered, IsStatus};
+ghost use Rattle.mtxkit_commands.specs.Outcomes.{HasAnswered, HasFlushedAnswer};
+ghost use Rattle.mtxkit_commands.specs.Outcomes.{IsAnswered, IsStatus};
 ghost use Rattle.mtxkit_commands.specs.Reports.{HasReport, IsReported, Tells};
 ghost use Rattle.mtxkit_commands.specs.Usage.{argument_status, IsExplainedAt};
 
@@ -80,8 +81,8 @@ where
     E: Sink,
     ensures status { IsStatus result }
     ensures flushed { result ≡ 0 → IsTrue out.new.flushed }
-    ensures answered { result ≡ 0 → HasAnswered (T.readings texts.old) (T.readings texts.new)
-        (W.contents out.old.inner) (W.contents out.new.inner) }
+    ensures answered { result ≡ 0 → HasFlushedAnswer (T.readings texts.old)
+        (T.readings texts.new) (W.contents out.old.inner) (W.contents out.new.inner) }
     ensures tells { Tells HasReport result (E.accepted err.old) (E.accepted err.new)
         (E.failures err.old) (E.failures err.new) }
     ensures unanswered { result ≡ 2 → out.new.failures ≡ out.old.failures
@@ -95,8 +96,7 @@ where
     }
 }
 
-// Runs the command that the arguments give. At status 0 the output was flushed. If no write failed, the output has the
-// whole answer or nothing.
+// Runs the command that the arguments give. At status 0 the output was flushed.
 fn run_flushed<R, T, W, E>(
     rt: &R,
     words: &[String],
@@ -111,8 +111,8 @@ where
     E: Sink,
     ensures status { IsStatus result }
     ensures flushed { result ≡ 0 → IsTrue out.new.flushed }
-    ensures answered { result ≡ 0 → HasAnswered (T.readings texts.old) (T.readings texts.new)
-        (W.contents out.old.inner) (W.contents out.new.inner) }
+    ensures answered { result ≡ 0 → HasFlushedAnswer (T.readings texts.old)
+        (T.readings texts.new) (W.contents out.old.inner) (W.contents out.new.inner) }
     ensures tells { Tells HasReport result (E.accepted err.old) (E.accepted err.new)
         (E.failures err.old) (E.failures err.new) }
     ensures unanswered { result ≡ 2 → out.new.failures ≡ out.old.failures
