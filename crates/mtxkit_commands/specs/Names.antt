@@ -1,5 +1,5 @@
 -- The files that the lines of errors name, and the lines of these files.
-use Rattle.std.specs.Prelude.{◌≡◌, ◌⊎◌, ℕ, ◌+◌, if◌then◌else◌, List, [], ◌++◌, codes, Option}
+use Rattle.std.specs.Prelude.{ℕ, if◌then◌else◌, List, [], ◌++◌, codes, Option}
 use Rattle.std.specs.Prelude.{Some, None, Bool, true, false}
 use Rattle.std.specs.Fmt.{decimal}
 use Rattle.mtxkit_matrices.specs.ScaleFailures.{faulty_line}

@@ -1,4 +1,4 @@
-use Rattle.std.proofs.Common.{inl, inr, map, string_bytes, sym, subst, ◌∙◌}
+use Rattle.std.proofs.Common.{inl, inr, map, string_bytes, sym, subst}
 use Rattle.std.proofs.lemmas.Result.{err_from_is_err_and}
 use Rattle.mtxkit_eval.specs.Evaluated.{IsEvalFailure, WritesValue}
 use Rattle.mtxkit_arguments.specs.Files.{paths}

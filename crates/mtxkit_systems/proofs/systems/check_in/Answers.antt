@@ -1,4 +1,4 @@
-use Rattle.std.proofs.Common.{Err, subst, sym, ◌∙◌}
+use Rattle.std.proofs.Common.{Err, subst, sym}
 use Rattle.sparse_coo_dense.specs.CooPlain.{plain_of_coo}
 use Rattle.mtxkit_matrices.specs.declared.solutions.CheckError.TheVariants as check
 use Rattle.mtxkit_systems.specs.Systems.{plain_of_integers, IsTested}
