@@ -38,8 +38,9 @@
  *
  * What is not proved. No contract says that OUT_OF_MEMORY is returned only if an allocation failed: by the contracts it
  * may be returned at any time. A test refuses each request for memory of small calls in turn
- * (bindings/c/test_refusals.c). This header and the programs around the library are checked by tests alone
- * (bindings/test). The caller must ensure that
+ * (bindings/c/test_refusals.c). Of several causes that apply to a call over handles, which one decides is not
+ * proved, but that an empty handle comes first is. This header and the programs around the library are checked by tests
+ * alone (bindings/test). The caller must ensure that
  *   - each pointer is not null, even where the length is 0, is aligned, and has at least as many elements as the length
  *     says (the inline functions over structs take the null pointer of an empty std::vector, and pass another one);
  *   - no array for a result overlaps another array;
@@ -874,9 +875,9 @@ int32_t nalgebra_sparse_factors_solve(nalgebra_sparse_factors *f, size_t cols, i
 int32_t nalgebra_sparse_factors_sizes(nalgebra_sparse_factors *f, size_t *out_size, size_t *out_places);
 
 /* Writes the factors behind `f` as nalgebra_sparse_factor_symmetric does: L by columns, and the diagonal of D to
- * out_diagonal. Factors with an order are those of P A P^T. out_offsets needs one number more than L has columns, out_indices and out_values one for each entry of
- * L, and out_diagonal one for each row of L. *out_places becomes the number of entries of L. In addition the call
- * allocates a copy of the factors. Statuses: TOO_SMALL.
+ * out_diagonal. Factors with an order are those of P A P^T. out_offsets needs one number more than L has columns,
+ * out_indices and out_values one for each entry of L, and out_diagonal one for each row of L. *out_places becomes the
+ * number of entries of L. In addition the call allocates a copy of the factors. Statuses: TOO_SMALL.
  */
 int32_t nalgebra_sparse_factors_read(
     nalgebra_sparse_factors *f,

@@ -13,7 +13,7 @@ use Rattle.sparse_expr.specs.declared.error.ExprError.TheVariants.{Input, Write,
 use Rattle.sparse_expr.specs.declared.error.ExprError.TheVariants.{NoSuchInput, Shape}
 use Rattle.sparse_expr.specs.declared.expr.Expr.{Expr}
 use Rattle.mtx_commands.specs.Inputs.{input_fault, IsUnread, IsUnreadAt, IsMisread}
-use Rattle.mtx_commands.specs.Writes.{IsUnwritten, NamesWrite}
+use Rattle.mtx_commands.specs.Writes.{FailsOnce, IsUnwritten, NamesWrite}
 use Rattle.mtx_commands.specs.declared.cli.Failure.{Failure}
 use Rattle.mtx_commands.specs.declared.cli.Failure.TheVariants.{NotSquare, Refused}
 
@@ -97,3 +97,9 @@ write_named_unwritten (Ok x) before after last why = tt
 write_named_unwritten (Err (Refused OutOfMemory)) before after last why = why
 write_named_unwritten (Err (Refused (Write kind))) before after last why = why
 write_named_unwritten (Err failure) before after last why = absurd why
+
+-- by the failure of a command at most one write failed
+pub FailsOnce-named : (before after : ℕ) (last : Option ErrorKind) (failure : Failure)
+    → NamesWrite before after last failure → FailsOnce before after
+FailsOnce-named before after last (Refused (Write kind)) why = inr why.0
+FailsOnce-named before after last failure why = inl why

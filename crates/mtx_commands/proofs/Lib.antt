@@ -1,4 +1,5 @@
 mod OneEntryPerLane
 mod Unwritten
 mod Failures
+mod Begun
 mod Usage

@@ -1,11 +1,15 @@
 //! Runs the command that the arguments of `mtx` give, and returns the program's exit status.
 
-ghost use Rattle.std.specs.Prelude.{◌≡◌, ◌≢◌, ◌≤◌, IfOk, IfErr, IsTrue, Err};
+ghost use Rattle.std.specs.Prelude.{◌≡◌, ◌≢◌, ◌≤◌, IfOk, IfErr, IsTrue, Err, drop, map};
+ghost use Rattle.std.specs.Prelude.{string_bytes};
 ghost use Rattle.std.specs.IoError.{error_kind};
 ghost use Rattle.std.specs.Process.{exit_status};
+ghost use Rattle.std.specs.Vec.Iter.{into_iter_items};
+ghost use Rattle.nalgebra_sparse.specs.PostfixWords.{texts};
 ghost use Rattle.sparse_expr.specs.declared.error.ExprError.TheVariants.{OutOfMemory};
-ghost use Rattle.mtx_commands.specs.Commands.{status_of, argument_fault};
+ghost use Rattle.mtx_commands.specs.Commands.{status_of, argument_fault, IsAnswered, IsCommand};
 ghost use Rattle.mtx_commands.specs.Reports.{IsReported};
+ghost use Rattle.mtx_commands.specs.Writes.{HasBegun};
 ghost use Rattle.mtx_commands.specs.declared.cli.Failure.TheVariants.{Refused};
 
 use crate::cli::{Failure, command, finish, report, views_of};
@@ -20,9 +24,10 @@ use std::rt::Files;
 /// Runs the command that the arguments give, and returns the exit status. The result is written to `out`, the line of
 /// an error to `err`.
 ///
-/// The first argument is the program's name. An argument that is not UTF-8 is wrong usage. At status 0 the output was
-/// flushed; a failed flush is reported as a failed write. At another status a line was written to `err`, unless a write
-/// of it failed.
+/// The first argument is the program's name. An argument that is not UTF-8 is wrong usage. At status 0 the result was
+/// written and the output flushed; a failed flush is reported as a failed write. At another status nothing or a part of
+/// the result was written, and a line to `err`, unless a write of it failed. The status is 2 only if the arguments are
+/// not a command.
 pub fn answer<R, W, E>(
     rt: &R,
     arguments: io::Result<Args>,
@@ -34,6 +39,14 @@ where
     W: io::Write,
     E: Sink,
     ensures status { exit_status result ≤ 2 }
+    ensures answered { IfOk arguments (λ words. exit_status result ≡ 0
+        → IsAnswered (drop 1 (map string_bytes (into_iter_items words)))
+        (W.contents out.old.inner) (W.contents out.new.inner)) }
+    ensures begun { IfOk arguments (λ words. exit_status result ≢ 0
+        → HasBegun (IsAnswered (drop 1 (map string_bytes (into_iter_items words))))
+        (W.contents out.old.inner) (W.contents out.new.inner)) }
+    ensures usage { IfOk arguments (λ words. exit_status result ≡ 2
+        → ¬ IsCommand (drop 1 (map string_bytes (into_iter_items words)))) }
     ensures flushed { exit_status result ≡ 0 → IsTrue out.new.flushed }
     ensures silent { exit_status result ≡ 0 → E.accepted err.new ≡ E.accepted err.old }
     ensures reported { exit_status result ≢ 0 → IsReported (E.accepted err.old) (E.accepted err.new)
@@ -61,6 +74,14 @@ where
     W: io::Write,
     E: Sink,
     ensures status { result ≤ 2 }
+    ensures answered { IfOk arguments (λ words. result ≡ 0
+        → IsAnswered (drop 1 (map string_bytes (into_iter_items words)))
+        (W.contents out.old.inner) (W.contents out.new.inner)) }
+    ensures begun { IfOk arguments (λ words. result ≢ 0
+        → HasBegun (IsAnswered (drop 1 (map string_bytes (into_iter_items words))))
+        (W.contents out.old.inner) (W.contents out.new.inner)) }
+    ensures usage { IfOk arguments (λ words. result ≡ 2
+        → ¬ IsCommand (drop 1 (map string_bytes (into_iter_items words)))) }
     ensures flushed { result ≡ 0 → IsTrue out.new.flushed }
     ensures silent { result ≡ 0 → E.accepted err.new ≡ E.accepted err.old }
     ensures reported { result ≢ 0 → IsReported (E.accepted err.old) (E.accepted err.new)
@@ -74,13 +95,19 @@ where
     }
 }
 
-// Runs the command that the arguments after the program's name give. At status 0 the output was flushed.
+// Runs the command that the arguments give, of which the first is the program's name. At status 0 the output was
+// flushed.
 fn run_words<R, W, E>(rt: &R, words: &[String], out: &mut Out<W>, err: &mut E) -> u8
 where
     R: Files + AllocGlobal,
     W: io::Write,
     E: Sink,
     ensures status { result ≤ 2 }
+    ensures answered { result ≡ 0 → IsAnswered (drop 1 (map string_bytes words.now))
+        (W.contents out.old.inner) (W.contents out.new.inner) }
+    ensures begun { result ≢ 0 → HasBegun (IsAnswered (drop 1 (map string_bytes words.now)))
+        (W.contents out.old.inner) (W.contents out.new.inner) }
+    ensures usage { result ≡ 2 → ¬ IsCommand (drop 1 (map string_bytes words.now)) }
     ensures flushed { result ≡ 0 → IsTrue out.new.flushed }
     ensures silent { result ≡ 0 → E.accepted err.new ≡ E.accepted err.old }
     ensures reported { result ≢ 0 → IsReported (E.accepted err.old) (E.accepted err.new)
@@ -90,29 +117,42 @@ where
     let Ok(views) = views_of(rt.alloc(), words) else {
         return report(rt.alloc(), Failure::Refused(ExprError::OutOfMemory), err);
     };
-    match command(rt, &views, out, err) {
+    match command(rt, after_name(&views), out, err) {
         0 => finish(rt.alloc(), out, err),
         status => status,
     }
 }
 
-// Returns the arguments after the program's name, or why they cannot be read.
+// Returns the words after the program's name, which is the first.
+fn after_name<'w, 'a>(words: &'w [&'a str]) -> &'w [&'a str]
+    ensures { texts result.now ≡ drop 1 (texts words.now) }
+{
+    match words {
+        [_, rest @ ..] => rest,
+        [] => words,
+    }
+}
+
+// Returns the arguments, or why they cannot be read.
 fn given_words(alloc: Global, arguments: io::Result<Args>) -> Result<Vec<String>, Failure>
+    ensures given { IfOk arguments (λ args. IfOk result
+        (λ words. words.items ≡ into_iter_items args)) }
     ensures refused { IfOk arguments (λ _. IfErr result (λ e. e ≡ Refused OutOfMemory)) }
     ensures unread { IfErr arguments (λ e. result ≡ Err (argument_fault (error_kind e))) }
 {
     match arguments {
-        Ok(arguments) => words_after_name(alloc, arguments),
+        Ok(arguments) => listed(alloc, arguments),
         Err(error) => Err(unread_arguments(error.kind())),
     }
 }
 
-// Returns the arguments after the first.
-fn words_after_name(alloc: Global, arguments: Args) -> Result<Vec<String>, Failure>
-    ensures { IfErr result (λ e. e ≡ Refused OutOfMemory) }
+// Returns the arguments in order.
+fn listed(alloc: Global, arguments: Args) -> Result<Vec<String>, Failure>
+    ensures given { IfOk result (λ words. words.items ≡ into_iter_items arguments) }
+    ensures refused { IfErr result (λ e. e ≡ Refused OutOfMemory) }
 {
     let mut words = Vec::with_capacity(alloc, arguments.len())?;
-    for word in arguments.skip(1) {
+    for word in arguments {
         words.push(word)?;
     }
     Ok(words)

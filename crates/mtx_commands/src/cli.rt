@@ -1,7 +1,8 @@
 //! The commands of `mtx`.
 
-ghost use Rattle.std.specs.Prelude.{◌≡◌, ◌≢◌, ◌≤◌, ◌↔◌, ℕ, List, length, None, OnOk, IfOk};
+ghost use Rattle.std.specs.Prelude.{◌≡◌, ◌≢◌, ◌≤◌, ◌↔◌, ℕ, List, length, None, OnOk, OnErr, IfOk};
 ghost use Rattle.std.specs.Prelude.{IfErr, IfSome, IsTrue, map, string_bytes};
+ghost use Rattle.std.specs.Io.KnownBytes.{Keeps};
 ghost use Rattle.nalgebra_sparse.specs.PostfixWords.{texts};
 ghost use Rattle.nalgebra_sparse.specs.Run.{Writes};
 ghost use Rattle.sparse_expr.specs.declared.calculator.OutputOrder.{OutputOrder};
@@ -11,7 +12,7 @@ ghost use Rattle.mtx_commands.specs.Commands.{IsAnswered, IsCommand, IsEvaluated
 ghost use Rattle.mtx_commands.specs.Commands.{triangle_name, status_of};
 ghost use Rattle.mtx_commands.specs.Fills.{HasOblong};
 ghost use Rattle.mtx_commands.specs.Reports.{IsErrorLine, IsReported};
-ghost use Rattle.mtx_commands.specs.Writes.{NamesWrite};
+ghost use Rattle.mtx_commands.specs.Writes.{FailsOnce, HasBegun, NamesWrite};
 ghost use Rattle.mtx_commands.specs.declared.cli.Failure.TheVariants.{Usage, NotSquare, Refused};
 
 use crate::fill::fill;
@@ -81,7 +82,8 @@ const OUT_OF_MEMORY: &str = "mtx: out of memory\n";
 /// Runs a command and returns its exit status.
 ///
 /// The status is 2 exactly if the words are not a command. The result is written to `out`. At a status other than 0 one
-/// line is written to `err`; an error in writing that line is ignored. All files are read before anything is written.
+/// line is written to `err`, and nothing or a part of the result to `out`; an error in writing that line is ignored. All
+/// files are read before anything is written.
 pub fn command<R, W, E>(rt: &R, words: &[&str], out: &mut W, err: &mut E) -> u8
 where
     R: Files + AllocGlobal,
@@ -90,6 +92,10 @@ where
     ensures status { result ≤ 2 }
     ensures answered { result ≡ 0
         → IsAnswered (texts words.now) (W.accepted out.old) (W.accepted out.new) }
+    ensures begun { result ≢ 0 → HasBegun (IsAnswered (texts words.now)) (W.accepted out.old)
+        (W.accepted out.new) }
+    ensures unfailed { result ≡ 0 → W.failures out.new ≡ W.failures out.old }
+    ensures failed { result ≢ 0 → FailsOnce (W.failures out.old) (W.failures out.new) }
     ensures silent { result ≡ 0 → E.accepted err.new ≡ E.accepted err.old }
     ensures quiet { result ≡ 0 → E.failures err.new ≡ E.failures err.old }
     ensures reported { result ≢ 0 → IsReported (E.accepted err.old) (E.accepted err.new)
@@ -110,6 +116,9 @@ where
     W: Sink,
     ensures answered { OnOk result
         (IsAnswered (texts words.now) (W.accepted out.old) (W.accepted out.new)) }
+    ensures begun { OnErr result
+        (HasBegun (IsAnswered (texts words.now)) (W.accepted out.old) (W.accepted out.new)) }
+    ensures unfailed { OnOk result (W.failures out.new ≡ W.failures out.old) }
     ensures unanswered { IfErr result (λ e. e ≡ Usage → W.accepted out.new ≡ W.accepted out.old) }
     ensures usage { IfErr result (λ e. e ≡ Usage → ¬ IsCommand (texts words.now)) }
     ensures proper { IfErr result (λ e. e ≢ Usage → IsCommand (texts words.now)) }
@@ -157,7 +166,7 @@ fn triangle_of(word: &str) -> Option<Triangle>
 }
 
 // Parses the expression, reads the files, and writes the expression's value.
-#[tactic(auto, using(crate::proofs::Failures::write_named_words, crate::proofs::Failures::write_named_files))]
+#[tactic(auto, using(crate::proofs::Failures::write_named_words, crate::proofs::Failures::write_named_files, crate::proofs::Begun::not_begun))]
 fn evaluate<R, W>(
     rt: &R,
     form: OutputOrder,
@@ -170,6 +179,9 @@ where
     W: Sink,
     ensures evaluated { OnOk result
         (IsEvaluated form expression.now (length paths.now) (W.accepted out.old) (W.accepted out.new)) }
+    ensures begun { OnErr result (HasBegun (IsEvaluated form expression.now (length paths.now))
+        (W.accepted out.old) (W.accepted out.new)) }
+    ensures unfailed { OnOk result (W.failures out.new ≡ W.failures out.old) }
     ensures refused { IfErr result (λ e. e ≡ Usage → ⊥) }
     ensures square { IfErr result (λ e. e ≡ NotSquare → ⊥) }
     ensures writes { IfErr result
@@ -191,6 +203,9 @@ fn write_value<W: Sink>(
 ) -> Result<(), Failure>
     ensures written { OnOk result ((read : List (List ℕ)) × (length read ≡ length sources.items)
         × Writes form read expr.now (W.accepted out.old) (W.accepted out.new)) }
+    ensures begun { OnErr result (HasBegun (Writes form (map string_bytes sources.items) expr.now)
+        (W.accepted out.old) (W.accepted out.new)) }
+    ensures unfailed { OnOk result (W.failures out.new ≡ W.failures out.old) }
     ensures refused { IfErr result (λ e. e ≡ Usage → ⊥) }
     ensures square { IfErr result (λ e. e ≡ NotSquare → ⊥) }
     ensures writes { IfErr result
@@ -215,6 +230,8 @@ where
     E: Sink,
     ensures status { result ≤ 1 }
     ensures flushed { (result ≡ 0) ↔ IsTrue out.new.flushed }
+    ensures kept { Keeps (W.contents out.old.inner) (W.contents out.new.inner) }
+    ensures unfailed { out.new.failures ≡ out.old.failures }
     ensures silent { result ≡ 0 → E.accepted err.new ≡ E.accepted err.old }
     ensures reported { result ≢ 0 → IsReported (E.accepted err.old) (E.accepted err.new)
         (E.failures err.old) (E.failures err.new) }

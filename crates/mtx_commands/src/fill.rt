@@ -1,14 +1,14 @@
 //! The command `mtx fill`: the fill of the Cholesky factor of a pattern.
 
 ghost use Rattle.std.specs.Prelude.{◌≡◌, ◌≢◌, ℕ, ◌<◌, ◌↔◌, ◌⊎◌};
-ghost use Rattle.std.specs.Prelude.{All, Err, IfOk, IfErr, OnOk, length};
+ghost use Rattle.std.specs.Prelude.{All, Err, IfOk, IfErr, OnOk, OnErr, length};
 ghost use Rattle.nalgebra_sparse.specs.Raw.{IsValid, IsEntry};
 ghost use Rattle.nalgebra_sparse.specs.Symbolic.{IsFactorOf};
 ghost use Rattle.mtx_commands.specs.Fills.{IsRead, HasOblong, WritesPattern, WritesFill};
 ghost use Rattle.mtx_commands.specs.TripletPatterns.{HasTriplet, HasOneEntryPerLane, AreNumbersTo};
 ghost use Rattle.sparse_expr.specs.declared.error.ExprError.TheVariants.{OutOfMemory};
 ghost use Rattle.mtx_commands.specs.Inputs.{IsMisread};
-ghost use Rattle.mtx_commands.specs.Writes.{write_fault, IsUnwritten, NamesWrite};
+ghost use Rattle.mtx_commands.specs.Writes.{write_fault, HasBegun, IsUnwritten, NamesWrite};
 ghost use Rattle.mtx_commands.specs.declared.cli.Failure.TheVariants.{Usage, NotSquare, Refused};
 
 use crate::cli::Failure;
@@ -29,12 +29,15 @@ use std::rt::Files;
 ///
 /// Returns `NotSquare` if the matrix is not square, and `Refused` if the file cannot be read, a write fails or an
 /// allocation fails.
-#[tactic(auto, using(crate::proofs::Failures::write_named_pattern, crate::proofs::Failures::write_named_unwritten))]
+#[tactic(auto, using(crate::proofs::Failures::write_named_pattern, crate::proofs::Failures::write_named_unwritten, crate::proofs::Begun::not_begun))]
 pub fn fill<R, W>(rt: &R, triangle: Triangle, path: &str, out: &mut W) -> Result<(), Failure>
 where
     R: Files + AllocGlobal,
     W: Sink,
     ensures filled { OnOk result (WritesFill triangle (W.accepted out.old) (W.accepted out.new)) }
+    ensures begun { OnErr result
+        (HasBegun (WritesFill triangle) (W.accepted out.old) (W.accepted out.new)) }
+    ensures unfailed { OnOk result (W.failures out.new ≡ W.failures out.old) }
     ensures refused { IfErr result (λ e. e ≡ Usage → ⊥) }
     ensures not_square { IfErr result (λ e. e ≡ NotSquare → HasOblong) }
     ensures writes { IfErr result
@@ -75,7 +78,7 @@ fn square_pattern_of(alloc: Global, triplets: &CooMatrix<()>) -> Result<Sparsity
 }
 
 // Writes a pattern, column by column.
-#[tactic(auto, using(crate::proofs::Unwritten::unwritten_write_fault))]
+#[tactic(auto, using(crate::proofs::Unwritten::unwritten_write_fault, crate::proofs::Begun::not_begun))]
 fn write_pattern<W: Sink>(
     alloc: Global,
     pattern: &SparsityPattern,
@@ -83,6 +86,9 @@ fn write_pattern<W: Sink>(
 ) -> Result<(), Failure>
     ensures written { OnOk result
         (WritesPattern pattern.now (W.accepted out.old) (W.accepted out.new)) }
+    ensures begun { OnErr result
+        (HasBegun (WritesPattern pattern.now) (W.accepted out.old) (W.accepted out.new)) }
+    ensures unfailed { OnOk result (W.failures out.new ≡ W.failures out.old) }
     ensures refused { IfErr result (λ e. e ≡ Usage → ⊥) }
     ensures square { IfErr result (λ e. e ≡ NotSquare → ⊥) }
     ensures unwritten { IfErr result

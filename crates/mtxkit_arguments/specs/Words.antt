@@ -9,8 +9,8 @@ use Rattle.clap.specs.declared.parser.matches.ArgMatches.{ArgMatches}
 use Rattle.clap.specs.declared.parser.matches.Found.{Found}
 use Rattle.sparse_expr.specs.declared.calculator.OutputOrder.{OutputOrder}
 use Rattle.sparse_expr.specs.declared.calculator.OutputOrder.TheVariants.{Rows, Cols}
-use Rattle.mtxkit_texts.specs.declared.facts.Form.{Form}
-use Rattle.mtxkit_texts.specs.declared.facts.Form.TheVariants.{Lines, Json}
+use Rattle.mtxkit_facts.specs.declared.facts.Form.{Form}
+use Rattle.mtxkit_facts.specs.declared.facts.Form.TheVariants.{Lines, Json}
 use Rattle.mtxkit_arguments.specs.Files.{target_file, paths}
 use Rattle.mtxkit_arguments.specs.Optional.{GivesFlag, GivesNumber}
 use Rattle.mtxkit_arguments.specs.Sizes.{size_given}

@@ -11,9 +11,9 @@ ghost use Rattle.mtxkit_arguments.specs.Words.{GivesOrder, GivesOutputOrder, Giv
 
 use crate::options::{FillOrder, Target, Values};
 use clap::ArgMatches;
+use mtxkit_facts::Form;
 use mtxkit_matrices::EliminationOrder;
 use mtxkit_patterns::Method;
-use mtxkit_texts::Form;
 use sparse_expr::OutputOrder;
 
 /// Returns how facts are written.

@@ -7,9 +7,9 @@ ghost use Rattle.mtxkit_arguments.specs.Files.{first_path, named_file, path_at, 
 ghost use Rattle.mtxkit_arguments.specs.Files.{is_saved, saved_file};
 
 use crate::options::{FillOrder, Target, Values};
+use mtxkit_facts::Form;
 use mtxkit_matrices::EliminationOrder;
 use mtxkit_patterns::Method;
-use mtxkit_texts::Form;
 use sparse_expr::OutputOrder;
 
 /// A command. Its files are given by their paths, and `-` is standard input.

@@ -2,7 +2,7 @@
 use Rattle.std.specs.Prelude.{ℕ, List, Option}
 use Rattle.sparse_expr.specs.declared.calculator.OutputOrder.{OutputOrder}
 use Rattle.mtxkit_matrices.specs.ScaledTexts.{IsScaledText}
-use Rattle.mtxkit_texts.specs.Facts.{WritesInfo}
+use Rattle.mtxkit_facts.specs.Facts.{WritesInfo}
 use Rattle.mtxkit_texts.specs.Headers.{header_in}
 use Rattle.mtxkit_texts.specs.Lower.{Symmetrised}
 use Rattle.mtxkit_texts.specs.Rewritten.{WritesIntegers, WritesPlaces, WritesCopy}

@@ -6,7 +6,7 @@ use Rattle.mtxkit_matrices.specs.ScaledTexts.{IsLeastTextScale}
 use Rattle.mtxkit_matrices.specs.declared.decimals.error.ScaleError.{ScaleError}
 use Rattle.mtxkit_patterns.specs.declared.order_error.OrderError.{OrderError}
 use Rattle.mtxkit_texts.specs.AnyField.{IsPlacesFailure}
-use Rattle.mtxkit_texts.specs.Facts.{IsInfoFailure}
+use Rattle.mtxkit_facts.specs.Facts.{IsInfoFailure}
 use Rattle.mtxkit_texts.specs.Loaded.{IsValuesFailure}
 use Rattle.mtxkit_texts.specs.Lower.{IsSymmetricFailure}
 use Rattle.mtxkit_texts.specs.Rewritten.{IsCopyFailure}

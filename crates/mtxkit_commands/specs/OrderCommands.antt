@@ -6,7 +6,7 @@ use Rattle.mtxkit_patterns.specs.Permuted.{WritesPermuted, IsUnpermuted}
 use Rattle.mtxkit_patterns.specs.declared.order_error.OrderError.{OrderError}
 use Rattle.mtxkit_patterns.specs.declared.order_error.OrderError.TheVariants as order
 use Rattle.mtxkit_patterns.specs.declared.square.Method.{Method}
-use Rattle.mtxkit_texts.specs.declared.facts.Form.{Form}
+use Rattle.mtxkit_facts.specs.declared.facts.Form.{Form}
 use Rattle.mtxkit_arguments.specs.declared.options.FillOrder.{FillOrder}
 use Rattle.mtxkit_arguments.specs.declared.options.FillOrder.TheVariants as fill
 use Rattle.mtxkit_commands.specs.Inputs.{Reading}

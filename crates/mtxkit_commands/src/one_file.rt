@@ -5,16 +5,16 @@ ghost use Rattle.mtxkit_commands.specs.Answers.{ShowsPicture, WritesValues};
 ghost use Rattle.mtxkit_commands.specs.Failures.{IsFieldFailureOf};
 ghost use Rattle.mtxkit_commands.specs.Reads.{FailsOne, ReadsOne};
 ghost use Rattle.mtxkit_texts.specs.AnyField.{IsPlacesFailure};
-ghost use Rattle.mtxkit_texts.specs.Facts.{IsInfoFailure, WritesInfo};
+ghost use Rattle.mtxkit_facts.specs.Facts.{IsInfoFailure, WritesInfo};
 ghost use Rattle.mtxkit_texts.specs.Headers.{header_in};
 ghost use Rattle.mtxkit_texts.specs.Lower.{IsSymmetricFailure, Symmetrised};
 ghost use Rattle.mtxkit_texts.specs.Rewritten.{IsCopyFailure, WritesCopy};
 
 use crate::inputs::{Texts, read_text};
 use mtxkit_arguments::{Target, Values};
+use mtxkit_facts::{Form, info_text};
 use mtxkit_texts::{
-    Failure, Form, copy_text, info_text, integer_text, places_text, spy_bitmap, spy_blocks,
-    spy_svg, symmetric_text,
+    Failure, copy_text, integer_text, places_text, spy_bitmap, spy_blocks, spy_svg, symmetric_text,
 };
 use std::alloc::Global;
 

@@ -13,10 +13,10 @@ use crate::command_error::CommandError;
 use crate::failure_lines::{push_name, write_line};
 use crate::inputs::{Texts, read_text};
 use mtxkit_arguments::FillOrder;
+use mtxkit_facts::Form;
 use mtxkit_patterns::{
     Method, OrderError, fill_text, fill_text_in_order, order_text, permute_text,
 };
-use mtxkit_texts::Form;
 use sparse_io::Sink;
 use std::alloc::{AllocError, Global};
 

@@ -1,7 +1,7 @@
 -- The values of an expression are within its extent.
-use Rattle.std.proofs.Common.{◌≡◌, ℕ, zero, suc, ◌+◌, ◌*◌, ◌≤◌, ◌<◌, ◌^◌, ◌-◌, ℤ, Bool, true, false}
-use Rattle.std.proofs.Common.{List, [], ◌∷◌, All, map, Result, Ok, Err, subst, ◌∙◌, arith}
-use Rattle.std.specs.Prelude.{◌+ℤ◌, ◌*ℤ◌, neg_ℤ, unsigned_abs, slice_get, nat_eq, ◌&&◌, if◌then◌else◌}
+use Rattle.std.proofs.Common.{◌≡◌, ℕ, zero, suc, ◌+◌, ◌*◌, ◌≤◌, ℤ, Bool, true, false}
+use Rattle.std.proofs.Common.{List, [], ◌∷◌, All, map, Result, Ok, Err, subst, arith}
+use Rattle.std.specs.Prelude.{◌+ℤ◌, ◌*ℤ◌, neg_ℤ, unsigned_abs, slice_get, nat_eq, if◌then◌else◌}
 use Rattle.std.proofs.Math.Nat.{mul-le-mul_left}
 use Rattle.std.proofs.lemmas.Int.{ints, unsigned_abs-mul}
 use Rattle.std.proofs.lemmas.List.Elements.{All-head, All-tail}

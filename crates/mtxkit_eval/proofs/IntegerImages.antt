@@ -1,6 +1,7 @@
--- The images of the integers in a commutative ring: a ring homomorphism.
+-- The images of the integers in a commutative ring: the only ring homomorphism from the integers.
 use Rattle.std.proofs.Common.{◌≡◌, ℕ, zero, suc, ℤ, pos, negsuc, ◌+◌, ◌*◌, refl, sym, ap, ◌∙◌, arith}
 use Rattle.std.specs.Prelude.{◌+ℤ◌, ◌*ℤ◌}
+use Rattle.std.proofs.lemmas.Int.{ints}
 use borrow.Author.Differences.{up, down, sum_is_lem, product_is}
 use lib.IntN.{neg_ℤ}
 use Rattle.sparse_algebra.specs.Algebra.{CommRing}
@@ -162,3 +163,17 @@ module _ (R : CommRing) where
     neg = λ a. neg_unique R (element_of R a) (element_of R (neg_ℤ a))
         (sym (image-add a (neg_ℤ a)) ∙ ap (element_of R) (whole_ring.laws.add_neg a) ∙ image-zero);
   }
+
+module _ (R : CommRing) (h : ℤ → R.Carrier) (is : IsRingMap whole_ring R h) where
+  map-natural : (n : ℕ) → h (pos n) ≡ times_one R n
+  unfolding times_one
+  map-natural zero = is.zero
+  map-natural (suc n) =
+      let next : pos (suc n) ≡ pos n +ℤ pos 1 = omega (arith, ints) in
+      ap h next ∙ is.add (pos n) (pos 1) ∙ ap (λ c. R.add c (h (pos 1))) (map-natural n)
+      ∙ ap (R.add (times_one R n)) is.one
+
+  pub map-integer : (z : ℤ) → h z ≡ element_of R z
+  unfolding element_of
+  map-integer (pos n) = map-natural n
+  map-integer (negsuc n) = is.neg (pos (suc n)) ∙ ap R.neg (map-natural (suc n))

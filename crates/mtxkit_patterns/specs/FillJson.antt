@@ -1,7 +1,7 @@
 -- The object of `mtxkit fill --json`.
 use Rattle.std.specs.Prelude.{ℕ, ◌-◌, List, ◌++◌, codes}
 use Rattle.std.specs.Fmt.{decimal}
-use Rattle.mtxkit_texts.specs.Json.{first_member, member, number_member, object_end}
+use Rattle.mtxkit_facts.specs.Json.{first_member, member, number_member, object_end}
 use Rattle.mtxkit_patterns.specs.Fills.{ratio}
 use Rattle.mtxkit_patterns.specs.declared.counts.FillCounts.{FillCounts}
 

@@ -1,10 +1,10 @@
 -- The text of `mtxkit fill`.
-use Rattle.std.specs.Prelude.{◌≡◌, ◌≢◌, ◌⊎◌, ℕ, List, Option, Some, None}
+use Rattle.std.specs.Prelude.{◌≡◌, ◌⊎◌, ℕ, List, Option, Some, None}
 use Rattle.sparse_pattern.specs.Raw.{Raw}
 use Rattle.sparse_permutation.specs.PermutedPatterns.{IsPermutedPattern}
 use Rattle.sparse_permutation.specs.Permutations.{IsOrder}
-use Rattle.mtxkit_texts.specs.declared.facts.Form.{Form}
-use Rattle.mtxkit_texts.specs.declared.facts.Form.TheVariants.{Lines, Json}
+use Rattle.mtxkit_facts.specs.declared.facts.Form.{Form}
+use Rattle.mtxkit_facts.specs.declared.facts.Form.TheVariants.{Lines, Json}
 use Rattle.mtxkit_patterns.specs.FillJson.{fill_json}
 use Rattle.mtxkit_patterns.specs.Fills.{AreFillCounts, fill_lines}
 use Rattle.mtxkit_patterns.specs.Orders.{MeansOrder, MeansPattern, IsMisordered, IsNoSquare}

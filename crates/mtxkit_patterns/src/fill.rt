@@ -14,7 +14,7 @@ use crate::order_reading::read_order;
 use crate::orders::square_pattern;
 use crate::permuted::fit;
 use crate::square::{Method, order_of, permuted_pattern};
-use mtxkit_texts::Form;
+use mtxkit_facts::Form;
 use sparse_algebra::recall;
 use sparse_pattern::pattern::SparsityPattern;
 use sparse_permutation::permutation::Permutation;

@@ -2,13 +2,13 @@
 
 ghost use Rattle.std.specs.Prelude.{◌≡◌, ◌++◌, IfOk, OnOk, codes, string_bytes};
 ghost use Rattle.std.specs.Fmt.{decimal};
-ghost use Rattle.mtxkit_texts.specs.Json.{first_member};
+ghost use Rattle.mtxkit_facts.specs.Json.{first_member};
 ghost use Rattle.mtxkit_patterns.specs.FillJson.{cost_members, fill_json, fill_members};
 ghost use Rattle.mtxkit_patterns.specs.FillJson.{place_members};
 
 use crate::counts::FillCounts;
 use crate::fill_lines::{fill_of, ratio_text};
-use mtxkit_texts::{push_end, push_first, push_member, push_number};
+use mtxkit_facts::{push_end, push_first, push_member, push_number};
 use std::alloc::{AllocError, Global};
 
 /// Returns the object of these counts.

@@ -1,7 +1,6 @@
 //! Writes matrices whose rows and columns are permuted alike.
 
-ghost use Rattle.std.specs.Prelude.{◌≡◌, IfOk, IfErr, OnOk, length, string_bytes, true, false};
-ghost use Rattle.mtxkit_texts.specs.Headers.{header_in, is_pattern, is_pattern_field};
+ghost use Rattle.std.specs.Prelude.{◌≡◌, IfOk, IfErr, OnOk, length, string_bytes};
 ghost use Rattle.mtxkit_patterns.specs.Orders.{MeansOrder};
 ghost use Rattle.mtxkit_patterns.specs.Permuted.{IsMisfit, IsMisfitPattern, IsMisfitMatrix};
 ghost use Rattle.mtxkit_patterns.specs.Permuted.{IsUnpermuted, WritesPermuted};
@@ -11,9 +10,8 @@ use crate::order_error::OrderError;
 use crate::order_reading::read_order;
 use crate::orders::load_pattern;
 use crate::square::permuted_pattern;
-use mtxkit_texts::{Failure, header_of, load_values, write_pattern};
+use mtxkit_texts::{Failure, load_values, names_pattern, write_pattern};
 use sparse_io::{Banner, save_to_matrix_market_str_with};
-use sparse_parser::header::Field;
 use sparse_permutation::permutation::Permutation;
 use sparse_permutation::symmetric::permute_symmetric_csr;
 use std::alloc::Global;
@@ -37,26 +35,6 @@ pub fn permute_text(alloc: Global, order: &str, text: &str) -> Result<String, Or
         permuted_pattern_text(alloc, &order, text)
     } else {
         permuted_matrix_text(alloc, &order, text)
-    }
-}
-
-// Returns whether the header of a text names the field `pattern`.
-fn names_pattern(text: &str) -> bool
-    ensures { result ≡ is_pattern (header_in text.now) }
-{
-    match header_of(text) {
-        Some(header) => is_pattern_field(header.field),
-        None => false,
-    }
-}
-
-// Returns whether the field is `pattern`.
-fn is_pattern_field(field: Field) -> bool
-    ensures { result ≡ is_pattern_field field }
-{
-    match field {
-        Field::Pattern => true,
-        Field::Integer | Field::Real | Field::Complex => false,
     }
 }
 

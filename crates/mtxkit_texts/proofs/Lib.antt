@@ -5,10 +5,11 @@ mod ListedEntries
 pub mod Revalued
 mod SumRoom
 mod TextFaults
-mod UnsupportedTexts
+pub mod UnsupportedTexts
 mod WideLists
 mod EntryLines
 mod DocumentHeaders
 mod OneWords
 mod OnesLines
+mod OnesContents
 mod OnesTexts

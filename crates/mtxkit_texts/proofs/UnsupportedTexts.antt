@@ -1,5 +1,5 @@
 -- Texts whose error is that their values are real or complex.
-use Rattle.std.proofs.Common.{◌≡◌, ◌⊎◌, ℕ, true, List, ◌∷◌, Option, Some, None, Err}
+use Rattle.std.proofs.Common.{◌≡◌, ℕ, true, List, ◌∷◌, Option, Some, None, Err}
 use Rattle.std.proofs.Common.{refl, sym, ap, ◌∙◌, inl, inr}
 use Rattle.std.specs.Int.{w128}
 use Rattle.sparse_market_scalar.specs.ScalarTypes.{signed_scalar}

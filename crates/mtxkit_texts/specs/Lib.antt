@@ -1,7 +1,3 @@
-pub mod HeaderLines
-pub mod Facts
-pub mod FactJson
-pub mod Json
 pub mod Faults
 pub mod Headers
 pub mod HighParts

@@ -17,9 +17,9 @@ use Rattle.mtxkit_matrices.specs.Differences.{IsFirstAsymmetry}
 use Rattle.mtxkit_matrices.specs.Values.{IsSymmetricMatrix}
 use Rattle.mtxkit_matrices.specs.declared.coordinates.Coordinates.{Coordinates}
 use Rattle.mtxkit_texts.specs.Loaded.{MeansMatrix, MeansValues, ring64, value64, ring128, value128}
-use Rattle.mtxkit_texts.specs.Loaded.{MeansIntegers, IsValuesFailure}
+use Rattle.mtxkit_texts.specs.Loaded.{MeansIntegers, IsLoadFailure, IsNarrow, IsValuesFailure}
 use Rattle.mtxkit_texts.specs.declared.failure.Failure.{Failure}
-use Rattle.mtxkit_texts.specs.declared.failure.Failure.TheVariants.{NotSquare, NotSymmetric}
+use Rattle.mtxkit_texts.specs.declared.failure.Failure.TheVariants.{NotSquare, NotSymmetric, Wide}
 use Rattle.sparse_parser.specs.declared.header.Field.{Field}
 use Rattle.sparse_parser.specs.declared.header.Field.TheVariants.{Pattern}
 use Rattle.sparse_parser.specs.declared.header.Header.{Header}
@@ -120,28 +120,45 @@ abbrev pub IsUnsymmetricIntegers : List ℕ → Failure → Type 0
 IsUnsymmetricIntegers text failure = IsOblongIntegers text failure ⊎ ((m : Compressed W64)
     × (MeansValues text m × IsAsymmetry ring64 value64 m failure))
 
-abbrev pub IsUnsymmetricOf : Field → List ℕ → Failure → Type 0
-IsUnsymmetricOf Pattern text failure = IsUnsymmetricPattern text failure
-IsUnsymmetricOf field text failure = IsUnsymmetricIntegers text failure
+-- the matrix of integers that the text means is square, and an integer of the text, or a sum of those with the same row
+-- and column, does not fit in 64 bits
+pub record IsSquareWide (text : List ℕ) (failure : Failure) : Type 0 where
+  pub list : Coo ℤ
+  pub means : MeansIntegers text list
+  pub square : list.nrows ≡ list.ncols
+  pub wide : IsNarrow list → ⊥
+  pub is : failure ≡ Wide 1
 
--- the header names no symmetry, and the failure says why the matrix that the text means is not symmetric
-abbrev pub IsUnsymmetricBy : Header → List ℕ → Failure → Type 0
-IsUnsymmetricBy h text failure =
-    (is_mirrored h.symmetry ≡ false) × IsUnsymmetricOf h.field text failure
+-- why the values of a square matrix are not loaded: an allocation failed, the text has an error, or a value does not
+-- fit in 64 bits
+abbrev pub IsSquareFailure : List ℕ → Failure → Type 0
+IsSquareFailure text failure = IsLoadFailure 1 text failure ⊎ IsSquareWide text failure
 
-abbrev pub IsUnsymmetricUnder : Option Header → List ℕ → Failure → Type 0
-IsUnsymmetricUnder (Some h) text failure = IsUnsymmetricBy h text failure
-IsUnsymmetricUnder None text failure = ⊥
+-- why the lower triangle is not written: the matrix is not loaded, or not symmetric. Of a matrix that is not square no
+-- value is too wide
+abbrev pub IsLowerFailure : Field → List ℕ → Failure → Type 0
+IsLowerFailure Pattern text failure =
+    IsLoadFailure 1 text failure ⊎ IsUnsymmetricPattern text failure
+IsLowerFailure field text failure =
+    IsSquareFailure text failure ⊎ IsUnsymmetricIntegers text failure
 
--- the text has a header that names no symmetry, and the failure says why its matrix is not symmetric
-abbrev pub IsUnsymmetric : List ℕ → Failure → Type 0
-IsUnsymmetric text failure = IsUnsymmetricUnder (header_in text) text failure
+abbrev pub IsFieldFailure : Field → List ℕ → Failure → Type 0
+IsFieldFailure Pattern text failure = IsLoadFailure 1 text failure
+IsFieldFailure field text failure = IsValuesFailure 1 text failure
+
+-- why all entries are not written, or the lower triangle
+abbrev pub IsAllFailure : Bool → Field → List ℕ → Failure → Type 0
+IsAllFailure true field text failure = IsFieldFailure field text failure
+IsAllFailure false field text failure = IsLowerFailure field text failure
 
 -- why `symmetric_text` fails for a text with this header
 abbrev pub IsHeaderFailure : Header → List ℕ → Failure → Type 0
-IsHeaderFailure h text failure =
-    IsValuesFailure 1 text failure ⊎ IsUnsymmetricBy h text failure
+IsHeaderFailure h text failure = IsAllFailure (is_mirrored h.symmetry) h.field text failure
+
+abbrev pub IsSymmetricFailureUnder : Option Header → List ℕ → Failure → Type 0
+IsSymmetricFailureUnder (Some h) text failure = IsHeaderFailure h text failure
+IsSymmetricFailureUnder None text failure = IsValuesFailure 1 text failure
 
 -- why `symmetric_text` fails
 abbrev pub IsSymmetricFailure : List ℕ → Failure → Type 0
-IsSymmetricFailure text failure = IsValuesFailure 1 text failure ⊎ IsUnsymmetric text failure
+IsSymmetricFailure text failure = IsSymmetricFailureUnder (header_in text) text failure

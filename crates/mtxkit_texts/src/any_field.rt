@@ -51,8 +51,13 @@ fn load_unsupported(
     }
 }
 
-/// Returns the matrix of a text with real or complex values, with the value 1 in place of each of them.
-pub(crate) fn load_ones(alloc: Global, number: usize, text: &str) -> Result<Loaded, Failure>
+/// Returns the matrix of a text whose first error is a real or complex value, with the value 1 in place of each value.
+///
+/// # Errors
+///
+/// Returns the errors of [`load`](crate::load) for the text of integers with the value 1 in place of each value, which
+/// needs memory of its own.
+pub fn load_ones(alloc: Global, number: usize, text: &str) -> Result<Loaded, Failure>
     requires { IsUnsupported text.now }
     ensures meant { IfOk result (λ l. MeansOnesText text.now l.entries l.matrix) }
     ensures sound { IfOk result (λ l. IsSound l.matrix) }

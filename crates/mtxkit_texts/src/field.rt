@@ -8,7 +8,8 @@ ghost use Rattle.mtxkit_texts.specs.Loaded.{IsLoadFailure, IsValuesFailure};
 
 use crate::any_field::load_places;
 use crate::failure::Failure;
-use crate::loaded::{load, names_pattern};
+use crate::headers::names_pattern;
+use crate::loaded::load;
 use crate::pattern_texts::write_pattern;
 use crate::values::load_values;
 use sparse_io::{Banner, save_to_matrix_market_str_with};

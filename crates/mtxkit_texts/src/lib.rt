@@ -1,15 +1,12 @@
-//! What the program `mtxkit` does with one Matrix Market text: it reads the matrix, describes it, draws its pattern, or
-//! writes it again; and the progress of reading large files.
+//! What the program `mtxkit` does with one Matrix Market text: it reads the matrix, draws its pattern, or writes it
+//! again; and the progress of reading large files.
 #![tactic(auto)]
 
 mod any_field;
 mod exact;
-mod fact_json;
-mod fact_lines;
-mod facts;
 mod failure;
 mod field;
-mod json;
+mod headers;
 mod lists;
 mod loaded;
 mod locations;
@@ -23,16 +20,14 @@ mod symmetric;
 mod values;
 mod whole;
 
-pub use any_field::load_places;
-pub use fact_lines::info_text;
-pub use facts::{Form, TextFacts, facts_of};
+pub use any_field::{load_ones, load_places};
 pub use failure::Failure;
 pub use field::{copy_text, integer_text, places_text};
-pub use json::{push_end, push_first, push_flag, push_member, push_number, quoted};
+pub use headers::{field_name, format_name, header_of, names_pattern, symmetry_name};
 pub use lists::with_values;
-pub use loaded::{Loaded, header_of, load, read_integers};
+pub use loaded::{Loaded, load, read_integers};
 pub use mtxkit_matrices::{Coordinates, Dimensions, Pivot};
-pub use pattern_texts::write_pattern;
+pub use pattern_texts::{push_decimal, write_pattern};
 pub use places::ones_of;
 pub use progress::{Screen, Terminal, progress_line, read_shown};
 pub use sparse_faults::{LineFault, Location};

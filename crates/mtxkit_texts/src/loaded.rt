@@ -7,15 +7,15 @@ ghost use Rattle.sparse_parser.specs.declared.error.MatrixMarketErrorKind.TheVar
 ghost use Rattle.sparse_parser.specs.Meaning.{Means};
 ghost use Rattle.std.specs.Int.{w128};
 ghost use Rattle.mtxkit_texts.specs.Faults.{IsMismatch, IsTextFault};
-ghost use Rattle.mtxkit_texts.specs.Headers.{header_in, is_supported, is_supported_field};
+ghost use Rattle.mtxkit_texts.specs.Headers.{header_in, is_supported};
 ghost use Rattle.sparse_faults.specs.FirstFaults.{HasError};
 ghost use Rattle.sparse_faults.specs.ValueTypes.{scalar_as};
-ghost use Rattle.mtxkit_texts.specs.Headers.{is_pattern, is_pattern_field};
 ghost use Rattle.mtxkit_texts.specs.Loaded.{MeansMatrix, MeansOnes, MeansSums, MeansIntegers};
 ghost use Rattle.mtxkit_texts.specs.Loaded.{IsRefused, IsLoadFailure, ring128, value128};
 ghost use Rattle.mtxkit_texts.specs.declared.failure.Failure.TheVariants.{OutOfMemory};
 
 use crate::failure::Failure;
+use crate::headers::{is_supported, names_pattern};
 use crate::locations::location_of;
 use crate::places::ones_of;
 use crate::sums::wide_sums;
@@ -25,8 +25,6 @@ use sparse_csr_csc::csr::CsrMatrix;
 use sparse_faults::ValueType;
 use sparse_io::load_coo_from_matrix_market_str;
 use sparse_parser::error::MatrixMarketErrorKind;
-use sparse_parser::header::{Field, Header};
-use sparse_parser::lines::{after_space, split_line};
 use std::alloc::Global;
 
 /// A matrix read from a text.
@@ -54,34 +52,6 @@ pub fn load(alloc: Global, number: usize, text: &str) -> Result<Loaded, Failure>
         load_pattern(alloc, number, text)
     } else {
         load_integers(alloc, number, text)
-    }
-}
-
-/// Returns the header of a text, if it has one.
-pub fn header_of(text: &str) -> Option<Header>
-    ensures { result ≡ header_in text.now }
-{
-    let (line, _) = split_line(after_space(text.as_bytes()));
-    Header::from_line(line)
-}
-
-// Returns whether the header of a text names the field `pattern`.
-pub(crate) fn names_pattern(text: &str) -> bool
-    ensures { result ≡ is_pattern (header_in text.now) }
-{
-    match header_of(text) {
-        Some(header) => is_pattern_field(header.field),
-        None => false,
-    }
-}
-
-// Returns whether the field is `pattern`.
-fn is_pattern_field(field: Field) -> bool
-    ensures { result ≡ is_pattern_field field }
-{
-    match field {
-        Field::Pattern => true,
-        Field::Integer | Field::Real | Field::Complex => false,
     }
 }
 
@@ -166,25 +136,5 @@ fn mismatch(number: usize, text: &str, values: ValueType) -> Failure
         Failure::Input(number, MatrixMarketErrorKind::TypeMismatch, location)
     } else {
         Failure::NotSupported(number)
-    }
-}
-
-// Returns whether the header of a text, if there is one, names integers or a pattern.
-fn is_supported(text: &str) -> bool
-    ensures { result ≡ is_supported (header_in text.now) }
-{
-    match header_of(text) {
-        Some(header) => is_supported_field(header.field),
-        None => true,
-    }
-}
-
-// Returns whether a field is `integer` or `pattern`.
-fn is_supported_field(field: Field) -> bool
-    ensures { result ≡ is_supported_field field }
-{
-    match field {
-        Field::Integer | Field::Pattern => true,
-        Field::Real | Field::Complex => false,
     }
 }

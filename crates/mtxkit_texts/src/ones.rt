@@ -10,7 +10,7 @@ ghost use Rattle.mtxkit_texts.specs.InnerOnes.{HasNoPlace, next_stage, stage_wor
 ghost use Rattle.mtxkit_texts.specs.Ones.{AreOnesOf, copied, copy_of, has_no_contents, head_words};
 ghost use Rattle.mtxkit_texts.specs.Ones.{one_words, spaced, unconjugated};
 
-use crate::fact_lines::{format_name, symmetry_name};
+use crate::headers::{format_name, symmetry_name};
 use sparse_faults::{after_end, is_comment};
 use sparse_parser::header::{Field, Format, Header, Symmetry};
 use sparse_parser::lines::{next_word, split_line};

@@ -55,11 +55,11 @@ fn push_sizes(text: &mut String, nrows: usize, ncols: usize, nnz: usize) -> Resu
     ensures { OnOk result
         (string_bytes text.new ≡ string_bytes text.old ++ size_line nrows ncols nnz) }
 {
-    push_number(text, nrows as u128)?;
+    push_decimal(text, nrows as u128)?;
     text.push_str(" ")?;
-    push_number(text, ncols as u128)?;
+    push_decimal(text, ncols as u128)?;
     text.push_str(" ")?;
-    push_number(text, nnz as u128)?;
+    push_decimal(text, nnz as u128)?;
     text.push_str("\n")
 }
 
@@ -69,13 +69,16 @@ fn push_entry(text: &mut String, row: usize, col: usize) -> Result<(), AllocErro
     ensures { OnOk result
         (string_bytes text.new ≡ string_bytes text.old ++ entry_line (row, col)) }
 {
-    push_number(text, row as u128 + 1)?;
+    push_decimal(text, row as u128 + 1)?;
     text.push_str(" ")?;
-    push_number(text, col as u128 + 1)?;
+    push_decimal(text, col as u128 + 1)?;
     text.push_str("\n")
 }
 
-fn push_number(text: &mut String, number: u128) -> Result<(), AllocError>
+/// Appends a number in decimal.
+///
+/// Fails only if an allocation fails.
+pub fn push_decimal(text: &mut String, number: u128) -> Result<(), AllocError>
     ensures { OnOk result (string_bytes text.new ≡ string_bytes text.old ++ decimal number) }
 {
     let mut digits = Buffer::new();

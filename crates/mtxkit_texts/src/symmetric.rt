@@ -4,18 +4,18 @@ ghost use Rattle.std.specs.Prelude.{◌≡◌, ◌⊎◌, ◌++◌, ℕ, List, S
 ghost use Rattle.std.specs.Prelude.{string_bytes};
 ghost use Rattle.mtxkit_texts.specs.Headers.{header_in, is_mirrored, is_pattern};
 ghost use Rattle.mtxkit_texts.specs.Lower.{IsSymmetricIntegers, IsSymmetricPattern};
-ghost use Rattle.mtxkit_texts.specs.Loaded.{IsLoadFailure, IsValuesFailure};
-ghost use Rattle.mtxkit_texts.specs.Loaded.{MeansMatrix, MeansValues};
+ghost use Rattle.mtxkit_texts.specs.Loaded.{IsLoadFailure, MeansMatrix, MeansValues};
 ghost use Rattle.mtxkit_texts.specs.Lower.{IsAsymmetry, IsOblongPattern, IsOblongIntegers};
 ghost use Rattle.mtxkit_texts.specs.Lower.{IsUnsymmetricPattern, IsUnsymmetricIntegers};
 ghost use Rattle.mtxkit_texts.specs.Lower.{WritesLowerPattern, WritesLowerIntegers, IsLowerOf};
 ghost use Rattle.mtxkit_texts.specs.Lower.{Symmetrised, SymmetrisedUnder};
-ghost use Rattle.mtxkit_texts.specs.Lower.{IsSymmetricFailure, IsHeaderFailure};
+ghost use Rattle.mtxkit_texts.specs.Lower.{IsSymmetricFailure, IsHeaderFailure, IsSquareFailure};
 ghost use Rattle.mtxkit_texts.specs.declared.failure.Failure.TheVariants.{OutOfMemory};
 
 use crate::failure::Failure;
 use crate::field::{integer_text, pattern_text};
-use crate::loaded::{header_of, read_integers, read_pattern_list};
+use crate::headers::header_of;
+use crate::loaded::{read_integers, read_pattern_list};
 use crate::pattern_texts::write_pattern;
 use crate::places::ones_of;
 use crate::values::narrow_sums;
@@ -31,7 +31,7 @@ use std::alloc::{AllocError, Global};
 /// symmetric, and the result is the text of its lower triangle, whose header says `symmetric`.
 ///
 /// Returns the errors of [`load_values`](crate::load_values). If the header names no symmetry, it returns `NotSquare`
-/// if the matrix is not square, before its duplicate entries are added, and `NotSymmetric` if it differs from its
+/// if the matrix is not square, whether or not its values fit in 64 bits, and `NotSymmetric` if it differs from its
 /// transpose.
 pub fn symmetric_text(alloc: Global, text: &str) -> Result<String, Failure>
     ensures written { IfOk result
@@ -87,7 +87,7 @@ fn lower_integers(alloc: Global, text: &str) -> Result<String, Failure>
     ensures written { IfOk result
         (λ written. WritesLowerIntegers text.now (string_bytes written)) }
     ensures refused { IfErr result
-        (λ e. IsValuesFailure 1 text.now e ⊎ IsUnsymmetricIntegers text.now e) }
+        (λ e. IsSquareFailure text.now e ⊎ IsUnsymmetricIntegers text.now e) }
 {
     let matrix = square_values(alloc, text)?;
     let lower = triangle_of(alloc, &matrix)?;
@@ -117,7 +117,7 @@ fn square_values(alloc: Global, text: &str) -> Result<CsrMatrix<W64>, Failure>
     ensures meant { IfOk result (MeansValues text.now) }
     ensures square { IfOk result (λ m. m.pattern.major_dim ≡ m.pattern.minor_dim) }
     ensures refused { IfErr result
-        (λ e. IsValuesFailure 1 text.now e ⊎ IsOblongIntegers text.now e) }
+        (λ e. IsSquareFailure text.now e ⊎ IsOblongIntegers text.now e) }
 {
     let integers = read_integers(alloc, 1, text)?;
     if integers.nrows() != integers.ncols() {

@@ -12,7 +12,8 @@ ghost use Rattle.mtxkit_texts.specs.Loaded.{IsNarrow, IsValuesFailure, MeansValu
 ghost use Rattle.mtxkit_texts.specs.declared.failure.Failure.TheVariants.{OutOfMemory, Wide};
 
 use crate::failure::Failure;
-use crate::loaded::{names_pattern, read_integers, read_pattern_list};
+use crate::headers::names_pattern;
+use crate::loaded::{read_integers, read_pattern_list};
 use crate::places::{joined, ones_of};
 use crate::sums::{are_narrow, wide_sums};
 use sparse_algebra::scalar::{W64, W128};

@@ -8,7 +8,8 @@ ghost use Rattle.mtxkit_texts.specs.declared.failure.Failure.TheVariants.{OutOfM
 
 use crate::exact::sums_fit;
 use crate::failure::Failure;
-use crate::loaded::{Loaded, load_pattern, names_pattern, read_integers};
+use crate::headers::names_pattern;
+use crate::loaded::{Loaded, load_pattern, read_integers};
 use crate::sums::wide_sums;
 use sparse_coo_dense::coo::CooMatrix;
 use std::alloc::Global;

@@ -1,12 +1,14 @@
 use Rattle.std.proofs.Common.{◌≡◌, ◌<◌, ◌≤◌, List, [], ◌∷◌, ℕ, inl}
 use Rattle.std.proofs.Common.{inr, refl, ap, ◌∙◌, length, get_or, arith}
-use Rattle.std.proofs.Common.{Result, Ok, Err, OnOk, Option}
+use Rattle.std.proofs.Common.{Result, Ok, Err, OnOk, OnErr, Option}
 use denote.Ref.{Bor}
 use Rattle.nalgebra_sparse.specs.PostfixWords.{texts}
 use Rattle.sparse_factor.specs.declared.factorization.Triangle.{Triangle}
 use Rattle.sparse_factor.specs.declared.factorization.Triangle.TheVariants.{Upper}
 use Rattle.mtx_commands.specs.Commands.{AsksFill, IsAnswered}
 use Rattle.mtx_commands.specs.Fills.{WritesFill}
+use Rattle.mtx_commands.specs.Writes.{HasBegun}
+use Rattle.mtx_commands.proofs.Begun.{HasBegun-map}
 use Rattle.mtx_commands.proofs.Usage.{IfErr-command}
 use Rattle.mtx_commands.proofs.cli.run.Goals as goal
 
@@ -43,6 +45,16 @@ OnOk-fill (Ok x) words old new triangle path asked filled =
     inr (record { triangle = triangle; path = path; asked = asked; filled = filled })
 OnOk-fill (Err e) words old new triangle path asked filled = tt
 
+-- a part of it is a part of an answer
+OnErr-fill : {T E : Type 0} (r : Result T E) (words : List (List ℕ)) (old new : Option (List ℕ))
+    (triangle : Triangle) (path : List ℕ) → AsksFill triangle path words
+    → OnErr r (HasBegun (WritesFill triangle) old new) → OnErr r (HasBegun (IsAnswered words) old new)
+OnErr-fill (Ok x) words old new triangle path asked begun = tt
+OnErr-fill (Err e) words old new triangle path asked begun = HasBegun-map old new
+    (λ whole filled.
+    inr (record { triangle = triangle; path = path; asked = asked; filled = filled }))
+    begun
+
 pub returns-in-fill-clause-answered : goal.returns-in-fill-clause-answered
 returns-in-fill-clause-answered g c =
     let (path, words) = two_words c.args.words.now _ _ c.in-fill.len_at_least c.in-fill.len_below
@@ -55,6 +67,19 @@ returns-in-Some-clause-answered g c =
     c.in-fill-2.len_below c.in-fill-2.is-fill c.in-Some.ensures.named in
     OnOk-fill c.fill-in-Some.result _ _ _ c.in-Some.triangle path (inl words)
     c.fill-in-Some.ensures.filled
+
+pub returns-in-fill-clause-begun : goal.returns-in-fill-clause-begun
+returns-in-fill-clause-begun g c =
+    let (path, words) = two_words c.args.words.now _ _ c.in-fill.len_at_least c.in-fill.len_below
+    c.in-fill.is-fill in
+    OnErr-fill c.fill.result _ _ _ Upper path (inr (refl, words)) c.fill.ensures.begun
+
+pub returns-in-Some-clause-begun : goal.returns-in-Some-clause-begun
+returns-in-Some-clause-begun g c =
+    let (path, words) = three_words c.args.words.now _ _ _ _ c.in-fill-2.len_at_least
+    c.in-fill-2.len_below c.in-fill-2.is-fill c.in-Some.ensures.named in
+    OnErr-fill c.fill-in-Some.result _ _ _ c.in-Some.triangle path (inl words)
+    c.fill-in-Some.ensures.begun
 
 pub returns-in-fill-clause-proper : goal.returns-in-fill-clause-proper
 returns-in-fill-clause-proper g c =

@@ -1,4 +1,4 @@
-use Rattle.std.proofs.Common.{◌<◌, ◌^◌, ◌-◌, ap, sym, subst, ◌∙◌, ◌≤◌}
+use Rattle.std.proofs.Common.{◌<◌, ◌^◌, ◌-◌, ap, sym, subst, ◌≤◌}
 use Rattle.std.proofs.lemmas.Result.{err_from_is_err_and}
 use Rattle.mtxkit_eval.specs.Values.{IsFirstWide}
 use Rattle.mtxkit_eval.specs.declared.extents.Extent.{Extent}

@@ -1,4 +1,3 @@
-use Rattle.std.proofs.Common.{◌≡◌, ◌++◌}
 use Rattle.sparse_compressed.specs.Compressed.{lane_triplets}
 use Rattle.mtxkit_eval.proofs.FirstWide.{IsNarrowBefore}
 use Rattle.mtxkit_eval.proofs.wide.first_wide.Given as goal

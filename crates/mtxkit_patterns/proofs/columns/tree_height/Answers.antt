@@ -1,4 +1,4 @@
-use Rattle.std.proofs.Common.{◌≡◌, ◌+◌, ◌-◌, inl, inr, get_or, length, ap, rules, ◌∙◌, arith}
+use Rattle.std.proofs.Common.{◌≡◌, ◌-◌, inl, inr, get_or, length, ap, rules, ◌∙◌, arith}
 use Rattle.mtxkit_patterns.specs.Columns.{below_diagonal, rows_below}
 use Rattle.mtxkit_patterns.specs.InnerDepths.{depth_above}
 use Rattle.mtxkit_patterns.proofs.TreeDepths.{has_depth, depths_more, depths_none}

@@ -1,6 +1,6 @@
 use Rattle.std.proofs.Common.{◌++◌, codes, ap, ◌∙◌, append_assoc, string_bytes}
 use Rattle.std.specs.Fmt.{decimal}
-use Rattle.mtxkit_texts.specs.Json.{first_member, number_member}
+use Rattle.mtxkit_facts.specs.Json.{first_member, number_member}
 use Rattle.mtxkit_patterns.proofs.fill_json.push_places.Goals as goal
 
 pub returns : goal.returns

@@ -1,4 +1,4 @@
-use Rattle.std.proofs.Common.{◌≢◌, [], length, sym, ◌∙◌, arith}
+use Rattle.std.proofs.Common.{◌≢◌, length, sym, ◌∙◌, arith}
 use Rattle.std.proofs.lemmas.Bool.{eqb-true, eqb-false}
 use Rattle.std.proofs.lemmas.List.{nil_from_length}
 use Rattle.sparse_faults.specs.InnerLines.{IsCut}

@@ -1,13 +1,13 @@
 //! Writes the facts of `mtxkit info` in JSON.
 
 ghost use Rattle.std.specs.Prelude.{◌≡◌, ◌++◌, ◌*◌, IfOk, None, OnOk, Some, string_bytes};
-ghost use Rattle.mtxkit_texts.specs.FactJson.{info_json, json_bar, json_bars, json_comma, json_names};
-ghost use Rattle.mtxkit_texts.specs.FactJson.{json_places, json_rows, json_sizes, json_values};
+ghost use Rattle.mtxkit_facts.specs.FactJson.{info_json, json_bar, json_bars, json_comma, json_names};
+ghost use Rattle.mtxkit_facts.specs.FactJson.{json_places, json_rows, json_sizes, json_values};
 
-use crate::fact_lines::{field_name, format_name, symmetry_name};
 use crate::facts::TextFacts;
 use crate::json::{push_end, push_first, push_flag, push_member, push_number, quoted};
 use mtxkit_matrices::{Histogram, Info};
+use mtxkit_texts::{field_name, format_name, symmetry_name};
 use sparse_parser::header::Header;
 use std::alloc::{AllocError, Global};
 

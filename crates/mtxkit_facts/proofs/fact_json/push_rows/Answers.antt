@@ -1,6 +1,6 @@
 use Rattle.std.proofs.Common.{◌≡◌, ◌++◌, List, ℕ, append_assoc, string_bytes}
-use Rattle.mtxkit_texts.specs.FactJson.{json_rows}
-use Rattle.mtxkit_texts.proofs.fact_json.push_rows.Goals as goal
+use Rattle.mtxkit_facts.specs.FactJson.{json_rows}
+use Rattle.mtxkit_facts.proofs.fact_json.push_rows.Goals as goal
 
 -- a text to which four texts were appended
 joined : (old x y z w : List ℕ) {a b c d : List ℕ} → a ≡ old ++ x → b ≡ a ++ y → c ≡ b ++ z

@@ -6,10 +6,10 @@ use Rattle.std.specs.List.{flat_map}
 use Rattle.sparse_algebra.specs.Plain.{below}
 use Rattle.sparse_parser.specs.declared.header.Header.{Header}
 use Rattle.mtxkit_matrices.specs.declared.facts.info.Info.{Info}
-use Rattle.mtxkit_texts.specs.HeaderLines.{format_name, field_name, symmetry_name}
-use Rattle.mtxkit_texts.specs.Json.{first_member, flag_member, member, number_member, object_end}
-use Rattle.mtxkit_texts.specs.Json.{quoted}
-use Rattle.mtxkit_texts.specs.declared.facts.TextFacts.{TextFacts}
+use Rattle.mtxkit_facts.specs.Json.{first_member, flag_member, member, number_member, object_end}
+use Rattle.mtxkit_facts.specs.Json.{quoted}
+use Rattle.mtxkit_texts.specs.Headers.{format_name, field_name, symmetry_name}
+use Rattle.mtxkit_facts.specs.declared.facts.TextFacts.{TextFacts}
 
 -- the names of the header, each null if there is none
 abbrev pub json_names : Option Header → List ℕ

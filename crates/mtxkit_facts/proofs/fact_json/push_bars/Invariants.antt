@@ -1,8 +1,8 @@
 use Rattle.std.proofs.Common.{◌≡◌, ◌++◌, ◌+◌, ◌-◌, ◌*◌, string_bytes, slice_index}
 use Rattle.std.specs.List.{flat_map}
 use Rattle.sparse_algebra.specs.Plain.{below}
-use Rattle.mtxkit_texts.specs.FactJson.{json_bar, json_comma}
-use Rattle.mtxkit_texts.proofs.fact_json.push_bars.Given as goal
+use Rattle.mtxkit_facts.specs.FactJson.{json_bar, json_comma}
+use Rattle.mtxkit_facts.proofs.fact_json.push_bars.Given as goal
 
 abbrev pub invariant-loop-line : goal.invariant-loop-line
 invariant-loop-line l = string_bytes l.json ≡ string_bytes l.initial.json

@@ -1,8 +1,8 @@
 //! Writes objects in JSON, on one line, member by member.
 
 ghost use Rattle.std.specs.Prelude.{◌≡◌, ◌++◌, IfOk, OnOk, string_bytes};
-ghost use Rattle.mtxkit_texts.specs.Json.{first_member, flag_member, flag_text, member, number_member};
-ghost use Rattle.mtxkit_texts.specs.Json.{object_end, quoted};
+ghost use Rattle.mtxkit_facts.specs.Json.{first_member, flag_member, flag_text, member, number_member};
+ghost use Rattle.mtxkit_facts.specs.Json.{object_end, quoted};
 
 use std::alloc::{AllocError, Global};
 

@@ -1,16 +1,15 @@
 //! The text that `mtxkit info` writes.
 
 ghost use Rattle.std.specs.Prelude.{◌≡◌, ◌++◌, IfOk, IfErr, OnOk, codes, string_bytes};
-ghost use Rattle.mtxkit_texts.specs.HeaderLines.{format_name, field_name, symmetry_name};
-ghost use Rattle.mtxkit_texts.specs.HeaderLines.{header_lines, size_lines};
-ghost use Rattle.mtxkit_texts.specs.Facts.{IsInfoFailure, WritesInfo};
-ghost use Rattle.mtxkit_texts.specs.Facts.{info_in, info_lines, matrix_lines, place_lines};
+ghost use Rattle.mtxkit_facts.specs.HeaderLines.{header_lines, size_lines};
+ghost use Rattle.mtxkit_facts.specs.Facts.{IsInfoFailure, WritesInfo};
+ghost use Rattle.mtxkit_facts.specs.Facts.{info_in, info_lines, matrix_lines, place_lines};
 
 use crate::fact_json::json_of;
 use crate::facts::{Form, TextFacts, facts_of};
-use crate::failure::Failure;
 use mtxkit_matrices::{Info, answer, push_count, push_facts, push_histogram, push_line};
-use sparse_parser::header::{Field, Format, Header, Symmetry};
+use mtxkit_texts::{Failure, field_name, format_name, symmetry_name};
+use sparse_parser::header::Header;
 use std::alloc::{AllocError, Global};
 
 /// Returns what `mtxkit info` writes about a text: its header, its shape, its number of entries, and the facts about
@@ -97,38 +96,4 @@ fn push_sizes(alloc: Global, lines: &mut String, facts: &TextFacts) -> Result<()
     push_count(alloc, lines, "rows", facts.rows)?;
     push_count(alloc, lines, "columns", facts.cols)?;
     push_count(alloc, lines, "entries", facts.entries)
-}
-
-/// Returns the word of a header for a format.
-pub(crate) fn format_name(format: Format) -> &'static str
-    ensures { result.now ≡ format_name format }
-{
-    match format {
-        Format::Coordinate => "coordinate",
-        Format::Array => "array",
-    }
-}
-
-/// Returns the word of a header for a field.
-pub(crate) fn field_name(field: Field) -> &'static str
-    ensures { result.now ≡ field_name field }
-{
-    match field {
-        Field::Real => "real",
-        Field::Complex => "complex",
-        Field::Integer => "integer",
-        Field::Pattern => "pattern",
-    }
-}
-
-/// Returns the word of a header for a symmetry.
-pub(crate) fn symmetry_name(symmetry: Symmetry) -> &'static str
-    ensures { result.now ≡ symmetry_name symmetry }
-{
-    match symmetry {
-        Symmetry::General => "general",
-        Symmetry::Symmetric => "symmetric",
-        Symmetry::SkewSymmetric => "skew-symmetric",
-        Symmetry::Hermitian => "hermitian",
-    }
 }

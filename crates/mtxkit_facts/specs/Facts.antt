@@ -9,13 +9,13 @@ use Rattle.mtxkit_matrices.specs.FactLines.{count_lines, symmetry_lines, histogr
 use Rattle.mtxkit_matrices.specs.Facts.{AreFacts}
 use Rattle.mtxkit_matrices.specs.declared.facts.info.Info.{Info}
 use Rattle.mtxkit_texts.specs.AnyField.{IsOnesFailure, MeansOnesText}
-use Rattle.mtxkit_texts.specs.FactJson.{info_json}
-use Rattle.mtxkit_texts.specs.HeaderLines.{header_lines, size_lines}
+use Rattle.mtxkit_facts.specs.FactJson.{info_json}
+use Rattle.mtxkit_facts.specs.HeaderLines.{header_lines, size_lines}
 use Rattle.mtxkit_texts.specs.Headers.{header_in}
 use Rattle.mtxkit_texts.specs.Loaded.{MeansWhole, IsWholeFailure, ring128, value128}
-use Rattle.mtxkit_texts.specs.declared.facts.Form.{Form}
-use Rattle.mtxkit_texts.specs.declared.facts.Form.TheVariants.{Lines, Json}
-use Rattle.mtxkit_texts.specs.declared.facts.TextFacts.{TextFacts}
+use Rattle.mtxkit_facts.specs.declared.facts.Form.{Form}
+use Rattle.mtxkit_facts.specs.declared.facts.Form.TheVariants.{Lines, Json}
+use Rattle.mtxkit_facts.specs.declared.facts.TextFacts.{TextFacts}
 use Rattle.mtxkit_texts.specs.declared.failure.Failure.{Failure}
 use Rattle.mtxkit_texts.specs.declared.failure.Failure.TheVariants.{NotSupported, OutOfMemory}
 

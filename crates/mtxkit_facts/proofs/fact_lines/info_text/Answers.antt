@@ -1,4 +1,4 @@
-use Rattle.mtxkit_texts.proofs.fact_lines.info_text.Goals as goal
+use Rattle.mtxkit_facts.proofs.fact_lines.info_text.Goals as goal
 
 pub returns-clause-written : goal.returns-clause-written
 returns-clause-written c =

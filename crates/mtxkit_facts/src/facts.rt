@@ -2,14 +2,11 @@
 
 ghost use Rattle.std.specs.Prelude.{◌≡◌, IfErr, IfOk};
 ghost use Rattle.mtxkit_texts.specs.AnyField.{IsUnsupported, MeansOnesText};
-ghost use Rattle.mtxkit_texts.specs.Facts.{AreTextFacts, IsInfoFailure};
+ghost use Rattle.mtxkit_facts.specs.Facts.{AreTextFacts, IsInfoFailure};
 ghost use Rattle.mtxkit_texts.specs.Loaded.{IsWholeFailure, MeansWhole};
 
-use crate::any_field::load_ones;
-use crate::failure::Failure;
-use crate::loaded::{Loaded, header_of};
-use crate::whole::load_exact;
 use mtxkit_matrices::{Info, info_of};
+use mtxkit_texts::{Failure, Loaded, header_of, load_exact, load_ones};
 use sparse_parser::header::Header;
 use std::alloc::{AllocError, Global};
 
@@ -44,8 +41,8 @@ pub struct TextFacts {
 ///
 /// # Errors
 ///
-/// Returns the errors of [`load_exact`](crate::load_exact) except `NotSupported`: if the values are real or complex,
-/// returns those of [`load_places`](crate::load_places).
+/// Returns the errors of [`load_exact`] except `NotSupported`: if the values are real or complex,
+/// returns those of [`load_places`](mtxkit_texts::load_places).
 pub fn facts_of(alloc: Global, text: &str) -> Result<TextFacts, Failure>
     ensures are { IfOk result (AreTextFacts text.now) }
     ensures refused { IfErr result (IsInfoFailure text.now) }

@@ -1,5 +1,5 @@
 use Rattle.mtxkit_texts.proofs.UnsupportedTexts.{not_whole}
-use Rattle.mtxkit_texts.proofs.facts.other_facts.Goals as goal
+use Rattle.mtxkit_facts.proofs.facts.other_facts.Goals as goal
 
 pub place_facts-requires : goal.place_facts-requires
 place_facts-requires c =

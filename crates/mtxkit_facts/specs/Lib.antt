@@ -1,0 +1,4 @@
+pub mod Facts
+pub mod FactJson
+pub mod HeaderLines
+pub mod Json
