@@ -1,7 +1,4 @@
-mod Listed
-mod Solving
 mod OrderRefusals
 mod Readings
 mod Reports
 mod Evaluating
-mod GivenCommands

@@ -1,17 +1,23 @@
 -- The record of files that were read one after the other.
 use Rattle.std.proofs.Common.{◌≡◌, ◌+◌, ◌<◌, ◌≤◌, ℕ, List, [], ◌∷◌, ◌++◌, Ok, length, take, drop, get_or}
 use Rattle.std.proofs.Common.{refl, sym, ap, subst, ◌∙◌, append_assoc, take-append-drop, length-append, arith}
-use Rattle.std.proofs.Common.{◌≢◌, ◌-◌, zero, suc}
-use Rattle.std.specs.Prelude.{slice_get, Option, Some, None, IfSome}
-use Rattle.std.specs.List.{HoldsAt}
-use Rattle.std.specs.Option.{option_map, option_copied, MatchOption}
-use Rattle.std.proofs.lemmas.Option.{slice_get-map, slice_get_past, slice_get_read}
 use Rattle.std.proofs.lemmas.List.{map-append, take_all, take_more, length-map, length-take-le}
 use denote.Ref.{Bor}
 use Rattle.mtxkit_texts.specs.declared.failure.Failure.{Failure}
 use Rattle.mtxkit_commands.specs.Inputs.{Reading, IsRead, IsUnread, AreRead, IsFirstUnread}
 use Rattle.mtxkit_commands.specs.Inputs.{after_reading}
-use Rattle.mtxkit_commands.specs.Names.{path_at, paths}
+use Rattle.mtxkit_arguments.specs.Files.{paths}
+
+-- the record of a file, whose text is `p'`
+pub one_read : (file : List ℕ) (r s : List Reading) (p p' : List ℕ) → IsRead file r s p → p' ≡ p
+    → s ≡ (file, Ok p') ∷ r
+one_read file r s p p' e ep = rw (e, ep) refl
+
+-- the record of two files, whose texts are `p'` and `q'`
+pub two_read : (a b : List ℕ) (r s t : List Reading) (p q p' q' : List ℕ)
+    → IsRead a r s p → IsRead b s t q → p' ≡ p → q' ≡ q
+    → t ≡ (b, Ok q') ∷ (a, Ok p') ∷ r
+two_read a b r s t p q p' q' e f ep eq = rw (f, e, ep, eq) refl
 
 -- the record of three files, whose texts are `p'`, `q'` and `w'`
 pub three-read : (a x b : List ℕ) (r s t u : List Reading) (p q w p' q' w' : List ℕ)
@@ -79,22 +85,3 @@ pub all-read : (files : List (Bor (List ℕ))) (k : ℕ) (ts : List (List ℕ)) 
     → length files ≤ k → AreRead (paths (take k files)) ts old new → AreRead (paths files) ts old new
 all-read files k ts old new past read =
     subst (λ l. AreRead (paths l) ts old new) (take_all k files past) read
-
--- the path with a number, counted from 1
-pub path-at : (files : List (Bor (List ℕ))) (number : ℕ) → number ≢ 0
-    → path_at (paths files) number ≡ option_map (λ path. path.now) (slice_get files (number - 1))
-path-at files zero some = absurd (some refl)
-path-at files (suc n) some =
-    let less : n ≡ suc n - 1 = omega arith in
-    slice_get-map (λ (file : Bor (List ℕ)). file.now) files n
-    ∙ ap (λ k. option_map (λ (path : Bor (List ℕ)). path.now) (slice_get files k)) less
-
--- a copy of what a look-up finds
-pub copied-at : (files : List (Bor (List ℕ))) (i : ℕ) (found : Option (Bor (Bor (List ℕ))))
-    → IfSome found (λ x. x.now ≡ get_or files i x.now)
-    → MatchOption found (length files ≤ i)
-    (λ x. (i < length files) × HoldsAt {X = Bor (List ℕ)} (λ y. x.now ≡ y) files i)
-    → option_copied found ≡ slice_get files i
-copied-at files i None is within = sym (slice_get_past files i within)
-copied-at files i (Some x) is within =
-    sym (slice_get_read files (length files) i x.now refl within.0 is)

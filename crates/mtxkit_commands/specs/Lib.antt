@@ -1,11 +1,10 @@
-pub mod Systems
-pub mod Commands
+pub mod Answers
+pub mod Failures
+pub mod Outcomes
 pub mod Inputs
-pub mod Arguments
-pub mod SystemErrors
+pub mod Usage
 pub mod Names
+pub mod Reports
 pub mod OrderCommands
-pub mod OrderErrors
+pub mod CommandFaults
 pub mod Reads
-pub mod Words
-pub mod Evaluations

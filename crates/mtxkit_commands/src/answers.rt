@@ -1,23 +1,20 @@
 //! Computes what commands write, from the texts of their files.
 
-ghost use Rattle.std.specs.Prelude.{◌<◌, ℕ, Option, IfOk, IfErr, string_bytes};
-ghost use Rattle.mtxkit_texts.specs.AnyField.{IsPlacesFailure};
-ghost use Rattle.mtxkit_commands.specs.Commands.{IsAnswer, IsSized, ShowsPicture, WritesValues};
-ghost use Rattle.mtxkit_commands.specs.Commands.{IsFieldFailureOf, HasNoAnswer, IsSolveAnswer};
-ghost use Rattle.mtxkit_commands.specs.Commands.{IsUnsolved, IsCheckAnswer, IsUnchecked};
+ghost use Rattle.std.specs.Prelude.{ℕ, Option, IfOk, IfErr, string_bytes};
+ghost use Rattle.mtxkit_arguments.specs.Sizes.{IsSized};
+ghost use Rattle.mtxkit_commands.specs.Answers.{IsAnswer, IsCheckAnswer, IsSolveAnswer};
+ghost use Rattle.mtxkit_commands.specs.Failures.{HasNoAnswer, IsUnsolved, IsUnchecked};
 
 use crate::command_error::CommandError;
-use crate::commands::{Command, Target, Values};
 use crate::evaluated::evaluated_of;
 use crate::inputs::{Texts, read_text};
+use crate::one_file::{copied, described, pictured, rewritten, symmetrised};
 use crate::orders::{filled_of, ordered_of, permuted_of};
 use crate::scaled::scaled_of;
-use crate::systems::{check_text, solve_text};
-use mtxkit_facts::info_text;
+use mtxkit_arguments::Command;
 use mtxkit_matrices::EliminationOrder;
-use mtxkit_texts::{
-    Failure, copy_text, integer_text, places_text, spy_bitmap, spy_blocks, spy_svg, symmetric_text,
-};
+use mtxkit_systems::{check_text, solve_text};
+use mtxkit_texts::Failure;
 use std::alloc::Global;
 
 /// Reads the files of a command in order, up to the first that cannot be read, and returns what the command writes.
@@ -35,27 +32,12 @@ pub fn answer_of<T: Texts>(
         (HasNoAnswer command.entry (T.readings texts.old) (T.readings texts.new)) }
 {
     match command {
-        Command::Info { file, form } => {
-            let text = read_text(texts, 1, file)?;
-            Ok(info_text(alloc, form, text.as_str())?.into_bytes())
-        }
-        Command::Spy { file, size, target } => {
-            let text = read_text(texts, 1, file)?;
-            Ok(picture(alloc, size, target, text.as_str())?.into_bytes())
-        }
-        Command::Copy { file } => {
-            let text = read_text(texts, 1, file)?;
-            Ok(copy_text(alloc, text.as_str())?.into_bytes())
-        }
-        Command::Field { file, values } => {
-            let text = read_text(texts, 1, file)?;
-            Ok(rewritten(alloc, values, text.as_str())?.into_bytes())
-        }
+        Command::Info { file, form } => Ok(described(alloc, texts, file, form)?),
+        Command::Spy { file, size, target } => Ok(pictured(alloc, texts, file, size, target)?),
+        Command::Copy { file } => Ok(copied(alloc, texts, file)?),
+        Command::Field { file, values } => Ok(rewritten(alloc, texts, file, values)?),
         Command::Integer { file, scale } => scaled_of(alloc, texts, file, scale),
-        Command::Symmetric { file } => {
-            let text = read_text(texts, 1, file)?;
-            Ok(symmetric_text(alloc, text.as_str())?.into_bytes())
-        }
+        Command::Symmetric { file } => Ok(symmetrised(alloc, texts, file)?),
         Command::Order { file, method } => ordered_of(alloc, texts, file, method),
         Command::Permute { order, file } => permuted_of(alloc, texts, order, file),
         Command::Fill { file, order, form } => filled_of(alloc, texts, file, order, form),
@@ -122,31 +104,4 @@ fn check_of<T: Texts>(
         second.as_str(),
         third.as_str(),
     )
-}
-
-// Returns the picture of the pattern that a text means, in the form for this target.
-fn picture(alloc: Global, size: usize, target: Target<'_>, text: &str) -> Result<String, Failure>
-    requires { 0 < size }
-    ensures shown { IfOk result
-        (λ shown. ShowsPicture target.entry text.now size (string_bytes shown)) }
-    ensures refused { IfErr result (IsPlacesFailure 1 text.now) }
-{
-    match target {
-        Target::Bitmap => spy_bitmap(alloc, text, size),
-        Target::Blocks => spy_blocks(alloc, text, size),
-        Target::Svg => spy_svg(alloc, text, size),
-        Target::File(_) => spy_bitmap(alloc, text, size),
-    }
-}
-
-// Returns the text of a text's matrix, with or without its values.
-fn rewritten(alloc: Global, values: Values, text: &str) -> Result<String, Failure>
-    ensures written { IfOk result
-        (λ written. WritesValues values text.now (string_bytes written)) }
-    ensures refused { IfErr result (IsFieldFailureOf values text.now) }
-{
-    match values {
-        Values::Integers => integer_text(alloc, text),
-        Values::Pattern => places_text(alloc, text),
-    }
 }

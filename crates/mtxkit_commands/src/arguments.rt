@@ -1,21 +1,22 @@
 //! Runs the command that the arguments of `mtxkit` give, and returns the program's exit status.
 
-ghost use Rattle.clap.specs.Values.{kind_of};
-ghost use Rattle.clap.specs.declared.error.kind.ErrorKind.TheVariants as words;
-ghost use Rattle.std.specs.Prelude.{◌≡◌, ◌≢◌, IfOk, IfErr, IsTrue, Err, None};
+ghost use Rattle.std.specs.Prelude.{◌≡◌, ◌≢◌, ◌⊎◌, IfErr, IsTrue, None, ℕ, List};
+ghost use Rattle.std.specs.Io.KnownBytes.{Appends};
 ghost use Rattle.std.specs.IoError.{error_kind};
 ghost use Rattle.std.specs.Process.{exit_status};
-ghost use Rattle.mtxkit_commands.specs.Arguments.{argument_fault, argument_status};
-ghost use Rattle.mtxkit_commands.specs.Commands.{IsStatus};
-ghost use Rattle.mtxkit_commands.specs.Names.{HasReport, IsReported, IsSilent};
-ghost use Rattle.mtxkit_commands.specs.declared.argument_error.ArgumentError.TheVariants.{OutOfMemory};
+ghost use Rattle.mtxkit_arguments.specs.Given.{argument_fault};
+ghost use Rattle.mtxkit_arguments.specs.Words.{IsGiven};
+ghost use Rattle.mtxkit_arguments.specs.declared.commands.Command.{Command};
+ghost use Rattle.mtxkit_commands.specs.Outcomes.{HasAnswered, HasFlushedAnswer};
+ghost use Rattle.mtxkit_commands.specs.Outcomes.{IsAnswered, IsStatus};
+ghost use Rattle.mtxkit_commands.specs.Reports.{HasReport, IsReported, Tells};
+ghost use Rattle.mtxkit_commands.specs.Usage.{argument_status, IsExplainedAt};
 
-use crate::argument_error::ArgumentError;
 use crate::cli::{finish, run};
 use crate::failure_lines::{report, report_write};
 use crate::inputs::{Inputs, Texts};
-use crate::words::{command_of, parse};
-use clap::ArgMatches;
+use crate::unread::report_unread;
+use mtxkit_arguments::{ArgMatches, Explanation, command_of, given_words, parse};
 use mtxkit_texts::{Failure, Screen};
 use sparse_io::{Out, Sink, write_all_to};
 use std::alloc::Global;
@@ -23,9 +24,6 @@ use std::env::Args;
 use std::io;
 use std::process::ExitCode;
 use std::rt::Files;
-
-const NEGATIVE_SCALE: &str =
-    "\nK is 0 or more: mtxkit multiplies the numbers by 10^K, and does not divide them.\n";
 
 /// Runs the command that the arguments give, and returns the exit status. The file `-` is read from `stdin`.
 ///
@@ -49,10 +47,7 @@ where
     S: io::Write + Drop,
     ensures status { IsStatus (exit_status result) }
     ensures flushed { exit_status result ≡ 0 → IsTrue out.new.flushed }
-    ensures silent { exit_status result ≡ 0 → E.accepted err.new ≡ E.accepted err.old }
-    ensures reported { exit_status result ≡ 1 → HasReport (E.accepted err.old) (E.accepted err.new)
-        (E.failures err.old) (E.failures err.new) }
-    ensures stopped { exit_status result ≡ 141 → IsSilent (E.accepted err.old) (E.accepted err.new)
+    ensures tells { Tells HasReport (exit_status result) (E.accepted err.old) (E.accepted err.new)
         (E.failures err.old) (E.failures err.new) }
     ensures unanswered { exit_status result ≡ 2 → out.new.failures ≡ out.old.failures
         → W.contents out.new.inner ≡ W.contents out.old.inner }
@@ -86,10 +81,9 @@ where
     E: Sink,
     ensures status { IsStatus result }
     ensures flushed { result ≡ 0 → IsTrue out.new.flushed }
-    ensures silent { result ≡ 0 → E.accepted err.new ≡ E.accepted err.old }
-    ensures reported { result ≡ 1 → HasReport (E.accepted err.old) (E.accepted err.new)
-        (E.failures err.old) (E.failures err.new) }
-    ensures stopped { result ≡ 141 → IsSilent (E.accepted err.old) (E.accepted err.new)
+    ensures answered { result ≡ 0 → HasFlushedAnswer (T.readings texts.old)
+        (T.readings texts.new) (W.contents out.old.inner) (W.contents out.new.inner) }
+    ensures tells { Tells HasReport result (E.accepted err.old) (E.accepted err.new)
         (E.failures err.old) (E.failures err.new) }
     ensures unanswered { result ≡ 2 → out.new.failures ≡ out.old.failures
         → W.contents out.new.inner ≡ W.contents out.old.inner }
@@ -98,7 +92,7 @@ where
 {
     match given_words(rt.alloc(), arguments) {
         Ok(words) => run_flushed(rt, &words, texts, out, err),
-        Err(error) => error.report(err),
+        Err(error) => report_unread(error, err),
     }
 }
 
@@ -117,10 +111,9 @@ where
     E: Sink,
     ensures status { IsStatus result }
     ensures flushed { result ≡ 0 → IsTrue out.new.flushed }
-    ensures silent { result ≡ 0 → E.accepted err.new ≡ E.accepted err.old }
-    ensures reported { result ≡ 1 → HasReport (E.accepted err.old) (E.accepted err.new)
-        (E.failures err.old) (E.failures err.new) }
-    ensures stopped { result ≡ 141 → IsSilent (E.accepted err.old) (E.accepted err.new)
+    ensures answered { result ≡ 0 → HasFlushedAnswer (T.readings texts.old)
+        (T.readings texts.new) (W.contents out.old.inner) (W.contents out.new.inner) }
+    ensures tells { Tells HasReport result (E.accepted err.old) (E.accepted err.new)
         (E.failures err.old) (E.failures err.new) }
     ensures unanswered { result ≡ 2 → out.new.failures ≡ out.old.failures
         → W.contents out.new.inner ≡ W.contents out.old.inner }
@@ -139,18 +132,16 @@ where
     W: Sink,
     E: Sink,
     ensures status { IsStatus result }
-    ensures silent { result ≡ 0 → E.accepted err.new ≡ E.accepted err.old }
-    ensures quiet { result ≡ 0 → E.failures err.new ≡ E.failures err.old }
-    ensures reported { result ≡ 1 → HasReport (E.accepted err.old) (E.accepted err.new)
+    ensures answered { result ≡ 0 → HasAnswered (T.readings texts.old) (T.readings texts.new)
+        (W.accepted out.old) (W.accepted out.new) }
+    ensures tells { Tells HasReport result (E.accepted err.old) (E.accepted err.new)
         (E.failures err.old) (E.failures err.new) }
-    ensures stopped { result ≡ 141 → IsSilent (E.accepted err.old) (E.accepted err.new)
-        (E.failures err.old) (E.failures err.new) }
-    ensures unanswered { result ≡ 2 → W.failures out.new ≡ W.failures out.old
+    ensures unanswered { result ≢ 0 → W.failures out.new ≡ W.failures out.old
         → W.accepted out.new ≡ W.accepted out.old }
 {
     match parse(rt.alloc(), words) {
         Ok(matches) => run_matched(rt, &matches, texts, out, err),
-        Err(error) => explain(rt.alloc(), &error, out, err),
+        Err(explanation) => explain(rt.alloc(), &explanation, out, err),
     }
 }
 
@@ -168,13 +159,12 @@ where
     W: Sink,
     E: Sink,
     ensures status { IsStatus result }
-    ensures silent { result ≡ 0 → E.accepted err.new ≡ E.accepted err.old }
-    ensures quiet { result ≡ 0 → E.failures err.new ≡ E.failures err.old }
-    ensures reported { result ≡ 1 → HasReport (E.accepted err.old) (E.accepted err.new)
+    ensures answered { result ≡ 0 → (command : Command) × IsGiven matches.now command
+        × IsAnswered command (T.readings texts.old) (T.readings texts.new) (W.accepted out.old)
+        (W.accepted out.new) }
+    ensures tells { Tells HasReport result (E.accepted err.old) (E.accepted err.new)
         (E.failures err.old) (E.failures err.new) }
-    ensures stopped { result ≡ 141 → IsSilent (E.accepted err.old) (E.accepted err.new)
-        (E.failures err.old) (E.failures err.new) }
-    ensures unanswered { result ≡ 2 → W.failures out.new ≡ W.failures out.old
+    ensures unanswered { result ≢ 0 → W.failures out.new ≡ W.failures out.old
         → W.accepted out.new ≡ W.accepted out.old }
 {
     match command_of(matches) {
@@ -183,78 +173,33 @@ where
     }
 }
 
-// Writes the message of an error of `clap`, and returns the exit status: help is written to `out`, with status 0, and a
-// mistake in the arguments to `err`, with status 2.
-fn explain<W: Sink, E: Sink>(alloc: Global, error: &clap::Error, out: &mut W, err: &mut E) -> u8
+// Writes what is said in place of running a command, and returns the exit status: help is written to `out`, with status
+// 0, and a mistake in the arguments to `err`, with status 2.
+fn explain<W: Sink, E: Sink>(
+    alloc: Global,
+    explanation: &Explanation,
+    out: &mut W,
+    err: &mut E,
+) -> u8
     ensures status { IsStatus result }
-    ensures memory { kind_of error.now ≡ words.OutOfMemory → result ≡ 1 }
-    ensures silent { result ≡ 0 → E.accepted err.new ≡ E.accepted err.old }
-    ensures quiet { result ≡ 0 → E.failures err.new ≡ E.failures err.old }
-    ensures reported { result ≡ 1 → IsReported None (E.accepted err.old) (E.accepted err.new)
+    ensures explained { IsExplainedAt explanation.now result }
+    ensures answered { result ≡ 0
+        → (text : List ℕ) × Appends (W.accepted out.old) (W.accepted out.new) text }
+    ensures tells { Tells (IsReported None) result (E.accepted err.old) (E.accepted err.new)
         (E.failures err.old) (E.failures err.new) }
-    ensures stopped { result ≡ 141 → IsSilent (E.accepted err.old) (E.accepted err.new)
-        (E.failures err.old) (E.failures err.new) }
-    ensures mistake { result ≡ 2 → (kind_of error.now ≢ words.DisplayHelp)
-        × (kind_of error.now ≢ words.DisplayVersion) }
-    ensures unanswered { result ≡ 2 → W.accepted out.new ≡ W.accepted out.old }
-    ensures help { kind_of error.now ≢ words.DisplayHelp
-        → kind_of error.now ≢ words.DisplayVersion → result ≢ 0 }
+    ensures unanswered { result ≢ 0 → W.failures out.new ≡ W.failures out.old
+        → W.accepted out.new ≡ W.accepted out.old }
 {
-    let Ok(text) = format!(in alloc; "{error}") else {
-        return report(alloc, None, Failure::OutOfMemory, err);
-    };
-    if error.kind() == clap::error::ErrorKind::OutOfMemory {
-        return report(alloc, None, Failure::OutOfMemory, err);
-    }
-    if error.use_stderr() {
-        // An error in writing the text is ignored.
-        let _ = write_all_to(err, text.as_bytes());
-        let _ = write_all_to(err, addition(text.as_str()).as_bytes());
-        return 2;
-    }
-    match write_all_to(out, text.as_bytes()) {
-        Ok(()) => 0,
-        Err(kind) => report_write(alloc, kind, err),
-    }
-}
-
-// Returns what is added to a message of `clap`: one about a negative power of ten says what is done with it.
-fn addition(message: &str) -> &'static str {
-    if message.contains("'--scale <K>': -") {
-        NEGATIVE_SCALE
-    } else {
-        ""
-    }
-}
-
-// Returns the arguments, or why they cannot be read.
-fn given_words(alloc: Global, arguments: io::Result<Args>) -> Result<Vec<String>, ArgumentError>
-    ensures refused { IfOk arguments (λ _. IfErr result (λ e. e ≡ OutOfMemory)) }
-    ensures unread { IfErr arguments (λ e. result ≡ Err (argument_fault (error_kind e))) }
-{
-    match arguments {
-        Ok(arguments) => listed(alloc, arguments),
-        Err(error) => Err(unread_arguments(error.kind())),
-    }
-}
-
-// Returns the arguments in order.
-fn listed(alloc: Global, arguments: Args) -> Result<Vec<String>, ArgumentError>
-    ensures { IfErr result (λ e. e ≡ OutOfMemory) }
-{
-    let mut words = Vec::with_capacity(alloc, arguments.len())?;
-    for word in arguments {
-        words.push(word)?;
-    }
-    Ok(words)
-}
-
-// Returns the error for an error in reading the arguments.
-fn unread_arguments(kind: io::ErrorKind) -> ArgumentError
-    ensures { result ≡ argument_fault kind }
-{
-    match kind {
-        io::ErrorKind::OutOfMemory => ArgumentError::OutOfMemory,
-        _ => ArgumentError::NotText,
+    match explanation {
+        Explanation::Help(text) => match write_all_to(out, text.as_bytes()) {
+            Ok(()) => 0,
+            Err(kind) => report_write(alloc, kind, err),
+        },
+        Explanation::Mistake(text) => {
+            // An error in writing the text is ignored.
+            let _ = write_all_to(err, text.as_bytes());
+            2
+        }
+        Explanation::OutOfMemory => report(alloc, None, Failure::OutOfMemory, err),
     }
 }

@@ -2,24 +2,23 @@
 
 ghost use Rattle.std.specs.Prelude.{◌≡◌, ◌≢◌, ◌≤◌, ◌⊎◌, ◌↔◌, None, Err};
 ghost use Rattle.std.specs.Prelude.{OnOk, OnErr, IfOk, IfErr, IsOk, IsTrue};
-ghost use Rattle.std.specs.Io.KnownBytes.{Appends};
-ghost use Rattle.mtxkit_commands.specs.Commands.{IsAnswered, IsSized, IsUnsaved};
-ghost use Rattle.mtxkit_commands.specs.Commands.{IsStatus, CanFail, error_status};
-ghost use Rattle.mtxkit_commands.specs.Commands.{IsOutputFailure};
-ghost use Rattle.mtxkit_commands.specs.Names.{HasReport, IsErrorReported, IsReported};
-ghost use Rattle.mtxkit_commands.specs.Names.{IsSilent};
+ghost use Rattle.std.specs.Io.KnownBytes.{Appends, Keeps};
+ghost use Rattle.mtxkit_arguments.specs.Sizes.{IsSized};
+ghost use Rattle.mtxkit_commands.specs.Outcomes.{IsAnswered, IsUnsaved, IsOutputFailure};
+ghost use Rattle.mtxkit_commands.specs.Outcomes.{IsStatus, CanFail, error_status};
+ghost use Rattle.mtxkit_commands.specs.Reports.{HasReport, IsErrorReported, IsReported, Tells};
 ghost use Rattle.mtxkit_commands.specs.declared.command_error.CommandError.{CommandError};
 ghost use Rattle.mtxkit_texts.specs.declared.failure.Failure.TheVariants.{Unsaved};
 
 use crate::answers::answer_of;
 use crate::command_error::CommandError;
-use crate::commands::{Command, order_number};
 use crate::evaluated::report_unevaluated;
 use crate::failure_lines::report_write;
 use crate::fault_files::report_failure;
 use crate::inputs::Texts;
-use crate::orders::report_misordered;
+use crate::orders::{order_number, report_misordered};
 use crate::scaled::report_unscaled;
+use mtxkit_arguments::Command;
 use mtxkit_texts::Failure;
 use sparse_io::{Out, Sink, write_all_to};
 use std::alloc::Global;
@@ -42,17 +41,13 @@ where
     ensures answered { result ≡ 0 → IsAnswered command.entry (T.readings texts.old)
         (T.readings texts.new) (W.accepted out.old) (W.accepted out.new) }
     ensures unfailed { result ≡ 0 → W.failures out.new ≡ W.failures out.old }
-    ensures silent { result ≡ 0 → E.accepted err.new ≡ E.accepted err.old }
-    ensures quiet { result ≡ 0 → E.failures err.new ≡ E.failures err.old }
     ensures failed { result ≢ 0 → (error : CommandError)
         × CanFail command.entry (T.readings texts.old) (T.readings texts.new)
         (W.failures out.old) (W.failures out.new) (W.last out.new) error
         × (result ≡ error_status error)
         × IsErrorReported command.entry error (E.accepted err.old) (E.accepted err.new)
         (E.failures err.old) (E.failures err.new) }
-    ensures reported { result ≡ 1 → HasReport (E.accepted err.old) (E.accepted err.new)
-        (E.failures err.old) (E.failures err.new) }
-    ensures stopped { result ≡ 141 → IsSilent (E.accepted err.old) (E.accepted err.new)
+    ensures tells { Tells HasReport result (E.accepted err.old) (E.accepted err.new)
         (E.failures err.old) (E.failures err.new) }
     ensures unanswered { result ≢ 0 → W.failures out.new ≡ W.failures out.old
         → W.accepted out.new ≡ W.accepted out.old }
@@ -154,10 +149,9 @@ where
     E: Sink,
     ensures status { (result ≤ 1) ⊎ (result ≡ 141) }
     ensures flushed { (result ≡ 0) ↔ IsTrue out.new.flushed }
-    ensures silent { result ≡ 0 → E.accepted err.new ≡ E.accepted err.old }
-    ensures reported { result ≡ 1 → IsReported None (E.accepted err.old) (E.accepted err.new)
-        (E.failures err.old) (E.failures err.new) }
-    ensures stopped { result ≡ 141 → IsSilent (E.accepted err.old) (E.accepted err.new)
+    ensures unfailed { out.new.failures ≡ out.old.failures }
+    ensures kept { Keeps (W.contents out.old.inner) (W.contents out.new.inner) }
+    ensures tells { Tells (IsReported None) result (E.accepted err.old) (E.accepted err.new)
         (E.failures err.old) (E.failures err.new) }
 {
     match out.flush() {

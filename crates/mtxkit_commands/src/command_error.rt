@@ -1,8 +1,5 @@
 //! Why a command fails: the errors of all commands.
 
-ghost use Rattle.std.specs.Prelude.{◌≡◌};
-ghost use Rattle.mtxkit_commands.specs.OrderErrors.{order_fault};
-
 use mtxkit_eval::EvalError;
 use mtxkit_matrices::ScaleError;
 use mtxkit_patterns::OrderError;
@@ -24,18 +21,6 @@ pub enum CommandError {
     Unwritten(ErrorKind),
 }
 
-impl CommandError {
-    // Returns the error for one of an order.
-    pub(crate) fn of_order(error: OrderError) -> CommandError
-        ensures { result ≡ order_fault error }
-    {
-        match error {
-            OrderError::Failed(failure) => CommandError::Failed(failure),
-            error => CommandError::Misordered(error),
-        }
-    }
-}
-
 impl From<Failure> for CommandError {
     ghost use Rattle.std.specs.Prelude.{◌≡◌};
     ghost use Rattle.mtxkit_commands.specs.declared.command_error.CommandError.TheVariants.{Failed};
@@ -44,5 +29,33 @@ impl From<Failure> for CommandError {
 
     fn from(failure: Failure) -> CommandError {
         CommandError::Failed(failure)
+    }
+}
+
+impl From<OrderError> for CommandError {
+    ghost use Rattle.std.specs.Prelude.{◌≡◌};
+    ghost use Rattle.mtxkit_commands.specs.CommandFaults.{order_fault};
+
+    ghost from_gives = { λ error e. e ≡ order_fault error };
+
+    fn from(error: OrderError) -> CommandError {
+        match error {
+            OrderError::Failed(failure) => CommandError::Failed(failure),
+            error => CommandError::Misordered(error),
+        }
+    }
+}
+
+impl From<EvalError> for CommandError {
+    ghost use Rattle.std.specs.Prelude.{◌≡◌};
+    ghost use Rattle.mtxkit_commands.specs.CommandFaults.{eval_fault};
+
+    ghost from_gives = { λ error e. e ≡ eval_fault error };
+
+    fn from(error: EvalError) -> CommandError {
+        match error {
+            EvalError::Failed(failure) => CommandError::Failed(failure),
+            error => CommandError::Unevaluated(error),
+        }
     }
 }

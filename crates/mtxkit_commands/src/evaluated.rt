@@ -1,10 +1,11 @@
 //! The command `mtxkit eval`, and the lines of its errors.
 
 ghost use Rattle.std.specs.Prelude.{◌≡◌, ◌⊎◌, IfOk, IfErr, None, map, string_bytes};
-ghost use Rattle.mtxkit_commands.specs.Commands.{IsEvalAnswer, IsEvalError};
-ghost use Rattle.mtxkit_commands.specs.Evaluations.{command_fault};
+ghost use Rattle.mtxkit_arguments.specs.Files.{paths};
+ghost use Rattle.mtxkit_commands.specs.Answers.{IsEvalAnswer};
+ghost use Rattle.mtxkit_commands.specs.Failures.{IsEvalError};
 ghost use Rattle.mtxkit_commands.specs.Inputs.{AreRead, IsFirstUnread};
-ghost use Rattle.mtxkit_commands.specs.Names.{paths, IsErrorLine, IsReported};
+ghost use Rattle.mtxkit_commands.specs.Reports.{IsErrorLine, IsReported};
 ghost use Rattle.mtxkit_texts.specs.declared.failure.Failure.TheVariants.{OutOfMemory};
 
 use crate::command_error::CommandError;
@@ -31,10 +32,7 @@ pub(crate) fn evaluated_of<T: Texts>(
         (T.readings texts.old) (T.readings texts.new)) }
 {
     let contents = read_all(alloc, texts, files)?;
-    match eval_text(alloc, modulus, order, words, &contents) {
-        Ok(written) => Ok(written.into_bytes()),
-        Err(error) => Err(command_fault(error)),
-    }
+    Ok(eval_text(alloc, modulus, order, words, &contents)?.into_bytes())
 }
 
 // Reads the files in order.
@@ -50,16 +48,6 @@ fn read_all<T: Texts>(alloc: Global, texts: &mut T, files: &[&str]) -> Result<Ve
         contents.push(content)?;
     }
     Ok(contents)
-}
-
-// Returns the error of the command for an error of evaluating the expression.
-fn command_fault(error: EvalError) -> CommandError
-    ensures { result ≡ command_fault error }
-{
-    match error {
-        EvalError::Failed(failure) => CommandError::Failed(failure),
-        error => CommandError::Unevaluated(error),
-    }
 }
 
 /// Writes the line for an expression that has no value, and returns the exit status. An error in writing the line is

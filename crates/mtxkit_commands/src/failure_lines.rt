@@ -1,14 +1,15 @@
 //! Writes the lines of errors.
 
-ghost use Rattle.std.specs.Prelude.{◌≡◌, ◌⊎◌, ◌++◌, None, IfOk, IfErr, OnOk, codes};
+ghost use Rattle.std.specs.Prelude.{◌≡◌, ◌≢◌, ◌⊎◌, ◌++◌, None, IfOk, IfErr, OnOk, codes};
 ghost use Rattle.std.specs.Prelude.{string_bytes};
 ghost use Rattle.std.specs.Fmt.{decimal};
 ghost use Rattle.std.specs.Option.{option_map};
 ghost use Rattle.mtxkit_texts.specs.Statuses.{status_of};
+ghost use Rattle.mtxkit_texts.specs.declared.failure.Failure.TheVariants.{OutOfMemory};
 ghost use Rattle.mtxkit_commands.specs.Names.{fault_line, with_line, name_text};
-ghost use Rattle.mtxkit_commands.specs.Commands.{write_status};
-ghost use Rattle.mtxkit_commands.specs.Names.{IsErrorLine, IsReported, IsWritten};
-ghost use Rattle.mtxkit_commands.specs.Names.{IsSilent, IsWriteReported};
+ghost use Rattle.mtxkit_commands.specs.Outcomes.{write_status};
+ghost use Rattle.mtxkit_commands.specs.Reports.{IsErrorLine, IsReported, IsWritten};
+ghost use Rattle.mtxkit_commands.specs.Reports.{IsWriteReported, Tells, memory_line};
 
 use mtxkit_texts::Failure;
 use sparse_io::{Sink, write_all_to};
@@ -28,9 +29,24 @@ pub fn report<E: Sink>(alloc: Global, file: Option<&str>, failure: Failure, err:
     ensures reported { IsReported
         (with_line (option_map (λ path. path.now) file.entry) (fault_line failure))
         (E.accepted err.old) (E.accepted err.new) (E.failures err.old) (E.failures err.new) }
+    ensures memory { failure ≡ OutOfMemory → IsWritten memory_line (E.accepted err.old)
+        (E.accepted err.new) (E.failures err.old) (E.failures err.new) }
 {
-    write_line(failure_line(alloc, file, failure), err);
+    write_line(line_in_memory(alloc, file, failure), err);
     failure.status()
+}
+
+// Returns the line of a failure, or an error if the failure is that an allocation failed.
+fn line_in_memory(alloc: Global, file: Option<&str>, failure: Failure) -> Result<String, AllocError>
+    ensures line { IfOk result (λ line. IsErrorLine
+        (with_line (option_map (λ path. path.now) file.entry) (fault_line failure))
+        (string_bytes line)) }
+    ensures memory { IfOk result (λ _. failure ≢ OutOfMemory) }
+{
+    match failure {
+        Failure::OutOfMemory => Err(AllocError),
+        failure => failure_line(alloc, file, failure),
+    }
 }
 
 /// Reports a failed write to the output, and returns the exit status. Where the reader of the output has closed it,
@@ -40,9 +56,7 @@ pub(crate) fn report_write<E: Sink>(alloc: Global, kind: ErrorKind, err: &mut E)
     ensures statuses { (result ≡ 1) ⊎ (result ≡ 141) }
     ensures told { IsWriteReported kind (E.accepted err.old) (E.accepted err.new)
         (E.failures err.old) (E.failures err.new) }
-    ensures reported { result ≡ 1 → IsReported None (E.accepted err.old) (E.accepted err.new)
-        (E.failures err.old) (E.failures err.new) }
-    ensures stopped { result ≡ 141 → IsSilent (E.accepted err.old) (E.accepted err.new)
+    ensures tells { Tells (IsReported None) result (E.accepted err.old) (E.accepted err.new)
         (E.failures err.old) (E.failures err.new) }
 {
     match kind {
@@ -56,8 +70,7 @@ pub(crate) fn report_write<E: Sink>(alloc: Global, kind: ErrorKind, err: &mut E)
 pub(crate) fn write_line<E: Sink>(line: Result<String, AllocError>, err: &mut E)
     ensures line { IfOk line (λ text. IsWritten (string_bytes text) (E.accepted err.old)
         (E.accepted err.new) (E.failures err.old) (E.failures err.new)) }
-    ensures memory { IfErr line (λ _. IsWritten (codes "mtxkit: out of memory\n")
-        (E.accepted err.old) (E.accepted err.new) (E.failures err.old) (E.failures err.new)) }
+    ensures memory { IfErr line (λ _. IsWritten memory_line (E.accepted err.old) (E.accepted err.new) (E.failures err.old) (E.failures err.new)) }
 {
     match line {
         Ok(line) => write_message(line.as_bytes(), err),

@@ -3,11 +3,13 @@
 ghost use Rattle.std.specs.Prelude.{◌≡◌, ◌++◌, IfOk, OnOk, Some, string_bytes};
 ghost use Rattle.std.specs.Option.{option_map};
 ghost use Rattle.mtxkit_texts.specs.Statuses.{status_of};
-ghost use Rattle.mtxkit_commands.specs.Names.{after_comma, fault_line, fault_names, file_names};
-ghost use Rattle.mtxkit_commands.specs.Names.{is_shared, with_line, IsReported};
+ghost use Rattle.mtxkit_texts.specs.declared.failure.Failure.TheVariants.{OutOfMemory};
+ghost use Rattle.mtxkit_commands.specs.Names.{after_comma, fault_file, fault_line, fault_names};
+ghost use Rattle.mtxkit_commands.specs.Names.{file_names, is_shared, with_line};
+ghost use Rattle.mtxkit_commands.specs.Reports.{IsReported, IsWritten, memory_line};
 
-use crate::commands::Command;
 use crate::failure_lines::{report, write_line};
+use mtxkit_arguments::Command;
 use mtxkit_texts::Failure;
 use sparse_io::Sink;
 use std::alloc::{AllocError, Global};
@@ -25,11 +27,31 @@ pub(crate) fn report_failure<E: Sink>(
     ensures reported { IsReported
         (with_line (fault_names command.entry failure) (fault_line failure))
         (E.accepted err.old) (E.accepted err.new) (E.failures err.old) (E.failures err.new) }
+    ensures memory { failure ≡ OutOfMemory → IsWritten memory_line (E.accepted err.old)
+        (E.accepted err.new) (E.failures err.old) (E.failures err.new) }
 {
     if is_shared(failure) {
         report_shared(alloc, command, failure, err)
     } else {
-        report(alloc, command.file_at_fault(failure), failure, err)
+        report(alloc, file_at_fault(command, failure), failure, err)
+    }
+}
+
+// Returns the path of the file that a failure of the command is about, if it is about one alone.
+fn file_at_fault<'a>(command: Command<'a>, failure: Failure) -> Option<&'a str>
+    ensures { option_map (λ path. path.now) result ≡ fault_file command.entry failure }
+{
+    match failure {
+        Failure::Unread(number, _)
+        | Failure::Input(number, _, _)
+        | Failure::NotSupported(number)
+        | Failure::Wide(number)
+        | Failure::Overflow(number) => command.file(number),
+        Failure::NotSquare(_) | Failure::NotSymmetric(_) | Failure::NoFactors(_, _) => {
+            command.file(1)
+        }
+        Failure::Unsaved(_) => command.path(),
+        _ => None,
     }
 }
 

@@ -6,12 +6,13 @@ ghost use Rattle.mtxkit_commands.specs.OrderCommands.{IsOrderAnswer, IsPermuteAn
 ghost use Rattle.mtxkit_commands.specs.OrderCommands.{IsOrderError, IsPermuteError, IsFillError};
 ghost use Rattle.mtxkit_commands.specs.OrderCommands.{IsFillErrorInOrder};
 ghost use Rattle.mtxkit_commands.specs.OrderCommands.{IsFillAnswerAlone, IsFillAnswerInOrder};
-ghost use Rattle.mtxkit_commands.specs.Names.{with_line, IsErrorLine, IsReported};
+ghost use Rattle.mtxkit_commands.specs.Names.{order_number, with_line};
+ghost use Rattle.mtxkit_commands.specs.Reports.{IsErrorLine, IsReported};
 
 use crate::command_error::CommandError;
-use crate::commands::FillOrder;
 use crate::failure_lines::{push_name, write_line};
 use crate::inputs::{Texts, read_text};
+use mtxkit_arguments::FillOrder;
 use mtxkit_facts::Form;
 use mtxkit_patterns::{
     Method, OrderError, fill_text, fill_text_in_order, order_text, permute_text,
@@ -32,10 +33,7 @@ pub(crate) fn ordered_of<T: Texts>(
         (IsOrderError file.now (T.readings texts.old) (T.readings texts.new)) }
 {
     let text = read_text(texts, 1, file)?;
-    match order_text(alloc, method, text.as_str()) {
-        Ok(order) => Ok(order.into_bytes()),
-        Err(error) => Err(CommandError::of_order(error)),
-    }
+    Ok(order_text(alloc, method, text.as_str())?.into_bytes())
 }
 
 /// Reads the file of the order and that of the matrix, and returns the text of the permuted matrix.
@@ -52,10 +50,7 @@ pub(crate) fn permuted_of<T: Texts>(
 {
     let first = read_text(texts, 1, order)?;
     let second = read_text(texts, 2, file)?;
-    match permute_text(alloc, first.as_str(), second.as_str()) {
-        Ok(permuted) => Ok(permuted.into_bytes()),
-        Err(error) => Err(CommandError::of_order(error)),
-    }
+    Ok(permute_text(alloc, first.as_str(), second.as_str())?.into_bytes())
 }
 
 /// Reads the file of the order, if there is one, and that of the matrix, and returns the facts about its fill.
@@ -92,10 +87,7 @@ fn filled_alone<T: Texts>(
         (IsOrderError file.now (T.readings texts.old) (T.readings texts.new)) }
 {
     let text = read_text(texts, 1, file)?;
-    match fill_text(alloc, form, method, text.as_str()) {
-        Ok(lines) => Ok(lines.into_bytes()),
-        Err(error) => Err(CommandError::of_order(error)),
-    }
+    Ok(fill_text(alloc, form, method, text.as_str())?.into_bytes())
 }
 
 // Reads both files, and returns the facts about the fill of the matrix in this order.
@@ -113,9 +105,20 @@ fn filled_in_order<T: Texts>(
 {
     let first = read_text(texts, 1, order)?;
     let second = read_text(texts, 2, file)?;
-    match fill_text_in_order(alloc, form, first.as_str(), second.as_str()) {
-        Ok(lines) => Ok(lines.into_bytes()),
-        Err(error) => Err(CommandError::of_order(error)),
+    Ok(fill_text_in_order(alloc, form, first.as_str(), second.as_str())?.into_bytes())
+}
+
+/// Returns the number of the file that an error of an order is about, counted from 1.
+pub(crate) fn order_number(error: OrderError) -> usize
+    ensures { result ≡ order_number error }
+{
+    match error {
+        OrderError::Failed(_) => 1,
+        OrderError::NotSquare(number)
+        | OrderError::NotColumn(number)
+        | OrderError::OutOfRange(number, _)
+        | OrderError::Repeated(number, _)
+        | OrderError::OtherLength(number) => number,
     }
 }
 

@@ -1,10 +1,11 @@
 //! The command `mtxkit integer`, which scales decimal numbers, and the lines of its errors.
 
 ghost use Rattle.std.specs.Prelude.{◌≡◌, IfOk, IfErr, Some, string_bytes};
-ghost use Rattle.mtxkit_commands.specs.Commands.{IsScaleAnswer, IsScaleError, IsUnscaledText};
-ghost use Rattle.mtxkit_commands.specs.Names.{with_line};
 ghost use Rattle.mtxkit_matrices.specs.ScaleFailures.{faulty_line};
-ghost use Rattle.mtxkit_commands.specs.Names.{IsErrorLine, IsReported};
+ghost use Rattle.mtxkit_commands.specs.Answers.{IsScaleAnswer};
+ghost use Rattle.mtxkit_commands.specs.Failures.{IsScaleError, IsUnscaledText};
+ghost use Rattle.mtxkit_commands.specs.Names.{with_line};
+ghost use Rattle.mtxkit_commands.specs.Reports.{IsErrorLine, IsReported};
 
 use crate::command_error::CommandError;
 use crate::failure_lines::{push_name, write_line};

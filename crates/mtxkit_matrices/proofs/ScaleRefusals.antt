@@ -105,9 +105,9 @@ module _ {rest line others : List ℕ} (c : IsCut rest line others) where
   module _ {scale : ℕ} {text : List ℕ} {number : ℕ} {old : List ℕ} where
     head_failed : (t : IsTextWritten scale text Head number rest old) (e : ScaleError)
         → IsHeadFailure number (words_of line) e → IsScaleFailure scale text e
-    head_failed t (errors.Header n fault) h = has_line c t.above n h.0 _ (t.kept.1, h.1)
+    head_failed t (errors.Header at) h = has_line c t.above at.line h.0 _ (t.kept.1, h.1)
     head_failed t (errors.Field n) h = has_line c t.above n h.0 _ (t.kept.1, h.1)
-    head_failed t (errors.Sizes n fault) h = absurd h
+    head_failed t (errors.Sizes at) h = absurd h
     head_failed t (errors.Entry n) h = absurd h
     head_failed t (errors.Fraction n least) h = absurd h
     head_failed t (errors.Range n) h = absurd h
@@ -117,9 +117,9 @@ module _ {rest line others : List ℕ} (c : IsCut rest line others) where
     sizes_failed : (header : Header) (t : IsTextWritten scale text (Sizes header) number rest old)
         (e : ScaleError) → AreContent (words_of line)
         → IsSizesFailure header number (words_of line) e → IsScaleFailure scale text e
-    sizes_failed header t (errors.Sizes n fault) a h = has_line c t.above n h.0 _
+    sizes_failed header t (errors.Sizes at) a h = has_line c t.above at.line h.0 _
         (header, above_sizes scale t.before _ header t.are, content_words _ a, h.1)
-    sizes_failed header t (errors.Header n fault) a h = absurd h
+    sizes_failed header t (errors.Header at) a h = absurd h
     sizes_failed header t (errors.Field n) a h = absurd h
     sizes_failed header t (errors.Entry n) a h = absurd h
     sizes_failed header t (errors.Fraction n least) a h = absurd h
@@ -137,9 +137,9 @@ module _ {rest line others : List ℕ} (c : IsCut rest line others) where
         (header, above_entries scale t.before _ header t.are, content_words _ a, h.1)
     entry_failed header t (errors.Range n) a h = has_line c t.above n h.0 _
         (header, above_entries scale t.before _ header t.are, content_words _ a, h.1)
-    entry_failed header t (errors.Header n fault) a h = absurd h
+    entry_failed header t (errors.Header at) a h = absurd h
     entry_failed header t (errors.Field n) a h = absurd h
-    entry_failed header t (errors.Sizes n fault) a h = absurd h
+    entry_failed header t (errors.Sizes at) a h = absurd h
     entry_failed header t errors.Ended a h = absurd h
     entry_failed header t errors.OutOfMemory a h = tt
 

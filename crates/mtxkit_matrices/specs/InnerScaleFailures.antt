@@ -23,14 +23,16 @@ IsValueFailure scale number value e = ⊥
 
 -- the line with this number and these words is not a header of decimal numbers
 abbrev pub IsHeadFailure : ℕ → List (List ℕ) → ScaleError → Type 0
-IsHeadFailure number words (errors.Header n fault) = (n ≡ number) × IsHeaderFault words fault
+IsHeadFailure number words (errors.Header at) =
+    (at.line ≡ number) × IsHeaderFault words at.fault
 IsHeadFailure number words (errors.Field n) = (n ≡ number) × HasOtherField words
 IsHeadFailure number words errors.OutOfMemory = Unit {0}
 IsHeadFailure number words e = ⊥
 
 -- the line is not a size line for this header
 abbrev pub IsSizesFailure : Header → ℕ → List (List ℕ) → ScaleError → Type 0
-IsSizesFailure h number words (errors.Sizes n fault) = (n ≡ number) × IsSizesFault h words fault
+IsSizesFailure h number words (errors.Sizes at) =
+    (at.line ≡ number) × IsSizesFault h words at.fault
 IsSizesFailure h number words errors.OutOfMemory = Unit {0}
 IsSizesFailure h number words e = ⊥
 

@@ -99,9 +99,9 @@ EndsEarly text = (lines : List (List ℕ)) × AreLines text lines
 -- the line that the error names is the first with a fault, and has this one; or the text ends before
 -- its size line
 abbrev pub IsScaleFailure : ℕ → List ℕ → ScaleError → Type 0
-IsScaleFailure scale text (errors.Header n fault) = HasNoHeader text n fault
+IsScaleFailure scale text (errors.Header at) = HasNoHeader text at.line at.fault
 IsScaleFailure scale text (errors.Field n) = HasWrongField text n
-IsScaleFailure scale text (errors.Sizes n fault) = HasNoSizes text n fault
+IsScaleFailure scale text (errors.Sizes at) = HasNoSizes text at.line at.fault
 IsScaleFailure scale text (errors.Entry n) = HasNoEntry scale text n
 IsScaleFailure scale text (errors.Fraction n least) =
     HasNoValue (misfits.Fraction least) scale text n
@@ -111,9 +111,9 @@ IsScaleFailure scale text errors.OutOfMemory = Unit {0}
 
 -- the number of the line at fault, if one is
 abbrev pub faulty_line : ScaleError → Option ℕ
-faulty_line (errors.Header n fault) = Some n
+faulty_line (errors.Header at) = Some at.line
 faulty_line (errors.Field n) = Some n
-faulty_line (errors.Sizes n fault) = Some n
+faulty_line (errors.Sizes at) = Some at.line
 faulty_line (errors.Entry n) = Some n
 faulty_line (errors.Fraction n least) = Some n
 faulty_line (errors.Range n) = Some n

@@ -1,11 +1,12 @@
 //! The commands of `mtxkit` over files.
 
-ghost use Rattle.mtxkit_commands.specs.Commands.{IsSized};
+ghost use Rattle.mtxkit_arguments.specs.Sizes.{IsSized};
 
 use crate::outcome::{Outcome, checksum_of_bytes};
 use crate::page::Page;
 use case_words::turn::Turn;
-use mtxkit_commands::{Command, FillOrder, Inputs, Target, Values, run as run_command};
+use mtxkit_arguments::{Command, FillOrder, Target, Values};
+use mtxkit_commands::{Inputs, run as run_command};
 use mtxkit_facts::Form;
 use mtxkit_matrices::EliminationOrder;
 use mtxkit_patterns::Method;

@@ -30,6 +30,20 @@ pub struct Location {
     pub word: Option<Quote>,
 }
 
+impl Location {
+    /// Returns the location of a fault of a line, with the word of the line that has it.
+    pub fn of_line(number: usize, fault: LineFault, line: &[u8]) -> Location
+        ensures line { result.line ≡ number }
+        ensures fault { result.fault ≡ fault }
+    {
+        Location {
+            line: number,
+            fault,
+            word: word_at_fault(fault, line),
+        }
+    }
+}
+
 impl Display for Location {
     fn fmt<W: Write>(&self, f: &mut Formatter<W>) -> fmt::Result {
         match self.word {
@@ -105,11 +119,7 @@ fn sizes_of(text: &[u8]) -> Result<Sizes<'_>, Location>
             size_line: found.number,
             below: found.below,
         }),
-        None => Err(Location {
-            line: found.number,
-            fault: LineFault::Size,
-            word: word_at_fault(LineFault::Size, found.line),
-        }),
+        None => Err(Location::of_line(found.number, LineFault::Size, found.line)),
     }
 }
 
@@ -132,11 +142,7 @@ fn head_of(text: &[u8]) -> Result<Head<'_>, Location>
             number: found.number,
             below: found.below,
         }),
-        None => Err(Location {
-            line: found.number,
-            fault: LineFault::Header,
-            word: word_at_fault(LineFault::Header, found.line),
-        }),
+        None => Err(Location::of_line(found.number, LineFault::Header, found.line)),
     }
 }
 
@@ -206,11 +212,7 @@ fn first_fault(search: Search, text: &[u8], first: usize) -> Result<usize, Locat
             Err(_) => return Ok(count),
         };
         if let Some(fault) = line_fault(search, found.line) {
-            return Err(Location {
-                line: found.number,
-                fault: fault,
-                word: word_at_fault(fault, found.line),
-            });
+            return Err(Location::of_line(found.number, fault, found.line));
         }
         rest = found.below;
         number = found.number + 1;

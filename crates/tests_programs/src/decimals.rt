@@ -123,6 +123,11 @@ const TEXTS: &[(&str, u32, &str)] = &[
         "line 3: no header; expected %%MatrixMarket matrix and a format, a field and a symmetry",
     ),
     (
+        "%%MatrixMarket matrix coordinate integr general\n1 1 0\n",
+        0,
+        "line 1: no field is named 'integr'; expected real, complex, integer or pattern",
+    ),
+    (
         "%%MatrixMarket matrix array real hermitian\n1 1\n1\n",
         0,
         "line 1: only complex matrices are hermitian",
@@ -146,6 +151,11 @@ const TEXTS: &[(&str, u32, &str)] = &[
         "%%MatrixMarket matrix coordinate real general\n1 1 1 1\n",
         0,
         "line 2: no size line; expected rows, columns and, in the format coordinate, entries",
+    ),
+    (
+        "%%MatrixMarket matrix coordinate real general\n1 x 1\n",
+        0,
+        "line 2: 'x' is no size; expected rows, columns and, in the format coordinate, entries",
     ),
     (
         "%%MatrixMarket matrix array real general\n1 18446744073709551616\n",

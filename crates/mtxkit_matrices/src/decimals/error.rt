@@ -3,7 +3,7 @@
 ghost use Rattle.std.specs.Prelude.{◌≡◌};
 ghost use Rattle.mtxkit_matrices.specs.ScaleFailures.{faulty_line};
 
-use sparse_faults::LineFault;
+use sparse_faults::Location;
 use std::alloc::{AllocError, AllocFailed};
 use std::error::Error;
 use std::fmt::{self, Display, Formatter, Write};
@@ -13,11 +13,11 @@ use std::fmt::{self, Display, Formatter, Write};
 #[derive(Clone, Copy, Debug)]
 pub enum ScaleError {
     /// This line, the first that is not blank, is not a header, or names the symmetry `hermitian`.
-    Header(usize, LineFault),
+    Header(Location),
     /// The header in this line names the field `complex` or `pattern`.
     Field(usize),
     /// This line is not a size line for the header.
-    Sizes(usize, LineFault),
+    Sizes(Location),
     /// This line is not a data line for the header.
     Entry(usize),
     /// The value in this line, scaled, is not an integer. The least scale at which it is one, if there is one.
@@ -36,9 +36,8 @@ impl ScaleError {
         ensures { result ≡ faulty_line self }
     {
         match self {
-            ScaleError::Header(number, _)
-            | ScaleError::Field(number)
-            | ScaleError::Sizes(number, _)
+            ScaleError::Header(at) | ScaleError::Sizes(at) => Some(at.line),
+            ScaleError::Field(number)
             | ScaleError::Entry(number)
             | ScaleError::Fraction(number, _)
             | ScaleError::Range(number) => Some(number),
@@ -46,9 +45,10 @@ impl ScaleError {
         }
     }
 
+    // Returns the message, without the word at fault.
     fn reason(self) -> &'static str {
         match self {
-            ScaleError::Header(_, fault) | ScaleError::Sizes(_, fault) => fault.words(),
+            ScaleError::Header(at) | ScaleError::Sizes(at) => at.fault.words(),
             ScaleError::Field(_) =>
                 "the values are not decimal numbers but complex ones or a pattern",
             ScaleError::Entry(_) => "no data line that fits the header",
@@ -62,7 +62,10 @@ impl ScaleError {
 
 impl Display for ScaleError {
     fn fmt<W: Write>(&self, f: &mut Formatter<W>) -> fmt::Result {
-        f.write_str(self.reason())
+        match self {
+            ScaleError::Header(at) | ScaleError::Sizes(at) => Display::fmt(at, f),
+            _ => f.write_str(self.reason()),
+        }
     }
 }
 

@@ -13,7 +13,7 @@ ghost use Rattle.mtxkit_matrices.specs.InnerScaleFailures.{IsHeadFailure};
 
 use crate::decimals::entry::push_entry;
 use crate::decimals::error::ScaleError;
-use sparse_faults::{LineFault, is_comment};
+use sparse_faults::{LineFault, Location, is_comment};
 use sparse_parser::header::{Field, Format, Header, Symmetry};
 use sparse_parser::lines::next_word;
 use sparse_parser::size::Size;
@@ -80,13 +80,13 @@ fn push_header(written: &mut Vec<u8>, number: usize, line: &[u8]) -> Result<Stag
     ensures refused { IfErr result (IsHeadFailure number (words_of line.now)) }
 {
     let Some(header) = Header::from_line(line) else {
-        return Err(ScaleError::Header(number, LineFault::Header));
+        return Err(ScaleError::Header(Location::of_line(number, LineFault::Header, line)));
     };
     if !is_decimal(header.field) {
         return Err(ScaleError::Field(number));
     }
     let Some(head) = head(header.format, header.symmetry) else {
-        return Err(ScaleError::Header(number, LineFault::Hermitian));
+        return Err(ScaleError::Header(Location::of_line(number, LineFault::Hermitian, line)));
     };
     push_bytes(written, Stage::Sizes(header), head.as_bytes())
 }
@@ -143,7 +143,10 @@ fn push_sizes(
 {
     match Size::from_line(header, line) {
         Some(Ok(_)) => push_bytes(written, Stage::Entries(header), line),
-        Some(Err(cause)) => Err(ScaleError::Sizes(number, LineFault::of_size(cause))),
-        None => Err(ScaleError::Sizes(number, LineFault::Size)),
+        Some(Err(cause)) => {
+            let fault = LineFault::of_size(cause);
+            Err(ScaleError::Sizes(Location::of_line(number, fault, line)))
+        }
+        None => Err(ScaleError::Sizes(Location::of_line(number, LineFault::Size, line))),
     }
 }

@@ -1,4 +1,4 @@
-use Rattle.std.proofs.Common.{◌∷◌, [], inr, map, string_bytes, ap, ◌∙◌}
+use Rattle.std.proofs.Common.{inr, map, string_bytes, ap, ◌∙◌}
 use Rattle.std.proofs.lemmas.List.{map_push}
 use Rattle.std.proofs.lemmas.Result.{err_from_is_err_and}
 use Rattle.mtxkit_commands.proofs.Readings.{all-read, first-unread, one-more-read}

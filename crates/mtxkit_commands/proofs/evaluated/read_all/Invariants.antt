@@ -1,6 +1,6 @@
 use Rattle.std.proofs.Common.{map, take, string_bytes}
 use Rattle.mtxkit_commands.specs.Inputs.{AreRead}
-use Rattle.mtxkit_commands.specs.Names.{paths}
+use Rattle.mtxkit_arguments.specs.Files.{paths}
 use Rattle.mtxkit_commands.proofs.evaluated.read_all.Given as goal
 
 abbrev pub invariant-loop-index : goal.invariant-loop-index

@@ -23,9 +23,9 @@ loop-found-preserved c =
     c.in-Ok.ensures.found (sym (ap (λ o. is_none o) c.in_default.is) ∙ c.line_fault.ensures)
 
 pub returns-in-Some-clause-fault : goal.returns-in-Some-clause-fault
-returns-in-Some-clause-fault c =
-    passed_failing c.args.search c.args.text.now c.args.first c.loop-found.invariant
-    c.in-Ok.ensures.found (sym (ap (λ o. is_none o) c.in-Some.is) ∙ c.line_fault.ensures)
+returns-in-Some-clause-fault c = rw c.of_line.ensures.line
+    (passed_failing c.args.search c.args.text.now c.args.first c.loop-found.invariant
+    c.in-Ok.ensures.found (sym (ap (λ o. is_none o) c.in-Some.is) ∙ c.line_fault.ensures))
 
 pub returns-in-Err-clause-passed : goal.returns-in-Err-clause-passed
 returns-in-Err-clause-passed c =

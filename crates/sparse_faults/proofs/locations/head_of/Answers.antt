@@ -10,5 +10,5 @@ returns-in-Some-clause-head c =
     head_line c.in-Ok.ensures.found _ (sym c.from_line.ensures ∙ c.in-Some.is)
 
 pub returns-in-None-clause-fault : goal.returns-in-None-clause-fault
-returns-in-None-clause-fault c =
-    no_head_line c.in-Ok.ensures.found (sym c.from_line.ensures ∙ c.in-None.is)
+returns-in-None-clause-fault c = rw c.of_line.ensures.line
+    (no_head_line c.in-Ok.ensures.found (sym c.from_line.ensures ∙ c.in-None.is))

@@ -14,6 +14,6 @@ returns-in-Some-clause-sizes c =
     (sym (ap (option_map (λ r. size_numbers r)) c.in-Some.is) ∙ c.from_line.ensures)
 
 pub returns-in-None-clause-fault : goal.returns-in-None-clause-fault
-returns-in-None-clause-fault c =
-    no_size_line c.in-Ok.ensures.head c.in-Ok-first_content.ensures.found
-    (sym (ap (option_map (λ r. size_numbers r)) c.in-None.is) ∙ c.from_line.ensures)
+returns-in-None-clause-fault c = rw c.of_line.ensures.line
+    (no_size_line c.in-Ok.ensures.head c.in-Ok-first_content.ensures.found
+    (sym (ap (option_map (λ r. size_numbers r)) c.in-None.is) ∙ c.from_line.ensures))

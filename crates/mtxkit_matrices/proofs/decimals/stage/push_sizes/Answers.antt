@@ -23,10 +23,11 @@ returns-in-Some-Err-clause-refused c = λ scale.
     inr (
       c.requires.content,
       (
-        refl,
-        unsized c.args.header _ c.from_line.result c.from_line.ensures c.in-Some-Err.cause _
+        c.of_line.ensures.line,
+        rw c.of_line.ensures.fault (unsized c.args.header _ c.from_line.result c.from_line.ensures
+            c.in-Some-Err.cause _
             (c.in-Some-Err.is ∙ ap (λ (x : Result Size Cause). Some x) c.in-Some-Err.field-0-is)
-            c.of_size.ensures,
+            c.of_size-fault.ensures),
       ),
     )
 
@@ -34,5 +35,9 @@ pub returns-in-None-clause-refused : goal.returns-in-None-clause-refused
 returns-in-None-clause-refused c = λ scale.
     inr (
       c.requires.content,
-      (refl, no_size c.args.header _ c.from_line.result c.from_line.ensures c.in-None.is),
+      (
+        c.of_line-in-None.ensures.line,
+        rw c.of_line-in-None.ensures.fault
+            (no_size c.args.header _ c.from_line.result c.from_line.ensures c.in-None.is),
+      ),
     )

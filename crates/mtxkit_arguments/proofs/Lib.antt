@@ -1,0 +1,2 @@
+mod GivenCommands
+mod Paths

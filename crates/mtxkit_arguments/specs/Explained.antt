@@ -1,0 +1,13 @@
+-- What is said for an error of `clap`.
+use Rattle.std.specs.Prelude.{◌≡◌, ◌≢◌, ◌⊎◌}
+use Rattle.clap.specs.declared.error.kind.ErrorKind.{ErrorKind}
+use Rattle.clap.specs.declared.error.kind.ErrorKind.TheVariants.{DisplayHelp, DisplayVersion}
+use Rattle.mtxkit_arguments.specs.declared.parsing.Explanation.{Explanation}
+use Rattle.mtxkit_arguments.specs.declared.parsing.Explanation.TheVariants.{Help, Mistake}
+use Rattle.mtxkit_arguments.specs.declared.parsing.Explanation.TheVariants.{OutOfMemory}
+
+-- help or the version is said exactly if it was asked for, and otherwise what is wrong, or that an allocation failed
+abbrev pub IsExplained : ErrorKind → Explanation → Type 0
+IsExplained kind (Help text) = (kind ≡ DisplayHelp) ⊎ (kind ≡ DisplayVersion)
+IsExplained kind (Mistake text) = (kind ≢ DisplayHelp) × (kind ≢ DisplayVersion)
+IsExplained kind OutOfMemory = Unit {0}
