@@ -15,7 +15,7 @@ pub enum OrderError {
     NotSquare(usize),
     /// The text with this number is not an array of one column.
     NotColumn(usize),
-    /// In the order of the text with this number, the number at this place, counted from 0, is 0 or exceeds its length.
+    /// In the order of the text with this number, the number at this place, counted from 0, is not from 1 to its length.
     OutOfRange(usize, usize),
     /// In the order of the text with this number, the number at this place, counted from 0, occurs before.
     Repeated(usize, usize),
@@ -32,7 +32,7 @@ impl Display for OrderError {
             OrderError::NotColumn(_) => f.write_str("an order is an array of one column"),
             OrderError::OutOfRange(_, at) => {
                 let place = *at as u128 + 1;
-                write!(f, "number {place} of the order is 0 or exceeds its length")
+                write!(f, "number {place} of the order is not from 1 to its length")
             }
             OrderError::Repeated(_, at) => {
                 let place = *at as u128 + 1;

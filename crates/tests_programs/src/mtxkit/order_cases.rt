@@ -43,7 +43,7 @@ pub const PERMUTE_CASES: &[SystemCase] = &[
     (
         &["permute"],
         &["2 1 2\n1 1 2\n2 1 3\n", "2 2 0\n"],
-        Err("mtxkit: 0.mtx: number 2 of the order is 0 or exceeds its length\n"),
+        Err("mtxkit: 0.mtx: number 2 of the order is not from 1 to its length\n"),
     ),
     (
         &["permute"],
