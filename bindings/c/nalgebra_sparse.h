@@ -38,9 +38,10 @@
  *
  * What is not proved. No contract says that OUT_OF_MEMORY is returned only if an allocation failed: by the contracts it
  * may be returned at any time. A test refuses each request for memory of small calls in turn
- * (bindings/c/test_refusals.c). Of several causes that apply to a call over handles, which one decides is not
- * proved, but that an empty handle comes first is. This header and the programs around the library are checked by tests
- * alone (bindings/test). The caller must ensure that
+ * (bindings/c/test_refusals.c). Of several causes that apply to a call over handles it is proved that an empty handle
+ * comes first, then SHAPE_MISMATCH for a matrix that is not square, then a wrong length, then the numbers of an order,
+ * then SINGULAR; of other causes it is not proved which one decides. This header and the programs around the library
+ * are checked by tests alone (bindings/test). The caller must ensure that
  *   - each pointer is not null, even where the length is 0, is aligned, and has at least as many elements as the length
  *     says (the inline functions over structs take the null pointer of an empty std::vector, and pass another one);
  *   - no array for a result overlaps another array;
