@@ -2,7 +2,7 @@
 -- - `not_begun`: before the first write
 -- - `begun_run`, `begun_pattern`: after a failed run of an expression, and a failed write of a pattern
 -- - `HasBegun-map`: a part of an answer, as one of another kind
--- - `HasBegun-kept`, `HasBegun-answered`, `IsAnswered-kept`: after a flush, which keeps what was written
+-- - `HasBegun-answered`, `IsAnswered-kept`: after a flush, which keeps what was written
 use Rattle.std.proofs.Common.{◌≡◌, ◌⊎◌, ℕ, List, [], Option, Some, None, Result, Ok, Err, OnErr}
 use Rattle.std.proofs.Common.{inl, inr, refl, sym, subst, ◌∙◌}
 use Rattle.std.proofs.lemmas.List.{append-nil}
@@ -32,12 +32,6 @@ Keeps-same (Some bytes) = refl
 
 Keeps-is : (old new : Option (List ℕ)) → new ≡ old → Keeps old new
 Keeps-is old new is = subst (Keeps old) (sym is) (Keeps-same old)
-
-Keeps-kept : (old mid new : Option (List ℕ)) → Keeps old mid → Keeps mid new → Keeps old new
-Keeps-kept None mid new first then = tt
-Keeps-kept (Some xs) None new first then = absurd first
-Keeps-kept (Some xs) (Some ys) None first then = absurd then
-Keeps-kept (Some xs) (Some ys) (Some zs) first then = then ∙ first
 
 Appends-kept : (old mid new : Option (List ℕ)) (text : List ℕ) → Appends old mid text → Keeps mid new
     → Appends old new text
@@ -77,22 +71,6 @@ module _ {P : Option (List ℕ) → Option (List ℕ) → Type 0} where
     is_answer = map w.whole w.is_answer;
     appended = w.appended;
     part = w.part;
-  })
-
-  pub HasBegun-kept : (old mid new : Option (List ℕ)) → HasBegun P old mid → Keeps mid new
-      → HasBegun P old new
-  HasBegun-kept old mid new (inl kept) then = inl (Keeps-kept old mid new kept then)
-  HasBegun-kept old mid new (inr w) then = inr (record {
-    whole = w.whole;
-    text = w.text;
-    is_answer = w.is_answer;
-    appended = w.appended;
-    part = record {
-      done = w.part.done;
-      rest = w.part.rest;
-      parts = w.part.parts;
-      appended = Appends-kept old mid new w.part.done w.part.appended then;
-    };
   })
 
   -- a prefix of a text was appended with which the output would be an answer
