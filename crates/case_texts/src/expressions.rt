@@ -8,9 +8,7 @@ use case_words::lines::{text_of, unescaped};
 use case_words::picture::list_of;
 use case_words::turn::Turn;
 use case_words::words::{Word, words_of};
-use nalgebra_sparse::expr::{
-    Expr, ExprError, OutputOrder, evaluate_cols, evaluate_rows, run, run_owned,
-};
+use nalgebra_sparse::expr::{Expr, ExprError, Form, evaluate_cols, evaluate_rows, run, run_owned};
 use nalgebra_sparse::io::{MatrixMarketExport, Out, save_to_matrix_market_str};
 use nalgebra_sparse::ops::Op;
 use nalgebra_sparse::scalar::W64;
@@ -20,7 +18,7 @@ use std::alloc::{AllocError, Global};
 /// A format in which expressions are evaluated.
 trait Evaluated: Compressed<W64> + MatrixMarketExport<W64> {
     /// Returns the format in which a run writes the same matrix.
-    fn form() -> OutputOrder;
+    fn form() -> Form;
 
     /// Returns the value of an expression.
     fn value_of(alloc: Global, expr: &Expr, inputs: &[CooMatrix<W64>]) -> Result<Self, ExprError>;
@@ -28,8 +26,8 @@ trait Evaluated: Compressed<W64> + MatrixMarketExport<W64> {
 
 /// By rows.
 impl Evaluated for CsrMatrix<W64> {
-    fn form() -> OutputOrder {
-        OutputOrder::Rows
+    fn form() -> Form {
+        Form::Rows
     }
 
     fn value_of(alloc: Global, expr: &Expr, inputs: &[CooMatrix<W64>]) -> Result<Self, ExprError> {
@@ -39,8 +37,8 @@ impl Evaluated for CsrMatrix<W64> {
 
 /// By columns.
 impl Evaluated for CscMatrix<W64> {
-    fn form() -> OutputOrder {
-        OutputOrder::Cols
+    fn form() -> Form {
+        Form::Cols
     }
 
     fn value_of(alloc: Global, expr: &Expr, inputs: &[CooMatrix<W64>]) -> Result<Self, ExprError> {
@@ -67,8 +65,8 @@ pub fn answer_on_expressions(
     match (scalar, name, form) {
         ("W64", "value", "rows") => value::<CsrMatrix<W64>>(turn, words.as_str(), inputs),
         ("W64", "value", _) => value::<CscMatrix<W64>>(turn, words.as_str(), inputs),
-        ("W64", _, "rows") => run_over_texts(turn, OutputOrder::Rows, words.as_str(), inputs),
-        ("W64", _, _) => run_over_texts(turn, OutputOrder::Cols, words.as_str(), inputs),
+        ("W64", _, "rows") => run_over_texts(turn, Form::Rows, words.as_str(), inputs),
+        ("W64", _, _) => run_over_texts(turn, Form::Cols, words.as_str(), inputs),
         _ => Err(Failure::Unreadable("expressions are over W64")),
     }
 }
@@ -147,7 +145,7 @@ fn agree<F: Evaluated>(
 // What words write over texts, without its first lines.
 fn run_over_texts(
     turn: &mut Turn,
-    form: OutputOrder,
+    form: Form,
     words: &str,
     inputs: &str,
 ) -> Result<String, Failure> {
@@ -169,7 +167,7 @@ fn texts_of(alloc: Global, inputs: &str) -> Result<Vec<String>, Failure> {
 // What words write over texts: borrowed, and owned.
 fn ran(
     turn: &mut Turn,
-    form: OutputOrder,
+    form: Form,
     words: &str,
     (texts, copies): (&[String], Vec<String>),
 ) -> Result<String, Failure> {
@@ -200,7 +198,7 @@ fn borrowed(alloc: Global, texts: &[String]) -> Result<Vec<&str>, AllocError> {
 // Runs words over texts, borrowed and owned.
 fn both(
     alloc: Global,
-    form: OutputOrder,
+    form: Form,
     words: &str,
     (texts, copies): (&[&str], Vec<String>),
     (first, second): (&mut Out<Vec<u8>>, &mut Out<Vec<u8>>),

@@ -15,7 +15,7 @@ use Rattle.nalgebra_sparse.specs.Raw.{Raw}
 use Rattle.nalgebra_sparse.specs.Run.{RefusesRun, Writes, WritesSome, text_in, effect}
 use Rattle.nalgebra_sparse.specs.Sink.{AppendsSome}
 use Rattle.nalgebra_sparse.specs.Written.{text_of}
-use Rattle.sparse_expr.specs.declared.calculator.OutputOrder.{OutputOrder}
+use Rattle.sparse_expr.specs.declared.calculator.Form.{Form}
 use Rattle.sparse_expr.specs.declared.error.ExprError.{ExprError}
 use Rattle.sparse_expr.specs.declared.error.ExprError.TheVariants.{Input, Write, OutOfMemory}
 use Rattle.sparse_expr.specs.declared.error.ExprError.TheVariants.{NoSuchInput, Shape}
@@ -97,7 +97,7 @@ HasBegun-whole old mid new text is appended then = inr (record {
 
 -- ---- a failed run of an expression
 
-module _ (form : OutputOrder) (texts : List (List ℕ)) (expr : Expr) where
+module _ (form : Form) (texts : List (List ℕ)) (expr : Expr) where
   some_begun : (old new : Option (List ℕ)) → WritesSome form texts expr old new
       → HasBegun (Writes form texts expr) old new
   some_begun old new w = HasBegun-text old new (text_in form w.value)

@@ -7,7 +7,7 @@ use Rattle.sparse_parser.specs.declared.error.MatrixMarketErrorKind.TheVariants 
 use Rattle.nalgebra_sparse.specs.Files.{file_fault}
 use Rattle.nalgebra_sparse.specs.PostfixWords.{IsRefused}
 use Rattle.nalgebra_sparse.specs.Run.{RefusesRun, effect}
-use Rattle.sparse_expr.specs.declared.calculator.OutputOrder.{OutputOrder}
+use Rattle.sparse_expr.specs.declared.calculator.Form.{Form}
 use Rattle.sparse_expr.specs.declared.error.ExprError.{ExprError}
 use Rattle.sparse_expr.specs.declared.error.ExprError.TheVariants.{Input, Write, OutOfMemory}
 use Rattle.sparse_expr.specs.declared.error.ExprError.TheVariants.{NoSuchInput, Shape}
@@ -78,7 +78,7 @@ module _ (n : ℕ) (last : Option ErrorKind) where
 -- ---- failures at a write
 
 -- the error of a run of an expression
-pub write_named_run : (form : OutputOrder) (texts : List (List ℕ)) (expr : Expr) (t u : Option (List ℕ))
+pub write_named_run : (form : Form) (texts : List (List ℕ)) (expr : Expr) (t u : Option (List ℕ))
     (before after : ℕ) (last : Option ErrorKind) (error : ExprError)
     → RefusesRun form texts expr (effect t u before after last) error
     → NamesWrite before after last (Refused error)

@@ -5,8 +5,8 @@ use Rattle.std.specs.declared.io.ErrorKind.TheVariants as io
 use Rattle.nalgebra_sparse.specs.PostfixWords.{words_of, IsSaid}
 use Rattle.nalgebra_sparse.specs.Run.{Writes}
 use Rattle.sparse_expr.specs.declared.expr.Expr.{Expr}
-use Rattle.sparse_expr.specs.declared.calculator.OutputOrder.{OutputOrder}
-use Rattle.sparse_expr.specs.declared.calculator.OutputOrder.TheVariants.{Rows, Cols}
+use Rattle.sparse_expr.specs.declared.calculator.Form.{Form}
+use Rattle.sparse_expr.specs.declared.calculator.Form.TheVariants.{Rows, Cols}
 use Rattle.sparse_expr.specs.declared.error.ExprError.TheVariants.{OutOfMemory}
 use Rattle.sparse_factor.specs.declared.factorization.Triangle.{Triangle}
 use Rattle.sparse_factor.specs.declared.factorization.Triangle.TheVariants.{Upper, Lower, Both}
@@ -15,7 +15,7 @@ use Rattle.mtx_commands.specs.declared.cli.Failure.{Failure}
 use Rattle.mtx_commands.specs.declared.cli.Failure.TheVariants as failure
 
 -- for some texts, one for each file, the text of the expression's value was appended to the output
-pub record IsEvaluated (form : OutputOrder) (expression : List ℕ) (files : ℕ) (old new : Option (List ℕ)) :
+pub record IsEvaluated (form : Form) (expression : List ℕ) (files : ℕ) (old new : Option (List ℕ)) :
     Type 0 where
   pub sources : List (List ℕ)
   pub expr : Expr
@@ -25,7 +25,7 @@ pub record IsEvaluated (form : OutputOrder) (expression : List ℕ) (files : ℕ
 
 -- the words are the name of the order, an expression and files, and the expression's value was
 -- written
-pub record IsCalculated (form : OutputOrder) (order : List ℕ) (words : List (List ℕ))
+pub record IsCalculated (form : Form) (order : List ℕ) (words : List (List ℕ))
     (old new : Option (List ℕ)) : Type 0 where
   pub expression : List ℕ
   pub paths : List (List ℕ)
@@ -34,7 +34,7 @@ pub record IsCalculated (form : OutputOrder) (order : List ℕ) (words : List (L
   pub evaluated : IsEvaluated form expression (length paths) old new
 
 -- the word for an order of the result
-abbrev pub name_of : OutputOrder → List ℕ
+abbrev pub name_of : Form → List ℕ
 name_of Rows = codes "rows"
 name_of Cols = codes "cols"
 
@@ -52,7 +52,7 @@ AsksFill triangle path words = (words ≡ codes "fill" ∷ (triangle_name triang
 
 -- the words ask for the value of an expression over files
 pub record AsksValue (words : List (List ℕ)) : Type 0 where
-  pub form : OutputOrder
+  pub form : Form
   pub expression : List ℕ
   pub paths : List (List ℕ)
   pub split : words ≡ name_of form ∷ (expression ∷ paths)
@@ -72,7 +72,7 @@ pub record IsFilled (words : List (List ℕ)) (old new : Option (List ℕ)) : Ty
 
 -- the words ask for the value of an expression or for a fill, and that was written
 abbrev pub IsAnswered : List (List ℕ) → Option (List ℕ) → Option (List ℕ) → Type 0
-IsAnswered words old new = ((form : OutputOrder) × IsCalculated form (name_of form) words old new)
+IsAnswered words old new = ((form : Form) × IsCalculated form (name_of form) words old new)
     ⊎ IsFilled words old new
 
 -- the exit status of a failure

@@ -5,7 +5,7 @@ ghost use Rattle.std.specs.Prelude.{IfErr, IfSome, IsTrue, map, string_bytes};
 ghost use Rattle.std.specs.Io.KnownBytes.{Keeps};
 ghost use Rattle.nalgebra_sparse.specs.PostfixWords.{texts};
 ghost use Rattle.nalgebra_sparse.specs.Run.{Writes};
-ghost use Rattle.sparse_expr.specs.declared.calculator.OutputOrder.{OutputOrder};
+ghost use Rattle.sparse_expr.specs.declared.calculator.Form.{Form};
 ghost use Rattle.sparse_expr.specs.declared.error.ExprError.TheVariants.{OutOfMemory};
 ghost use Rattle.sparse_factor.specs.declared.factorization.Triangle.{Triangle};
 ghost use Rattle.mtx_commands.specs.Commands.{IsAnswered, IsCommand, IsEvaluated, name_of};
@@ -17,7 +17,7 @@ ghost use Rattle.mtx_commands.specs.declared.cli.Failure.TheVariants.{Usage, Not
 
 use crate::fill::fill;
 use crate::inputs::read_all;
-use nalgebra_sparse::expr::{Expr, ExprError, OutputOrder, run_owned};
+use nalgebra_sparse::expr::{Expr, ExprError, Form, run_owned};
 use nalgebra_sparse::factorization::Triangle;
 use nalgebra_sparse::io::{Out, Sink, write_all_to};
 use std::alloc::{AllocError, AllocFailed, Global};
@@ -141,13 +141,13 @@ where
 }
 
 // Returns the order of the result, row by row or column by column, that the first word names.
-fn form_of(word: &str) -> Option<OutputOrder>
+fn form_of(word: &str) -> Option<Form>
     ensures named { IfSome result (λ form. word.now ≡ name_of form) }
-    ensures unnamed { result ≡ None → (form : OutputOrder) → word.now ≢ name_of form }
+    ensures unnamed { result ≡ None → (form : Form) → word.now ≢ name_of form }
 {
     match word {
-        "rows" => Some(OutputOrder::Rows),
-        "cols" => Some(OutputOrder::Cols),
+        "rows" => Some(Form::Rows),
+        "cols" => Some(Form::Cols),
         _ => None,
     }
 }
@@ -169,7 +169,7 @@ fn triangle_of(word: &str) -> Option<Triangle>
 #[tactic(auto, using(crate::proofs::Failures::write_named_words, crate::proofs::Failures::write_named_files, crate::proofs::Begun::not_begun))]
 fn evaluate<R, W>(
     rt: &R,
-    form: OutputOrder,
+    form: Form,
     expression: &str,
     paths: &[&str],
     out: &mut W,
@@ -196,7 +196,7 @@ where
 #[tactic(auto, using(crate::proofs::Failures::write_named_run))]
 fn write_value<W: Sink>(
     alloc: Global,
-    form: OutputOrder,
+    form: Form,
     expr: &Expr,
     sources: Vec<String>,
     out: &mut W,

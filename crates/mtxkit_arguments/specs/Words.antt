@@ -7,10 +7,10 @@ use Rattle.clap.specs.Simple.{subcommand_rows_of}
 use Rattle.clap.specs.Walk.{rows_of}
 use Rattle.clap.specs.declared.parser.matches.ArgMatches.{ArgMatches}
 use Rattle.clap.specs.declared.parser.matches.Found.{Found}
-use Rattle.sparse_expr.specs.declared.calculator.OutputOrder.{OutputOrder}
-use Rattle.sparse_expr.specs.declared.calculator.OutputOrder.TheVariants.{Rows, Cols}
-use Rattle.mtxkit_facts.specs.declared.facts.Form.{Form}
-use Rattle.mtxkit_facts.specs.declared.facts.Form.TheVariants.{Lines, Json}
+use Rattle.sparse_expr.specs.declared.calculator.Form.{Form}
+use Rattle.sparse_expr.specs.declared.calculator.Form.TheVariants.{Rows, Cols}
+use Rattle.mtxkit_facts.specs.declared.facts.ReportFormat.{ReportFormat}
+use Rattle.mtxkit_facts.specs.declared.facts.ReportFormat.TheVariants.{Lines, Json}
 use Rattle.mtxkit_arguments.specs.Files.{target_file, paths}
 use Rattle.mtxkit_arguments.specs.Optional.{GivesFlag, GivesNumber}
 use Rattle.mtxkit_arguments.specs.Sizes.{size_given}
@@ -105,21 +105,21 @@ abbrev pub AreArguments : Found → List ℕ → List (List ℕ) → Type 0
 AreArguments words name texts = option_map raw_values (matched_of words name) ≡ Some texts
 
 -- facts are written as lines unless a flag is given
-abbrev pub form_for : Bool → Form
-form_for true = Json
-form_for false = Lines
+abbrev pub report_format_for : Bool → ReportFormat
+report_format_for true = Json
+report_format_for false = Lines
 
-abbrev pub GivesForm : Found → Form → Type 0
-GivesForm words form = (json : Bool) × GivesFlag words (codes "json") json × (form ≡ form_for json)
+abbrev pub GivesReportFormat : Found → ReportFormat → Type 0
+GivesReportFormat words form = (json : Bool) × GivesFlag words (codes "json") json × (form ≡ report_format_for json)
 
 -- entries are written row by row unless a flag is given
-abbrev pub order_for : Bool → OutputOrder
-order_for true = Cols
-order_for false = Rows
+abbrev pub form_for : Bool → Form
+form_for true = Cols
+form_for false = Rows
 
-abbrev pub GivesOutputOrder : Found → OutputOrder → Type 0
-GivesOutputOrder words order =
-    (columns : Bool) × GivesFlag words (codes "columns") columns × (order ≡ order_for columns)
+abbrev pub GivesForm : Found → Form → Type 0
+GivesForm words order =
+    (columns : Bool) × GivesFlag words (codes "columns") columns × (order ≡ form_for columns)
 
 -- the size, the scale and the modulus are those that are given; the default size and the scale 0 if none is
 abbrev pub GivesSize : Found → Target → ℕ → Type 0
@@ -135,7 +135,7 @@ GivesModulus words modulus = GivesNumber 64 words (codes "mod") modulus
 
 -- the command has the files, the field, the output file, the flags and the numbers that these arguments give
 abbrev pub GivesCommand : Found → Command → Type 0
-GivesCommand words (Info file form) = IsArgument words (codes "FILE") file.now × GivesForm words form
+GivesCommand words (Info file form) = IsArgument words (codes "FILE") file.now × GivesReportFormat words form
 GivesCommand words (Spy file size target) = IsArgument words (codes "FILE") file.now
     × IsTargetOf words (first_value words (codes "output")) target × GivesSize words target size
 GivesCommand words (Copy file) = IsArgument words (codes "FILE") file.now
@@ -149,10 +149,10 @@ GivesCommand words (Order file method) = IsArgument words (codes "FILE") file.no
 GivesCommand words (Permute order file) = IsArgument words (codes "ORDER") order.now
     × IsArgument words (codes "FILE") file.now
 GivesCommand words (Fill file order form) = IsArgument words (codes "FILE") file.now
-    × (GivesOrder (first_value words (codes "order")) order × GivesForm words form)
+    × (GivesOrder (first_value words (codes "order")) order × GivesReportFormat words form)
 GivesCommand words (Eval modulus order expression files) =
     IsArgument words (codes "EXPR") expression.now × AreArguments words (codes "FILE") (paths files.now)
-    × GivesOutputOrder words order × GivesModulus words modulus
+    × GivesForm words order × GivesModulus words modulus
 GivesCommand words (Solve modulus order a b) = IsArgument words (codes "A") a.now
     × IsArgument words (codes "B") b.now × GivesModulus words modulus
     × GivesElimination (first_value words (codes "order")) order

@@ -6,24 +6,24 @@ ghost use Rattle.std.specs.Option.{option_map};
 ghost use Rattle.mtxkit_arguments.specs.Optional.{GivesFlag};
 ghost use Rattle.mtxkit_arguments.specs.Sizes.{size_given};
 ghost use Rattle.mtxkit_arguments.specs.Words.{field_name, shown_on, IsTargetOf};
-ghost use Rattle.mtxkit_arguments.specs.Words.{GivesElimination, GivesForm, GivesMethod, GivesModulus};
-ghost use Rattle.mtxkit_arguments.specs.Words.{GivesOrder, GivesOutputOrder, GivesScale, GivesSize};
+ghost use Rattle.mtxkit_arguments.specs.Words.{GivesElimination, GivesReportFormat, GivesMethod, GivesModulus};
+ghost use Rattle.mtxkit_arguments.specs.Words.{GivesOrder, GivesForm, GivesScale, GivesSize};
 
 use crate::options::{FillOrder, Target, Values};
 use clap::ArgMatches;
-use mtxkit_facts::Form;
+use mtxkit_facts::ReportFormat;
 use mtxkit_matrices::EliminationOrder;
 use mtxkit_patterns::Method;
-use sparse_expr::OutputOrder;
+use sparse_expr::Form;
 
 /// Returns how facts are written.
-pub(crate) fn form_of(words: &ArgMatches<'_>) -> Form
-    ensures { GivesForm (found_of words.now) result }
+pub(crate) fn report_format(words: &ArgMatches<'_>) -> ReportFormat
+    ensures { GivesReportFormat (found_of words.now) result }
 {
     if flag(words, "json") {
-        Form::Json
+        ReportFormat::Json
     } else {
-        Form::Lines
+        ReportFormat::Lines
     }
 }
 
@@ -127,13 +127,13 @@ pub(crate) fn fill_order<'a>(name: Option<&'a str>) -> FillOrder<'a>
 }
 
 /// Returns the order in which entries are written.
-pub(crate) fn output_order(words: &ArgMatches<'_>) -> OutputOrder
-    ensures { GivesOutputOrder (found_of words.now) result }
+pub(crate) fn form_of(words: &ArgMatches<'_>) -> Form
+    ensures { GivesForm (found_of words.now) result }
 {
     if flag(words, "columns") {
-        OutputOrder::Cols
+        Form::Cols
     } else {
-        OutputOrder::Rows
+        Form::Rows
     }
 }
 

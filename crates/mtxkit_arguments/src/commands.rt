@@ -7,10 +7,10 @@ ghost use Rattle.mtxkit_arguments.specs.Files.{first_path, named_file, path_at, 
 ghost use Rattle.mtxkit_arguments.specs.Files.{is_saved, saved_file};
 
 use crate::options::{FillOrder, Target, Values};
-use mtxkit_facts::Form;
+use mtxkit_facts::ReportFormat;
 use mtxkit_matrices::EliminationOrder;
 use mtxkit_patterns::Method;
-use sparse_expr::OutputOrder;
+use sparse_expr::Form;
 
 /// A command. Its files are given by their paths, and `-` is standard input.
 #[derive(Clone, Copy, Debug)]
@@ -20,7 +20,7 @@ pub enum Command<'a> {
         /// The file.
         file: &'a str,
         /// How the facts are written.
-        form: Form,
+        form: ReportFormat,
     },
     /// `spy`: writes a picture of a pattern, whose sides have at most `size` cells.
     Spy {
@@ -76,14 +76,14 @@ pub enum Command<'a> {
         /// The order of the rows and columns.
         order: FillOrder<'a>,
         /// How the facts are written.
-        form: Form,
+        form: ReportFormat,
     },
     /// `eval`: writes the value of an expression over matrices of integers.
     Eval {
         /// The modulus; without one the integers are exact.
         modulus: Option<u64>,
         /// The order in which the entries are written.
-        order: OutputOrder,
+        order: Form,
         /// The words of the expression, in postfix order.
         words: &'a str,
         /// The files.

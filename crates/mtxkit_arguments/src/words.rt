@@ -6,8 +6,8 @@ ghost use Rattle.mtxkit_arguments.specs.Sizes.{IsSized};
 ghost use Rattle.mtxkit_arguments.specs.Words.{command_name, GivesCommand, IsGiven};
 
 use crate::choices::{
-    elimination_order, fill_order, form_of, method_of, modulus_of, output_order, scale_of, size_of,
-    target_of, values_of,
+    elimination_order, fill_order, form_of, method_of, modulus_of, report_format, scale_of,
+    size_of, target_of, values_of,
 };
 use crate::commands::Command;
 use clap::ArgMatches;
@@ -51,7 +51,7 @@ fn info_of<'a>(words: &ArgMatches<'a>) -> Option<Command<'a>>
     ensures given { IfSome result (GivesCommand (found_of words.now)) }
 {
     let file = words.get_str("FILE")?;
-    let form = form_of(words);
+    let form = report_format(words);
     Some(Command::Info { file, form })
 }
 
@@ -132,7 +132,7 @@ fn fill_of<'a>(words: &ArgMatches<'a>) -> Option<Command<'a>>
 {
     let file = words.get_str("FILE")?;
     let order = fill_order(words.get_str("order"));
-    let form = form_of(words);
+    let form = report_format(words);
     Some(Command::Fill { file, order, form })
 }
 
@@ -144,7 +144,7 @@ fn eval_of<'m, 'a>(words: &'m ArgMatches<'a>) -> Option<Command<'m>>
     let files = words.get_strs("FILE")?;
     Some(Command::Eval {
         modulus: modulus_of(words),
-        order: output_order(words),
+        order: form_of(words),
         words: words.get_str("EXPR")?,
         files,
     })

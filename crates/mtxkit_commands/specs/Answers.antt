@@ -1,6 +1,6 @@
 -- What commands write.
 use Rattle.std.specs.Prelude.{ℕ, List, Option}
-use Rattle.sparse_expr.specs.declared.calculator.OutputOrder.{OutputOrder}
+use Rattle.sparse_expr.specs.declared.calculator.Form.{Form}
 use Rattle.mtxkit_matrices.specs.ScaledTexts.{IsScaledText}
 use Rattle.mtxkit_facts.specs.Facts.{WritesInfo}
 use Rattle.mtxkit_texts.specs.Headers.{header_in}
@@ -47,7 +47,7 @@ IsSolveAnswer modulus a b old new written =
     ReadsTwo a b (λ first second. WritesSolution modulus first second written) old new
 
 -- the text of the value of an expression over the matrices of files
-abbrev pub IsEvalAnswer : Option ℕ → OutputOrder → List ℕ → List (List ℕ) → List Reading
+abbrev pub IsEvalAnswer : Option ℕ → Form → List ℕ → List (List ℕ) → List Reading
     → List Reading → List ℕ → Type 0
 IsEvalAnswer modulus order words files old new written =
     ReadsAll files (λ texts. WritesValue modulus order words texts written) old new

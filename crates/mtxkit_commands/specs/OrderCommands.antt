@@ -6,7 +6,7 @@ use Rattle.mtxkit_patterns.specs.Permuted.{WritesPermuted, IsUnpermuted}
 use Rattle.mtxkit_patterns.specs.declared.order_error.OrderError.{OrderError}
 use Rattle.mtxkit_patterns.specs.declared.order_error.OrderError.TheVariants as order
 use Rattle.mtxkit_patterns.specs.declared.square.Method.{Method}
-use Rattle.mtxkit_facts.specs.declared.facts.Form.{Form}
+use Rattle.mtxkit_facts.specs.declared.facts.ReportFormat.{ReportFormat}
 use Rattle.mtxkit_arguments.specs.declared.options.FillOrder.{FillOrder}
 use Rattle.mtxkit_arguments.specs.declared.options.FillOrder.TheVariants as fill
 use Rattle.mtxkit_commands.specs.Inputs.{Reading}
@@ -27,18 +27,18 @@ IsPermuteAnswer a b old new written =
     ReadsTwo a b (λ first second. WritesPermuted first second written) old new
 
 -- the facts about the fill of the file's matrix, in this form
-abbrev pub IsFillAnswerAlone : Option Method → Form → List ℕ → List Reading → List Reading → List ℕ
+abbrev pub IsFillAnswerAlone : Option Method → ReportFormat → List ℕ → List Reading → List Reading → List ℕ
     → Type 0
 IsFillAnswerAlone method form file old new written =
     ReadsOne file (λ text. WritesFill form method text written) old new
 
 -- the facts about the fill of the second file's matrix, in the order of the first one
-abbrev pub IsFillAnswerInOrder : Form → List ℕ → List ℕ → List Reading → List Reading → List ℕ
+abbrev pub IsFillAnswerInOrder : ReportFormat → List ℕ → List ℕ → List Reading → List Reading → List ℕ
     → Type 0
 IsFillAnswerInOrder form a b old new written =
     ReadsTwo a b (λ first second. WritesFillIn form first second written) old new
 
-abbrev pub IsFillAnswer : FillOrder → Form → List ℕ → List Reading → List Reading → List ℕ → Type 0
+abbrev pub IsFillAnswer : FillOrder → ReportFormat → List ℕ → List Reading → List Reading → List ℕ → Type 0
 IsFillAnswer fill.Natural form file old new written =
     IsFillAnswerAlone None form file old new written
 IsFillAnswer (fill.Computed method) form file old new written =

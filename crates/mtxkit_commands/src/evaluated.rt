@@ -13,7 +13,7 @@ use crate::failure_lines::{push_name, write_line};
 use crate::inputs::{Texts, read_text};
 use mtxkit_eval::{EvalError, eval_text};
 use mtxkit_texts::Failure;
-use sparse_expr::OutputOrder;
+use sparse_expr::Form;
 use sparse_io::Sink;
 use std::alloc::{AllocError, Global};
 
@@ -22,7 +22,7 @@ pub(crate) fn evaluated_of<T: Texts>(
     alloc: Global,
     texts: &mut T,
     modulus: Option<u64>,
-    order: OutputOrder,
+    order: Form,
     words: &str,
     files: &[&str],
 ) -> Result<Vec<u8>, CommandError>

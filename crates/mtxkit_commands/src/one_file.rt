@@ -12,7 +12,7 @@ ghost use Rattle.mtxkit_texts.specs.Rewritten.{IsCopyFailure, WritesCopy};
 
 use crate::inputs::{Texts, read_text};
 use mtxkit_arguments::{Target, Values};
-use mtxkit_facts::{Form, info_text};
+use mtxkit_facts::{ReportFormat, info_text};
 use mtxkit_texts::{
     Failure, copy_text, integer_text, places_text, spy_bitmap, spy_blocks, spy_svg, symmetric_text,
 };
@@ -23,7 +23,7 @@ pub(crate) fn described<T: Texts>(
     alloc: Global,
     texts: &mut T,
     file: &str,
-    form: Form,
+    form: ReportFormat,
 ) -> Result<Vec<u8>, Failure>
     ensures answer { IfOk result (λ answer. ReadsOne file.now
         (λ text. WritesInfo form text answer.items) (T.readings texts.old) (T.readings texts.new)) }

@@ -13,7 +13,7 @@ use crate::command_error::CommandError;
 use crate::failure_lines::{push_name, write_line};
 use crate::inputs::{Texts, read_text};
 use mtxkit_arguments::FillOrder;
-use mtxkit_facts::Form;
+use mtxkit_facts::ReportFormat;
 use mtxkit_patterns::{
     Method, OrderError, fill_text, fill_text_in_order, order_text, permute_text,
 };
@@ -59,7 +59,7 @@ pub(crate) fn filled_of<T: Texts>(
     texts: &mut T,
     file: &str,
     order: FillOrder<'_>,
-    form: Form,
+    form: ReportFormat,
 ) -> Result<Vec<u8>, CommandError>
     ensures answer { IfOk result (λ answer. IsFillAnswer order.entry form file.now
         (T.readings texts.old) (T.readings texts.new) answer.items) }
@@ -79,7 +79,7 @@ fn filled_alone<T: Texts>(
     texts: &mut T,
     file: &str,
     method: Option<Method>,
-    form: Form,
+    form: ReportFormat,
 ) -> Result<Vec<u8>, CommandError>
     ensures answer { IfOk result (λ answer. IsFillAnswerAlone method form file.now
         (T.readings texts.old) (T.readings texts.new) answer.items) }
@@ -96,7 +96,7 @@ fn filled_in_order<T: Texts>(
     texts: &mut T,
     order: &str,
     file: &str,
-    form: Form,
+    form: ReportFormat,
 ) -> Result<Vec<u8>, CommandError>
     ensures answer { IfOk result (λ answer. IsFillAnswerInOrder form order.now file.now
         (T.readings texts.old) (T.readings texts.new) answer.items) }

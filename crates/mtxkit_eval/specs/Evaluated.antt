@@ -12,8 +12,8 @@ use Rattle.sparse_coo_dense.specs.Coo.{Coo}
 use Rattle.sparse_io.specs.Written.{text_with}
 use Rattle.sparse_io.specs.declared.banner.Banner.TheVariants.{MixedCase}
 use Rattle.sparse_expr.specs.PostfixWords.{words_of, IsSaid, IsRefused}
-use Rattle.sparse_expr.specs.declared.calculator.OutputOrder.{OutputOrder}
-use Rattle.sparse_expr.specs.declared.calculator.OutputOrder.TheVariants.{Rows, Cols}
+use Rattle.sparse_expr.specs.declared.calculator.Form.{Form}
+use Rattle.sparse_expr.specs.declared.calculator.Form.TheVariants.{Rows, Cols}
 use Rattle.sparse_expr.specs.declared.expr.Expr.{Expr}
 use Rattle.mtxkit_texts.specs.Loaded.{MeansWhole, IsWholeFailure}
 use Rattle.mtxkit_texts.specs.declared.failure.Failure.{Failure}
@@ -38,7 +38,7 @@ abbrev pub text_of_list : Coo W128 → List ℕ
 text_of_list list = text_with MixedCase (codes "integer") (λ v. signed_decimal (w128_number v)) list
 
 -- the text of the matrix, row by row or column by column
-abbrev pub HasText : OutputOrder → Compressed W128 → List ℕ → Type 0
+abbrev pub HasText : Form → Compressed W128 → List ℕ → Type 0
 HasText Rows m written = written ≡ text_of_list (coo_of_rows m)
 HasText Cols m written = (n : Compressed W128) × IsTranspose m n × (written ≡ text_of_list (coo_of_cols n))
 
@@ -54,7 +54,7 @@ IsValueFailure None ms expr error = IsInexact ms expr error
 IsValueFailure (Some p) ms expr error = HasNoResidues p ms expr error
 
 -- the text of the value of the expression that the words denote, over the matrices that the texts mean
-pub record WritesValue (modulus : Option ℕ) (order : OutputOrder) (words : List ℕ)
+pub record WritesValue (modulus : Option ℕ) (order : Form) (words : List ℕ)
     (texts : List (List ℕ)) (written : List ℕ) : Type 0 where
   pub expr : Expr
   pub inputs : List (Compressed W128)

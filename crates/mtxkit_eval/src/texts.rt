@@ -14,7 +14,7 @@ use mtxkit_texts::{Failure, load_exact};
 use sparse_algebra::scalar::W128;
 use sparse_convert::serial::convert_csr_csc;
 use sparse_csr_csc::csr::CsrMatrix;
-use sparse_expr::{Expr, OutputOrder};
+use sparse_expr::{Expr, Form};
 use sparse_io::{Banner, save_to_matrix_market_str_with};
 use std::alloc::{AllocError, Global};
 
@@ -35,14 +35,14 @@ use std::alloc::{AllocError, Global};
 /// fn a_square_is_written(alloc: Global) -> Result<bool, Fail> {
 ///     let text = "%%MatrixMarket matrix coordinate integer general\n1 1 1\n1 1 3\n";
 ///     let texts = vec![in alloc; String::from_str(alloc, text)?]?;
-///     let square = eval_text(alloc, None, OutputOrder::Rows, "1 1 *", &texts)?;
+///     let square = eval_text(alloc, None, Form::Rows, "1 1 *", &texts)?;
 ///     Ok(square.as_str().ends_with("1 1 1\n1 1 9\n"))
 /// }
 /// ```
 pub fn eval_text(
     alloc: Global,
     modulus: Option<u64>,
-    order: OutputOrder,
+    order: Form,
     words: &str,
     texts: &[String],
 ) -> Result<String, EvalError>
@@ -98,16 +98,12 @@ fn evaluate(
 }
 
 // Returns the text of a matrix, row by row or column by column.
-fn written_in(
-    alloc: Global,
-    order: OutputOrder,
-    matrix: &CsrMatrix<W128>,
-) -> Result<String, AllocError>
+fn written_in(alloc: Global, order: Form, matrix: &CsrMatrix<W128>) -> Result<String, AllocError>
     ensures { IfOk result (λ written. HasText order matrix.now (string_bytes written)) }
 {
     match order {
-        OutputOrder::Rows => save_to_matrix_market_str_with(alloc, matrix, Banner::MixedCase),
-        OutputOrder::Cols => {
+        Form::Rows => save_to_matrix_market_str_with(alloc, matrix, Banner::MixedCase),
+        Form::Cols => {
             let columns = convert_csr_csc(alloc, matrix)?;
             save_to_matrix_market_str_with(alloc, &columns, Banner::MixedCase)
         }

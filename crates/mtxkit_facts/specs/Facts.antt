@@ -13,8 +13,8 @@ use Rattle.mtxkit_facts.specs.FactJson.{info_json}
 use Rattle.mtxkit_facts.specs.HeaderLines.{header_lines, size_lines}
 use Rattle.mtxkit_texts.specs.Headers.{header_in}
 use Rattle.mtxkit_texts.specs.Loaded.{MeansWhole, IsWholeFailure, ring128, value128}
-use Rattle.mtxkit_facts.specs.declared.facts.Form.{Form}
-use Rattle.mtxkit_facts.specs.declared.facts.Form.TheVariants.{Lines, Json}
+use Rattle.mtxkit_facts.specs.declared.facts.ReportFormat.{ReportFormat}
+use Rattle.mtxkit_facts.specs.declared.facts.ReportFormat.TheVariants.{Lines, Json}
 use Rattle.mtxkit_facts.specs.declared.facts.TextFacts.{TextFacts}
 use Rattle.mtxkit_texts.specs.declared.failure.Failure.{Failure}
 use Rattle.mtxkit_texts.specs.declared.failure.Failure.TheVariants.{NotSupported, OutOfMemory}
@@ -68,11 +68,11 @@ info_lines f = header_lines f.header
     ++ (size_lines f.rows f.cols f.entries ++ matrix_lines f.has_values f.matrix f.rows)
 
 -- the facts as lines, or as an object in JSON
-abbrev pub info_in : Form → TextFacts → List ℕ
+abbrev pub info_in : ReportFormat → TextFacts → List ℕ
 info_in Lines f = info_lines f
 info_in Json f = info_json f
 
 -- the facts about the text, in this form
-abbrev pub WritesInfo : Form → List ℕ → List ℕ → Type 0
+abbrev pub WritesInfo : ReportFormat → List ℕ → List ℕ → Type 0
 WritesInfo form text written =
     (f : TextFacts) × (AreTextFacts text f × (written ≡ info_in form f))

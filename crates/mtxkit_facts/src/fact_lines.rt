@@ -6,7 +6,7 @@ ghost use Rattle.mtxkit_facts.specs.Facts.{IsInfoFailure, WritesInfo};
 ghost use Rattle.mtxkit_facts.specs.Facts.{info_in, info_lines, matrix_lines, place_lines};
 
 use crate::fact_json::json_of;
-use crate::facts::{Form, TextFacts, facts_of};
+use crate::facts::{ReportFormat, TextFacts, facts_of};
 use mtxkit_matrices::{Info, answer, push_count, push_facts, push_histogram, push_line};
 use mtxkit_texts::{Failure, field_name, format_name, symmetry_name};
 use sparse_parser::header::Header;
@@ -16,7 +16,7 @@ use std::alloc::{AllocError, Global};
 /// its matrix. If its values are real or complex, the facts about values are left out.
 ///
 /// Returns the errors of [`facts_of`](crate::facts_of).
-pub fn info_text(alloc: Global, form: Form, text: &str) -> Result<String, Failure>
+pub fn info_text(alloc: Global, form: ReportFormat, text: &str) -> Result<String, Failure>
     ensures written { IfOk result
         (λ written. WritesInfo form text.now (string_bytes written)) }
     ensures refused { IfErr result (IsInfoFailure text.now) }
@@ -26,12 +26,12 @@ pub fn info_text(alloc: Global, form: Form, text: &str) -> Result<String, Failur
 }
 
 // Returns facts in this form.
-fn written_in(alloc: Global, form: Form, facts: &TextFacts) -> Result<String, AllocError>
+fn written_in(alloc: Global, form: ReportFormat, facts: &TextFacts) -> Result<String, AllocError>
     ensures { IfOk result (λ written. string_bytes written ≡ info_in form facts.now) }
 {
     match form {
-        Form::Lines => lines_of(alloc, facts),
-        Form::Json => json_of(alloc, facts),
+        ReportFormat::Lines => lines_of(alloc, facts),
+        ReportFormat::Json => json_of(alloc, facts),
     }
 }
 

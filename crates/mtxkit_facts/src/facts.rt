@@ -12,7 +12,7 @@ use std::alloc::{AllocError, Global};
 
 /// How facts are written.
 #[derive(Clone, Copy, Debug)]
-pub enum Form {
+pub enum ReportFormat {
     /// A line for each fact.
     Lines,
     /// An object in JSON, on one line.

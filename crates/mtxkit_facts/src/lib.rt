@@ -8,5 +8,5 @@ mod facts;
 mod json;
 
 pub use fact_lines::info_text;
-pub use facts::{Form, TextFacts, facts_of};
+pub use facts::{ReportFormat, TextFacts, facts_of};
 pub use json::{push_end, push_first, push_flag, push_member, push_number, quoted};

@@ -14,7 +14,7 @@ use crate::order_reading::read_order;
 use crate::orders::square_pattern;
 use crate::permuted::fit;
 use crate::square::{Method, order_of, permuted_pattern};
-use mtxkit_facts::Form;
+use mtxkit_facts::ReportFormat;
 use sparse_algebra::recall;
 use sparse_pattern::pattern::SparsityPattern;
 use sparse_permutation::permutation::Permutation;
@@ -28,7 +28,7 @@ use std::alloc::{AllocError, Global};
 /// Returns the errors of [`order_text`](crate::order_text).
 pub fn fill_text(
     alloc: Global,
-    form: Form,
+    form: ReportFormat,
     method: Option<Method>,
     text: &str,
 ) -> Result<String, OrderError>
@@ -53,7 +53,7 @@ pub fn fill_text(
 /// matrix has rows. Otherwise fails only if an allocation fails.
 pub fn fill_text_in_order(
     alloc: Global,
-    form: Form,
+    form: ReportFormat,
     order: &str,
     text: &str,
 ) -> Result<String, OrderError>
@@ -68,7 +68,11 @@ pub fn fill_text_in_order(
 }
 
 // Returns the facts about the fill of a square pattern in its own order.
-fn natural(alloc: Global, form: Form, pattern: SparsityPattern) -> Result<String, AllocError>
+fn natural(
+    alloc: Global,
+    form: ReportFormat,
+    pattern: SparsityPattern,
+) -> Result<String, AllocError>
     requires { pattern.major_dim ≡ pattern.minor_dim }
     ensures { IfOk result (λ written. SaysFill form pattern (string_bytes written)) }
 {
@@ -76,19 +80,19 @@ fn natural(alloc: Global, form: Form, pattern: SparsityPattern) -> Result<String
 }
 
 // Returns counts in this form.
-fn written_in(alloc: Global, form: Form, counts: FillCounts) -> Result<String, AllocError>
+fn written_in(alloc: Global, form: ReportFormat, counts: FillCounts) -> Result<String, AllocError>
     ensures { IfOk result (λ written. string_bytes written ≡ fill_in form counts) }
 {
     match form {
-        Form::Lines => lines_of(alloc, counts),
-        Form::Json => json_of(alloc, counts),
+        ReportFormat::Lines => lines_of(alloc, counts),
+        ReportFormat::Json => json_of(alloc, counts),
     }
 }
 
 // Returns the facts about the fill of a square pattern in the order that a method computes.
 fn computed(
     alloc: Global,
-    form: Form,
+    form: ReportFormat,
     method: Method,
     pattern: &SparsityPattern,
 ) -> Result<String, AllocError>
@@ -104,7 +108,7 @@ fn computed(
 // Returns the facts about the fill of a square pattern in this order.
 fn permuted(
     alloc: Global,
-    form: Form,
+    form: ReportFormat,
     pattern: &SparsityPattern,
     order: &Permutation,
 ) -> Result<String, AllocError>

@@ -3,7 +3,7 @@
 use crate::outcome::Outcome;
 use crate::page::{Page, written};
 use case_words::turn::Turn;
-use nalgebra_sparse::expr::{Expr, OutputOrder, run as run_over, run_owned};
+use nalgebra_sparse::expr::{Expr, Form, run as run_over, run_owned};
 use nalgebra_sparse::io::Out;
 use std::alloc::{AllocError, Global};
 
@@ -16,8 +16,8 @@ const TEXTS: [&str; 2] = [
 /// Returns the outcome of a run. The case has the format and the words.
 pub fn run(turn: &mut Turn, call: &str, case: &str) -> Outcome {
     let (form, words) = match case.split_once(' ') {
-        Some(("rows", words)) => (OutputOrder::Rows, words),
-        Some(("cols", words)) => (OutputOrder::Cols, words),
+        Some(("rows", words)) => (Form::Rows, words),
+        Some(("cols", words)) => (Form::Cols, words),
         _ => return Outcome::Unknown,
     };
     match Expr::from_words(turn.alloc(), words) {
@@ -26,7 +26,7 @@ pub fn run(turn: &mut Turn, call: &str, case: &str) -> Outcome {
     }
 }
 
-fn run_expr(turn: &mut Turn, call: &str, form: OutputOrder, expr: &Expr) -> Outcome {
+fn run_expr(turn: &mut Turn, call: &str, form: Form, expr: &Expr) -> Outcome {
     let mut whole = Out::new(Page::new());
     if run_over(turn.alloc(), form, expr, &TEXTS, &mut whole).is_err() {
         return Outcome::Unready;
@@ -43,7 +43,7 @@ fn run_expr(turn: &mut Turn, call: &str, form: OutputOrder, expr: &Expr) -> Outc
 }
 
 // A run over texts of its own, with what a run over borrowed texts writes.
-fn run_over_owned(turn: &mut Turn, form: OutputOrder, expr: &Expr, whole: &Page) -> Outcome {
+fn run_over_owned(turn: &mut Turn, form: Form, expr: &Expr, whole: &Page) -> Outcome {
     match texts(turn.alloc()) {
         Ok(texts) => {
             let mut out = Out::new(Page::new());

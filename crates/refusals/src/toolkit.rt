@@ -7,11 +7,11 @@ use crate::page::Page;
 use case_words::turn::Turn;
 use mtxkit_arguments::{Command, FillOrder, Target, Values};
 use mtxkit_commands::{Inputs, run as run_command};
-use mtxkit_facts::Form;
+use mtxkit_facts::ReportFormat;
 use mtxkit_matrices::EliminationOrder;
 use mtxkit_patterns::Method;
 use mtxkit_texts::Screen;
-use nalgebra_sparse::expr::OutputOrder;
+use nalgebra_sparse::expr::Form;
 use nalgebra_sparse::io::Out;
 use std::fs;
 
@@ -55,9 +55,9 @@ const FILES: &[(&str, &str)] = &[
 pub fn run(rt: &HostRuntime, turn: &mut Turn, case: &str) -> Outcome {
     let modulus = Some(7);
     match case {
-        "info" => run_args(rt, turn, info(A, Form::Lines)),
-        "info json" => run_args(rt, turn, info(A, Form::Json)),
-        "info real" => run_args(rt, turn, info(R, Form::Lines)),
+        "info" => run_args(rt, turn, info(A, ReportFormat::Lines)),
+        "info json" => run_args(rt, turn, info(A, ReportFormat::Json)),
+        "info real" => run_args(rt, turn, info(R, ReportFormat::Lines)),
         "spy" => run_args(rt, turn, picture(Target::Bitmap)),
         "spy svg" => run_args(rt, turn, picture(Target::Svg)),
         "spy text" => run_args(rt, turn, picture(Target::Blocks)),
@@ -79,8 +79,8 @@ pub fn run(rt: &HostRuntime, turn: &mut Turn, case: &str) -> Outcome {
             let order = ORDER;
             run_args(rt, turn, Command::Permute { order, file: A })
         }
-        "fill" => run_args(rt, turn, fill(FillOrder::File(ORDER), Form::Lines)),
-        "fill json" => run_args(rt, turn, fill(FillOrder::Natural, Form::Json)),
+        "fill" => run_args(rt, turn, fill(FillOrder::File(ORDER), ReportFormat::Lines)),
+        "fill json" => run_args(rt, turn, fill(FillOrder::Natural, ReportFormat::Json)),
         "eval" => run_args(rt, turn, square()),
         "solve" => run_args(rt, turn, solve(None)),
         "solve modulo" => run_args(rt, turn, solve(modulus)),
@@ -93,14 +93,14 @@ pub fn run(rt: &HostRuntime, turn: &mut Turn, case: &str) -> Outcome {
 }
 
 // Facts about a file.
-fn info(file: &'static str, form: Form) -> Command<'static>
+fn info(file: &'static str, form: ReportFormat) -> Command<'static>
     ensures { IsSized result }
 {
     Command::Info { file, form }
 }
 
 // Facts about the fill of A.
-fn fill(order: FillOrder<'static>, form: Form) -> Command<'static>
+fn fill(order: FillOrder<'static>, form: ReportFormat) -> Command<'static>
     ensures { IsSized result }
 {
     Command::Fill {
@@ -116,7 +116,7 @@ fn square() -> Command<'static>
 {
     Command::Eval {
         modulus: None,
-        order: OutputOrder::Cols,
+        order: Form::Cols,
         words: "1 1 *",
         files: &[A],
     }

@@ -25,8 +25,8 @@ use Rattle.sparse_compressed.proofs.ColOrder.{col_order-cols}
 use Rattle.std.specs.Io.KnownBytes.{Appends}
 use Rattle.sparse_io.specs.Sink.{AppendsSome}
 use Rattle.sparse_io.specs.Written.{written_text, written_text_with, heading, size_line, triplet_line}
-use Rattle.sparse_expr.specs.declared.calculator.OutputOrder.{OutputOrder}
-use Rattle.sparse_expr.specs.declared.calculator.OutputOrder.TheVariants.{Rows, Cols}
+use Rattle.sparse_expr.specs.declared.calculator.Form.{Form}
+use Rattle.sparse_expr.specs.declared.calculator.Form.TheVariants.{Rows, Cols}
 use Rattle.sparse_expr.specs.declared.expr.Expr.{Expr}
 use Rattle.sparse_expr.specs.declared.expr.Expr.TheVariants as tree
 use Rattle.sparse_expr.specs.declared.error.ExprError.{ExprError}
@@ -186,7 +186,7 @@ value-refuses inputs (tree.Transpose' p a) e h = one-refuses (plain_transpose ri
 value-refuses inputs (tree.Neg' p a) e h = one-refuses (plain_negation ring64)
     (value_of ring64 inputs a) e (value-refuses inputs a) h
 
-pub refuses-value : (order : OutputOrder) (texts : List (List ℕ)) (expr : Expr) (eff : Effect)
+pub refuses-value : (order : Form) (texts : List (List ℕ)) (expr : Expr) (eff : Effect)
     (e : ExprError)
     → IsUntouched eff → (e ≡ errors.OutOfMemory) ⊎ HasOutcome texts expr (Err e)
     → RefusesRun order texts expr eff e
@@ -200,7 +200,7 @@ refuses-value order texts expr eff e same h = elim h [
   ]
 ]
 
-refuses-save : (order : OutputOrder) (texts : List (List ℕ)) (expr : Expr) (eff : Effect) (e : ExprError)
+refuses-save : (order : Form) (texts : List (List ℕ)) (expr : Expr) (eff : Effect) (e : ExprError)
     → WritesSome order texts expr eff.accepted_before eff.accepted → RefusesSave eff e
     → RefusesRun order texts expr eff e
 refuses-save order texts expr eff errors.BadWord some h = absurd h
@@ -212,7 +212,7 @@ refuses-save order texts expr eff (errors.Input n k) some h = absurd h
 refuses-save order texts expr eff (errors.Write kind) some h = (some, h.0, h.1)
 refuses-save order texts expr eff errors.OutOfMemory some h = (h, inr some)
 
-module _ (order : OutputOrder) (texts : List (List ℕ)) (expr : Expr) (value : Value)
+module _ (order : Form) (texts : List (List ℕ)) (expr : Expr) (value : Value)
     (is : HasOutcome texts expr (Ok value)) (text : List ℕ) (said : text_in order value ≡ text) where
   -- the text of the value is appended
   pub writes : (old new : Option (List ℕ)) → Appends old new text → Writes order texts expr old new

@@ -21,8 +21,8 @@ use Rattle.sparse_parser.specs.declared.error.MatrixMarketErrorKind.{MatrixMarke
 use Rattle.sparse_expr.specs.declared.expr.Expr.{Expr}
 use Rattle.sparse_expr.specs.declared.error.ExprError.{ExprError}
 use Rattle.sparse_expr.specs.declared.error.ExprError.TheVariants as refusal
-use Rattle.sparse_expr.specs.declared.calculator.OutputOrder.{OutputOrder}
-use Rattle.sparse_expr.specs.declared.calculator.OutputOrder.TheVariants.{Rows, Cols}
+use Rattle.sparse_expr.specs.declared.calculator.Form.{Form}
+use Rattle.sparse_expr.specs.declared.calculator.Form.TheVariants.{Rows, Cols}
 use Rattle.sparse_expr.specs.Value.{value_of}
 
 -- the integers modulo 2^64
@@ -34,7 +34,7 @@ abbrev pub element_text : ring64.Carrier → List ℕ
 element_text c = signed_decimal (number_of w64 c)
 
 -- the text of a plain matrix, with its entries row by row or column by column
-abbrev pub text_in : OutputOrder → Plain ring64 → List ℕ
+abbrev pub text_in : Form → Plain ring64 → List ℕ
 text_in Rows a = written_text (codes "integer") element_text a.rows a.cols (row_order ring64 a)
 text_in Cols a = written_text (codes "integer") element_text a.rows a.cols (col_order ring64 a)
 
@@ -72,14 +72,14 @@ pub record HasOutcome (texts : List (List ℕ)) (expr : Expr)
   pub evaluated : value_of ring64 (plains ms) expr ≡ outcome
 
 -- the text of the expression's value was appended
-pub record Writes (order : OutputOrder) (texts : List (List ℕ)) (expr : Expr) (old new : Option (List ℕ)) :
+pub record Writes (order : Form) (texts : List (List ℕ)) (expr : Expr) (old new : Option (List ℕ)) :
     Type 0 where
   pub value : Plain ring64
   pub is_value : HasOutcome texts expr (Ok value)
   pub appended : Appends old new (text_in order value)
 
 -- a prefix of the text of the expression's value was appended
-pub record WritesSome (order : OutputOrder) (texts : List (List ℕ)) (expr : Expr)
+pub record WritesSome (order : Form) (texts : List (List ℕ)) (expr : Expr)
     (old new : Option (List ℕ)) : Type 0 where
   pub value : Plain ring64
   pub is_value : HasOutcome texts expr (Ok value)
@@ -110,7 +110,7 @@ abbrev pub IsUntouched : Effect → Type 0
 IsUntouched e = (e.accepted ≡ e.accepted_before) × (e.failures ≡ e.failures_before)
 
 -- the errors of a run, and what it has written in each case
-abbrev pub RefusesRun : OutputOrder → List (List ℕ) → Expr → Effect → ExprError → Type 0
+abbrev pub RefusesRun : Form → List (List ℕ) → Expr → Effect → ExprError → Type 0
 RefusesRun order texts expr e (refusal.Input number kind) = IsFirstRefused texts number kind
     × IsUntouched e
 RefusesRun order texts expr e refusal.NoSuchInput = HasOutcome texts expr (Err refusal.NoSuchInput)

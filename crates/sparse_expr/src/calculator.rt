@@ -26,7 +26,7 @@ use std::alloc::Global;
 
 /// The order in which the entries of a matrix are written.
 #[derive(Clone, Copy, Debug, PartialEq, Eq)]
-pub enum OutputOrder {
+pub enum Form {
     /// Row by row, with ascending columns.
     Rows,
     /// Column by column, with ascending rows.
@@ -49,13 +49,13 @@ pub enum OutputOrder {
 ///     let text = "%%MatrixMarket matrix coordinate integer general\n1 1 1\n1 1 3\n";
 ///     let square = Expr::from_words(alloc, "1 1 *")?;
 ///     let mut out = Out::new(Vec::new(alloc));
-///     run(alloc, OutputOrder::Rows, &square, &[text], &mut out)?;
+///     run(alloc, Form::Rows, &square, &[text], &mut out)?;
 ///     Ok(out.into_inner().ends_with(b"1 1 1\n1 1 9\n"))
 /// }
 /// ```
 pub fn run<W: Sink>(
     alloc: Global,
-    order: OutputOrder,
+    order: Form,
     expr: &Expr,
     sources: &[&str],
     out: &mut W,
@@ -83,13 +83,13 @@ pub fn run<W: Sink>(
 ///     let texts = vec![in alloc; String::from_str(alloc, text)?]?;
 ///     let double = Expr::from_words(alloc, "1 1 +")?;
 ///     let mut out = Out::new(Vec::new(alloc));
-///     run_owned(alloc, OutputOrder::Rows, &double, texts, &mut out)?;
+///     run_owned(alloc, Form::Rows, &double, texts, &mut out)?;
 ///     Ok(out.into_inner().ends_with(b"1 1 1\n1 1 6\n"))
 /// }
 /// ```
 pub fn run_owned<W: Sink>(
     alloc: Global,
-    order: OutputOrder,
+    order: Form,
     expr: &Expr,
     sources: Vec<String>,
     out: &mut W,
@@ -108,7 +108,7 @@ pub fn run_owned<W: Sink>(
 // Evaluates the expression over the loaded lists of triplets, and writes its value.
 fn write_value<W: Sink>(
     alloc: Global,
-    order: OutputOrder,
+    order: Form,
     expr: &Expr,
     inputs: &[CooMatrix<W64>],
     out: &mut W,
@@ -123,12 +123,12 @@ fn write_value<W: Sink>(
         (W.failures out.old) (W.failures out.new) (W.last out.new)) e) }
 {
     match order {
-        OutputOrder::Rows => {
+        Form::Rows => {
             let value = evaluate_rows(alloc, expr, inputs)?;
             recall(value.values());
             save(alloc, &value, out)
         }
-        OutputOrder::Cols => {
+        Form::Cols => {
             let value = evaluate_cols(alloc, expr, inputs)?;
             recall(value.values());
             save(alloc, &value, out)

@@ -9,7 +9,7 @@ pub mod laws;
 mod sources;
 mod words;
 
-pub use calculator::{OutputOrder, run, run_owned};
+pub use calculator::{Form, run, run_owned};
 pub use error::ExprError;
 pub use evaluate::{evaluate_cols, evaluate_rows};
 pub use expr::Expr;

@@ -26,6 +26,7 @@ use Rattle.sparse_parser.specs.declared.error.MatrixMarketErrorKind.TheVariants.
 use Rattle.sparse_parser.specs.declared.error.MatrixMarketErrorKind.TheVariants.{NonSquare}
 use Rattle.sparse_parser.specs.declared.error.MatrixMarketErrorKind.TheVariants.{OutOfMemory}
 use Rattle.sparse_parser.specs.declared.error.MatrixMarketError.{MatrixMarketError}
+use Rattle.sparse_parser.specs.Errors.{cause_of}
 
 -- the name of each kind
 abbrev pub kind_name : MatrixMarketErrorKind → List ℕ
@@ -73,4 +74,4 @@ cause_message Memory = codes "Out of memory."
 
 -- the message of an error
 abbrev pub message_of : MatrixMarketError → List ℕ
-message_of e = cause_message e.cause
+message_of e = cause_message (cause_of e)

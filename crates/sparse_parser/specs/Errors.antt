@@ -56,6 +56,10 @@ kind_of_cause (Format kind text) = SparseFormatError kind
 kind_of_cause (Io kind) = IOError kind
 kind_of_cause Memory = OutOfMemory
 
+-- the cause of an error
+abbrev pub cause_of : MatrixMarketError → Cause
+cause_of e = e.cause
+
 -- the kind of an error
 abbrev pub kind_of : MatrixMarketError → MatrixMarketErrorKind
-kind_of e = kind_of_cause e.cause
+kind_of e = kind_of_cause (cause_of e)

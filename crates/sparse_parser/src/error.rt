@@ -7,7 +7,7 @@ ghost use Rattle.sparse_parser.specs.declared.error.MatrixMarketErrorKind.TheVar
 ghost use Rattle.sparse_parser.specs.declared.error.MatrixMarketErrorKind.TheVariants.{SparseFormatError};
 ghost use Rattle.sparse_parser.specs.declared.error.MatrixMarketErrorKind.TheVariants.{IOError};
 ghost use Rattle.sparse_parser.specs.declared.error.MatrixMarketErrorKind.TheVariants.{OutOfMemory};
-ghost use Rattle.sparse_parser.specs.Errors.{kind_of, kind_of_cause};
+ghost use Rattle.sparse_parser.specs.Errors.{cause_of, kind_of, kind_of_cause};
 ghost use Rattle.sparse_parser.specs.ErrorTexts.{kind_name, cause_message, message_of};
 
 use sparse_pattern::error::{SparseFormatError, SparseFormatErrorKind};
@@ -176,7 +176,7 @@ pub struct MatrixMarketError {
 impl MatrixMarketError {
     /// Returns an error with this cause.
     pub fn new(cause: Cause) -> MatrixMarketError
-        ensures { kind_of result ≡ kind_of_cause cause }
+        ensures { cause_of result ≡ cause }
     {
         MatrixMarketError { cause }
     }
@@ -206,7 +206,7 @@ impl fmt::Debug for MatrixMarketError {
 }
 
 impl From<Cause> for MatrixMarketError {
-    ghost from_gives = { λ cause e. kind_of e ≡ kind_of_cause cause };
+    ghost from_gives = { λ cause e. cause_of e ≡ cause };
 
     fn from(cause: Cause) -> MatrixMarketError {
         MatrixMarketError::new(cause)

@@ -1,7 +1,7 @@
 //! Writers that fail after each number of bytes: through `save_to_matrix_market`, and through `run`.
 
 use nalgebra_sparse::CooMatrix;
-use nalgebra_sparse::expr::{Expr, ExprError, OutputOrder, run};
+use nalgebra_sparse::expr::{Expr, ExprError, Form, run};
 use nalgebra_sparse::io::MatrixMarketErrorKind::IOError;
 use nalgebra_sparse::io::{MatrixMarketErrorKind, Out, save_to_matrix_market};
 use nalgebra_sparse::scalar::W64;
@@ -141,7 +141,7 @@ fn run_ends(
     kind: Option<ErrorKind>,
 ) -> bool {
     let mut out = Out::new(writer);
-    let ended = run(alloc, OutputOrder::Rows, expr, &[SOURCE], &mut out).err();
+    let ended = run(alloc, Form::Rows, expr, &[SOURCE], &mut out).err();
     is_write(ended, kind) && took(out, count)
 }
 
