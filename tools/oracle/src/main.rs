@@ -11,8 +11,8 @@ mod texts;
 use operands::Random;
 
 const HEAD: &str = "\
-# Answers of the Rust crate nalgebra-sparse 0.12.0 on random operands, over i64; its triangular solve over f64, which is
-# exact here, and its JSON over i32. Written by tools/oracle with the seed 24; docs/DIFFERENCES.md says what they show.";
+# Answers of the Rust crate nalgebra-sparse 0.12.0 on random operands, over i64, and of its triangular solve over f64,
+# which is exact here. Written by tools/oracle with the seed 24; docs/DIFFERENCES.md says what they show.";
 
 fn main() {
     // A call that panics has no row.
