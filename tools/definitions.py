@@ -33,7 +33,8 @@ class Definitions:
 
     def __init__(self):
         crates = re.findall(r"(?m)^(\w+)[ :]", read("crates.txt"))
-        paths = [path for name in crates for path in sorted(glob.glob(f"crates/{name}/specs/**/*.antt", recursive=True))]
+        found = [sorted(glob.glob(f"crates/{name}/specs/**/*.antt", recursive=True)) for name in crates]
+        paths = [path for of_crate in found for path in of_crate]
         self.blocks = {path: blocks_of(read(path)) for path in paths}
         self.imports = {path: self.imports_of(read(path)) for path in paths}
 
