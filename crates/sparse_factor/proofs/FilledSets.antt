@@ -2,11 +2,14 @@
 use Rattle.std.proofs.Common.{◌≡◌, ℕ, inl, inr, true, false}
 use Rattle.sparse_algebra.proofs.Cases.{true_or_false}
 use Rattle.sparse_algebra.specs.Algebra.{CommRing}
-use Rattle.sparse_pattern.specs.Raw.{IsEntry}
+use Rattle.sparse_pattern.specs.Raw.{Raw, IsEntry}
 use Rattle.sparse_compressed.specs.Compressed.{Compressed, IsSound}
 use Rattle.sparse_compressed.specs.PlainOfLanes.{plain_of_cols}
 use Rattle.sparse_compressed.proofs.Arrays.{has_is_place, proper_rows}
 use Rattle.sparse_factor.specs.InnerFactors.{IsFilledPattern, IsIncluded}
+use Rattle.sparse_factor.specs.Fill.{InFill, PlainBase, StoresByColumns, UpperBase}
+use Rattle.sparse_factor.proofs.Alternatives.{both_ways}
+use Rattle.sparse_factor.proofs.FillLaws.{in_fill_into}
 use Rattle.sparse_factor.proofs.ClosedSets.{IsClosed, IsZeroOutside, clash}
 
 module _ (R : CommRing) {T : Type 0} (f : T → R.Carrier) (l : Compressed T) (sound : IsSound l)
@@ -16,6 +19,14 @@ module _ (R : CommRing) {T : Type 0} (f : T → R.Carrier) (l : Compressed T) (s
 
     pub entry_has : (i j : ℕ) → IsEntry l.pattern j i → (plain_of_cols R f l).has i j ≡ true
     entry_has i j place = (has_is_place R f l.pattern sound.valid l.values sound.count j i).1 place
+
+    -- the fill of the upper triangle, read from the pattern, is that read from the plain matrix
+    pub plain_fill : (p : Raw) → StoresByColumns (InFill (UpperBase l.pattern)) p
+        → StoresByColumns (InFill (PlainBase (plain_of_cols R f l))) p
+    plain_fill p stores i j = both_ways (stores i j) (
+      in_fill_into (λ c r base. (entry_has r c base.0, base.1)) i j,
+      in_fill_into (λ c r base. (has_entry r c base.0, base.1)) i j,
+    )
 
     pub no_entry_has : (i j : ℕ) → (IsEntry l.pattern j i → ⊥)
         → (plain_of_cols R f l).has i j ≡ false

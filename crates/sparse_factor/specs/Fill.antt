@@ -1,6 +1,8 @@
 -- The fill of a symmetric elimination: the smallest closed set that contains a base.
-use Rattle.std.specs.Prelude.{ℕ, ◌<◌, ◌≤◌, ◌↔◌, ◌⊎◌, Bool, IsTrue, List}
+use Rattle.std.specs.Prelude.{◌≡◌, ℕ, ◌<◌, ◌≤◌, ◌↔◌, ◌⊎◌, Bool, true, IsTrue, List}
 use Rattle.std.specs.List.{Contains}
+use Rattle.sparse_algebra.specs.Algebra.{CommRing}
+use Rattle.sparse_algebra.specs.Plain.{Plain}
 use Rattle.sparse_pattern.specs.Raw.{Raw, IsEntry}
 use Rattle.sparse_factor.specs.declared.factorization.Triangle.{Triangle}
 use Rattle.sparse_factor.specs.declared.factorization.Triangle.TheVariants.{Upper, Lower, Both}
@@ -31,6 +33,11 @@ UpperBase p c r = IsEntry p c r × (r ≤ c)
 -- the base of the lower triangle: (r, c) for each stored row r ≥ c of column c
 abbrev pub LowerBase : Raw → ℕ → ℕ → Type 0
 LowerBase p r c = IsEntry p c r × (c ≤ r)
+
+-- the base of a plain matrix: (c, r) for each place (r, c) on or above the diagonal, as that of a pattern stored by
+-- columns
+abbrev pub PlainBase : {R : CommRing} → Plain R → ℕ → ℕ → Type 0
+PlainBase a c r = (a.has r c ≡ true) × (r ≤ c)
 
 -- the base of each triangle; that of both triangles is the union
 abbrev pub TriangleBase : Triangle → Raw → ℕ → ℕ → Type 0

@@ -9,6 +9,7 @@ use Rattle.sparse_dense_ops.specs.Solutions.{HasSameValues}
 use Rattle.sparse_permutation.specs.Permutations.{IsOrder, IsInverse}
 use Rattle.sparse_permutation.specs.PermutedPlain.{plain_permuted}
 use Rattle.sparse_factor.specs.Factorisations.{IsFactorisation}
+use Rattle.sparse_factor.specs.Fill.{InFill, PlainBase, StoresByColumns}
 use Rattle.sparse_factor.specs.Factors.{Factors, factors_code, diagonal, plain_of_factors}
 use Rattle.sparse_factor.specs.Factors.{symmetric_of}
 
@@ -33,6 +34,11 @@ pub record IsOrdered {T : Type 0} (s : OrderedFactors T) : Type 0 where
   pub back : IsOrder s.inverse
   pub inverse : IsInverse s.order s.inverse
   pub count : length s.order ≡ s.factors.l.pattern.minor_dim
+
+-- the entries of L are exactly the fill of P m Pᵀ
+abbrev pub StoresFillOfPermuted : (R : CommRing) {T : Type 0} → Plain R → OrderedFactors T → Type 0
+StoresFillOfPermuted R m s =
+    StoresByColumns (InFill (PlainBase (plain_permuted R s.order m))) s.factors.l.pattern
 
 module _ (R : CommRing) {T : Type 0} (f : T → R.Carrier) where
   -- P A Pᵀ, where A is the symmetric matrix with the entries of a on and above the diagonal

@@ -8,6 +8,7 @@ ghost use Rattle.sparse_factor.specs.Factorisations.{IsFactorisation};
 ghost use Rattle.sparse_factor.specs.Factors.{symmetric_of};
 ghost use Rattle.sparse_factor.specs.OrderedFactors.{plain_of_ordered, AreFactorsOfPermuted};
 ghost use Rattle.sparse_factor.specs.OrderedFactors.{AreOnlyFactorsOfPermuted, HasNoFactorsInOrder};
+ghost use Rattle.sparse_factor.specs.OrderedFactors.{StoresFillOfPermuted};
 ghost use Rattle.sparse_algebra.specs.declared.error.OperationErrorKind.TheVariants.{OutOfMemory};
 ghost use Rattle.sparse_algebra.specs.declared.error.OperationErrorKind.TheVariants.{Singular};
 ghost use Rattle.sparse_dense_ops.specs.Solutions.{HasSameValues, IsSolution};
@@ -69,7 +70,8 @@ impl<T: Units> Ldl<T> {
     /// those of `a`, and P is an order in which L has little fill.
     ///
     /// `a` must be square. The order is that of [`minimum_degree`] for the pattern of `a`; beside it, entries below the
-    /// diagonal have no effect. [`OrderedLdl::solve_mut`] solves A X = B itself.
+    /// diagonal have no effect. The pattern of L is exactly the fill of P A Pᵀ; a value of L that is zero is stored.
+    /// [`OrderedLdl::solve_mut`] solves A X = B itself.
     ///
     /// Before [`Ldl::factor`], A is built from two triangles, and permuted. That takes time linear in the entries and
     /// columns, except that each column is sorted, and memory for some copies of A.
@@ -96,6 +98,8 @@ impl<T: Units> Ldl<T> {
         ensures equation { IfOk result (λ s. HasSameValues T.ring (length s.order) (length s.order)
             (plain_of_ordered T.ring T.value T.zero_value s)
             (symmetric_of T.ring T.value a.now)) }
+        ensures entries { IfOk result
+            (StoresFillOfPermuted T.ring (symmetric_of T.ring T.value a.now)) }
         ensures factors { IfOk result (AreFactorsOfPermuted T.ring T.value T.zero_value
             (symmetric_of T.ring T.value a.now)) }
         ensures unique { IfOk result (AreOnlyFactorsOfPermuted T.ring T.value T.zero_value
@@ -131,6 +135,8 @@ impl<T: Units> Ldl<T> {
         ensures equation { IfOk result (λ s. HasSameValues T.ring (length s.order) (length s.order)
             (plain_of_ordered T.ring T.value T.zero_value s)
             (symmetric_of T.ring T.value a.now)) }
+        ensures entries { IfOk result
+            (StoresFillOfPermuted T.ring (symmetric_of T.ring T.value a.now)) }
         ensures factors { IfOk result (AreFactorsOfPermuted T.ring T.value T.zero_value
             (symmetric_of T.ring T.value a.now)) }
         ensures unique { IfOk result (AreOnlyFactorsOfPermuted T.ring T.value T.zero_value
@@ -214,6 +220,8 @@ fn factor_given<T: Units>(
     ensures order { IfOk result (λ s. s.order ≡ permutation) }
     ensures equation { IfOk result (λ s. HasSameValues T.ring (length s.order) (length s.order)
         (plain_of_ordered T.ring T.value T.zero_value s) (symmetric_of T.ring T.value a.now)) }
+    ensures entries { IfOk result
+        (StoresFillOfPermuted T.ring (symmetric_of T.ring T.value a.now)) }
     ensures factors { IfOk result (AreFactorsOfPermuted T.ring T.value T.zero_value
         (symmetric_of T.ring T.value a.now)) }
     ensures unique { IfOk result (AreOnlyFactorsOfPermuted T.ring T.value T.zero_value
@@ -238,6 +246,8 @@ fn factor_whole<T: Units>(
     ensures order { IfOk result (λ s. s.order ≡ permutation) }
     ensures equation { IfOk result (λ s. HasSameValues T.ring (length s.order) (length s.order)
         (plain_of_ordered T.ring T.value T.zero_value s) (plain_of_cols T.ring T.value a)) }
+    ensures entries { IfOk result
+        (StoresFillOfPermuted T.ring (plain_of_cols T.ring T.value a)) }
     ensures factors { IfOk result (AreFactorsOfPermuted T.ring T.value T.zero_value
         (plain_of_cols T.ring T.value a)) }
     ensures unique { IfOk result (AreOnlyFactorsOfPermuted T.ring T.value T.zero_value

@@ -4,7 +4,7 @@ ghost use Rattle.std.specs.Prelude.{◌≡◌, nat_lt, length, map, IfOk};
 ghost use Rattle.std.specs.List.{filter};
 ghost use Rattle.sparse_algebra.specs.Plain.{plain_kept};
 ghost use Rattle.sparse_coo_dense.specs.DensePlain.{plain_of_dense};
-ghost use Rattle.sparse_compressed.specs.Compressed.{lane_triplets, transposed};
+ghost use Rattle.sparse_compressed.specs.Compressed.{lane_triplets, transposed, IsSound};
 ghost use Rattle.sparse_compressed.specs.PlainOfLanes.{plain_of_cols};
 ghost use Rattle.sparse_factor.specs.Factors.{symmetric_of};
 ghost use Rattle.sparse_permutation.specs.PermutedPlain.{plain_permuted, plain_rows_permuted};
@@ -65,6 +65,7 @@ pub fn permuted_matrix<T: Ring>(
     requires length { a.pattern.minor_dim ≡ length permutation.now }
     ensures rows { IfOk result (λ m. m.pattern.minor_dim ≡ a.pattern.minor_dim) }
     ensures columns { IfOk result (λ m. m.pattern.major_dim ≡ a.pattern.major_dim) }
+    ensures sound { IfOk result IsSound }
     ensures plain { IfOk result (λ m. plain_of_cols T.ring T.value m
         ≡ plain_permuted T.ring permutation.now (plain_of_cols T.ring T.value a)) }
 {

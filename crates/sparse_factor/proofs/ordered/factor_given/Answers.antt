@@ -7,7 +7,7 @@ use Rattle.sparse_dense_ops.specs.Solutions.{HasSameValues}
 use Rattle.sparse_permutation.specs.PermutedPlain.{plain_permuted, IsSymmetric}
 use Rattle.sparse_factor.specs.Factorisations.{IsFactorisation}
 use Rattle.sparse_factor.specs.OrderedFactors.{plain_of_ordered, AreFactorsOfPermuted}
-use Rattle.sparse_factor.specs.OrderedFactors.{AreOnlyFactorsOfPermuted}
+use Rattle.sparse_factor.specs.OrderedFactors.{AreOnlyFactorsOfPermuted, StoresFillOfPermuted}
 use Rattle.sparse_factor.proofs.SymmetricMatrices.{is_symmetric}
 use Rattle.sparse_factor.proofs.ordered.factor_given.Goals as goal
 
@@ -23,6 +23,12 @@ returns-clause-equation g c =
     subst (λ (m : Plain R). IfOk c.factor_whole.result (λ s. HasSameValues R (length s.order)
     (length s.order) (plain_of_ordered R g.T.Ring.value g.T.Zero.zero_value s) m))
     c.in_ok-whole.ensures.plain c.factor_whole.ensures.equation
+
+pub returns-clause-entries : goal.returns-clause-entries
+returns-clause-entries g c =
+    let R = g.T.Ring.ring in
+    subst (λ (m : Plain R). IfOk c.factor_whole.result (StoresFillOfPermuted R m))
+    c.in_ok-whole.ensures.plain c.factor_whole.ensures.entries
 
 pub returns-clause-factors : goal.returns-clause-factors
 returns-clause-factors g c =

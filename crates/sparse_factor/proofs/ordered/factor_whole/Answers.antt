@@ -1,5 +1,8 @@
-use Rattle.std.proofs.Common.{sym, ◌∙◌}
+use Rattle.std.proofs.Common.{sym, ◌∙◌, subst}
 use Rattle.std.proofs.lemmas.Result.{err_from_is_err_and}
+use Rattle.sparse_algebra.specs.Plain.{Plain}
+use Rattle.sparse_factor.specs.Fill.{InFill, PlainBase, StoresByColumns}
+use Rattle.sparse_factor.proofs.FilledSets.{plain_fill}
 use Rattle.sparse_factor.proofs.PermutedFactors.{no_permuted_factors, only_permuted_factors}
 use Rattle.sparse_factor.proofs.PermutedFactors.{ordered_equation, permuted_factors}
 use Rattle.sparse_factor.proofs.ordered.factor_whole.Goals as goal
@@ -26,6 +29,15 @@ returns-clause-factors g c =
     c.in_ok-permuted.permuted need.symmetric matrix.plain c.in_ok-factors.factors
     (need.length ∙ sym matrix.rows) made.count made.rows made.unit_diagonal made.pivots
     made.equation
+
+pub returns-clause-entries : goal.returns-clause-entries
+returns-clause-entries g c =
+    let R = g.T.Ring.ring in
+    let matrix = c.in_ok-permuted.ensures in
+    let l = c.in_ok-factors.factors.l.pattern in
+    subst (λ (m : Plain R). StoresByColumns (InFill (PlainBase m)) l) matrix.plain
+    (plain_fill R g.T.Ring.value c.in_ok-permuted.permuted matrix.sound l
+    c.in_ok-factors.ensures.entries)
 
 pub returns-clause-unique : goal.returns-clause-unique
 returns-clause-unique g c =
