@@ -1,5 +1,5 @@
 -- The lines that are copied: blank lines, comments and the size line.
-use Rattle.std.proofs.Common.{◌≡◌, ◌≢◌, ℕ, Bool, true, false, eqb, List, ◌∷◌, ◌++◌, get_or}
+use Rattle.std.proofs.Common.{◌≡◌, ◌≢◌, ℕ, Bool, true, false, eqb, List, [], ◌∷◌, ◌++◌, get_or}
 use Rattle.std.proofs.Common.{Option}
 use Rattle.std.proofs.Common.{Some, None, Result, Ok, Err, refl, sym, ap, ◌∙◌, inl, inr}
 use Rattle.std.specs.Prelude.{IfOk}
@@ -22,7 +22,7 @@ use Rattle.mtxkit_matrices.specs.declared.decimals.stage.Stage.{Stage}
 use Rattle.mtxkit_matrices.specs.declared.decimals.stage.Stage.TheVariants.{Head, Sizes, Entries}
 use Rattle.mtxkit_matrices.specs.InnerScaleFailures.{AreContent}
 use Rattle.mtxkit_matrices.specs.ScaledTexts.{IsSized}
-use Rattle.mtxkit_matrices.specs.InnerRewriting.{IsStep, IsCopied, IsLineWritten}
+use Rattle.mtxkit_matrices.specs.InnerRewriting.{IsStep, IsWrittenAt, IsLineWritten}
 
 -- a line whose first word begins a comment is a comment
 pub is_commented : (line : List ℕ) {word : List ℕ} {words : List (List ℕ)} {t : Bool}
@@ -70,21 +70,22 @@ comment_step scale Head words n c = absurd (n refl)
 comment_step scale (Sizes h) words n c = inl (inr c, refl, refl)
 comment_step scale (Entries h) words n c = inl (inr c, refl, refl)
 
+pub blank_step : (scale : ℕ) (stage : Stage) (words : List (List ℕ)) → words ≡ []
+    → IsStep scale stage words stage words
+blank_step scale Head words e = inl (e, e, refl)
+blank_step scale (Sizes h) words e = inl (inl e, refl, refl)
+blank_step scale (Entries h) words e = inl (inl e, refl, refl)
+
 -- a copy of the line was appended, if the call returned `Ok`
 pub copied : (line old new : List ℕ) (stage at : Stage) → IsOneLine line
     → ((scale : ℕ) → IsStep scale stage (words_of line) at (words_of line))
-    → (r : Result Stage ScaleError) → IfOk r (λ s. s ≡ at) → IfOk r (λ s. new ≡ old ++ line)
+    → IsWrittenAt stage at line line → (r : Result Stage ScaleError) → IfOk r (λ s. s ≡ at) → IfOk r (λ s. new ≡ old ++ line)
     → IfOk r (λ next. (scale : ℕ) → IsLineWritten scale stage line next old new)
-copied line old new stage at plain step (Ok s) e a = λ scale. record {
+copied line old new stage at plain step kept (Ok s) e a = λ scale. record {
   written = line;
   appended = a;
   plain = plain;
-  kept = same stage;
+  kept = rw e kept;
   step = rw e (step scale);
 }
-  where
-    same : (stage : Stage) → IsCopied stage line line
-    same Head = λ e. refl
-    same (Sizes h) = λ e. refl
-    same (Entries h) = λ e. refl
-copied line old new stage at plain step (Err f) e a = tt
+copied line old new stage at plain step kept (Err f) e a = tt

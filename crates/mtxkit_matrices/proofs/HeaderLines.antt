@@ -13,17 +13,16 @@ use Rattle.sparse_parser.specs.Bytes.{is_line_end}
 use Rattle.sparse_parser.specs.Header.{header_of, is_allowed}
 use Rattle.sparse_parser.specs.InnerReading.{words_of}
 use Rattle.sparse_parser.proofs.WrittenWords.{test_plain}
-use Rattle.mtxkit_matrices.specs.ScaledTexts.{is_decimal, with_integers}
-use Rattle.mtxkit_matrices.specs.InnerRewriting.{IsHead}
+use Rattle.mtxkit_matrices.specs.ScaledTexts.{is_decimal, with_integers, integer_head}
+use Rattle.mtxkit_matrices.specs.InnerRewriting.{IsHead, integers_in}
 
 -- a literal header line is one with its format and symmetry
 pub head_at : {format : Format} {symmetry : Symmetry} (f : Format) (s : Symmetry) (line : List ℕ)
-    → list_all (λ b. not (is_line_end b)) line ≡ true
-    → header_of (words_of line) ≡ Some (record { format = f; field = Integer; symmetry = s })
-    → is_allowed (record { format = f; field = Integer; symmetry = s }) ≡ true
+    → line ≡ integer_head (integers_in f s) → list_all (λ b. not (is_line_end b)) line ≡ true
+    → header_of (words_of line) ≡ Some (integers_in f s) → is_allowed (integers_in f s) ≡ true
     → format ≡ f → symmetry ≡ s → IsHead format symmetry line
-head_at f s line plain says allowed e g =
-    rw (e, g) (record { plain = test_plain line plain; says = says; allowed = allowed })
+head_at f s line is plain says allowed e g = rw (e, g)
+    (record { is = is; plain = test_plain line plain; says = says; allowed = allowed })
 
 -- ---- which headers of decimal numbers are allowed
 

@@ -13,9 +13,11 @@ mod ZeroValues
 -- decimals: numbers
 mod DecimalValues
 mod Magnitudes
+mod ScaledValues
 mod TrimmedDigits
 -- decimals: lines and texts
 pub mod CopiedLines
+mod DocumentLines
 mod GrownLists
 mod HeaderLines
 pub mod KeptLines

@@ -13,7 +13,7 @@ use Rattle.mtxkit_matrices.specs.InnerDigits.{IsTrimmed}
 use Rattle.mtxkit_matrices.specs.InnerPowers.{IsMagnitude, HasLeastScale, HasNoMagnitude}
 use Rattle.mtxkit_matrices.specs.InnerPowers.{extreme, up, down}
 
-tens : (k : ℕ) → 0 < 10 ^ k
+pub tens : (k : ℕ) → 0 < 10 ^ k
 tens k =
     let p = pow-le-pow_right {n = 10} (omega arith) {i = 0} {j = k} (omega arith) in
     omega arith

@@ -1,7 +1,8 @@
 -- A text is written again line by line.
 use Rattle.std.proofs.Common.{◌≡◌, ℕ, ◌+◌, List, [], ◌∷◌, ◌++◌, length, refl, sym, ap, subst}
 use Rattle.std.proofs.Common.{◌∙◌, inl, inr, append_assoc, append-nil}
-use Rattle.std.proofs.lemmas.List.{nil_from_length}
+use Rattle.std.specs.List.{flat_map}
+use Rattle.std.proofs.lemmas.List.{nil_from_length, flat_map_more}
 use Rattle.sparse_parser.specs.declared.header.Header.{Header}
 use Rattle.sparse_parser.specs.Grammar.{AreLines, is_entry}
 use Rattle.sparse_parser.specs.InnerReading.{words_of, written_lines, written_of}
@@ -9,7 +10,7 @@ use Rattle.sparse_parser.proofs.ContentLaws.{lines_headed}
 use Rattle.sparse_parser.proofs.LineLaws.{lines_only}
 use Rattle.mtxkit_matrices.specs.declared.decimals.stage.Stage.{Stage}
 use Rattle.mtxkit_matrices.specs.declared.decimals.stage.Stage.TheVariants.{Head, Sizes, Entries}
-use Rattle.mtxkit_matrices.specs.ScaledTexts.{IsScaledText, with_integers}
+use Rattle.mtxkit_matrices.specs.ScaledTexts.{IsScaledText, with_integers, ended_line}
 use Rattle.sparse_faults.specs.InnerLines.{IsCut, IsEnded}
 use Rattle.mtxkit_matrices.specs.InnerRewriting.{IsStep, AreBelow}
 use Rattle.mtxkit_matrices.specs.InnerRewriting.{AreRewritten, IsLineWritten, IsTextWritten}
@@ -123,6 +124,7 @@ module _ (scale : ℕ) (text : List ℕ) where
     wrote = [];
     above = above_none text 1;
     wrote_is = λ more behind h. h;
+    ends = refl;
     are = (refl, refl);
     kept = (refl, tt);
   }
@@ -139,6 +141,9 @@ module _ (scale : ℕ) (text : List ℕ) where
         (subst (λ (x : List ℕ). AreLines x (t.wrote ++ (w.written ∷ behind)))
         (sym (whole more)) (t.wrote_is (w.written ++ (10 ∷ more)) (w.written ∷ behind)
         (w.plain, inr (10 ∷ [], more, inl refl, refl, h))));
+    ends = ap (λ (x : List ℕ). x ++ (10 ∷ [])) (w.appended ∙ rw t.ends refl)
+        ∙ append_assoc (flat_map ended_line t.wrote) w.written (10 ∷ [])
+        ∙ flat_map_more ended_line [] t.wrote w.written;
     are = subst (AreRewritten scale next (written_lines (t.before ++ (line ∷ []))))
         (sym (lines_more t.wrote w.written))
         (subst (λ (x : List (List (List ℕ))). AreRewritten scale next x
@@ -201,11 +206,12 @@ text_ends scale text number rest written h t empty =
         listed = es.listed';
       };
       values = es.values;
-      comments = record {
+      by_lines = record {
         lines = t.before;
         lines' = t.wrote;
         read = lines_read t empty;
         wrote = lines_wrote t empty;
+        ends = t.ends;
         kept = t.kept;
       };
     }

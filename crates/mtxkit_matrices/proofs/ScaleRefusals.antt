@@ -91,6 +91,7 @@ module _ (scale : ℕ) (lines : List (List ℕ)) (wrote : List (List (List ℕ))
     headed = below_header lines h r.2 (es.size ∷ es.lines) es.contents_are;
     sized = es.sized;
     sizes = es.sizes;
+    listed = es.listed;
     values = es.values;
   }
 

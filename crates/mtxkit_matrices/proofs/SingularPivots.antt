@@ -1,5 +1,5 @@
 -- The pivot at which the factorisation of a permuted symmetric matrix stops.
-use Rattle.std.proofs.Common.{zero, suc, ◌++◌, ◌∷◌, [], length-append}
+use Rattle.std.proofs.Common.{zero, suc, ◌∷◌, [], length-append}
 use Rattle.std.proofs.Common.{◌≡◌, ℕ, ◌<◌, inl, inr, List, length, get_or, sym, subst, ◌∙◌, refl, arith}
 use Rattle.std.proofs.lemmas.Bool.{cases_lt}
 use Rattle.sparse_algebra.specs.Algebra.{CommRing}
@@ -111,10 +111,10 @@ module _ (R : CommRing) {T : Type 0} (f : T → R.Carrier) where
       ]
 
 module _ (R : CommRing) {T : Type 0} (f : T → R.Carrier) (order : EliminationOrder) (a : Plain R)
-    (p : List ℕ) (named : IsOrderBy order a.rows p) where
-  -- a system that is not solved in an order that is asked for
+    (p : List ℕ) (named : IsOrderBy order a.rows p) (symmetric : IsSymmetricMatrix R a) where
+  -- a symmetric system that is not solved in an order that is asked for
   pub unsolvable : (e : SystemError) → IsUnsolvableIn R f p a e → IsUnsolvable R f order a e
   unsolvable Shapes is = tt
   unsolvable (NotSymmetric at) is = absurd is
-  unsolvable (NoFactors pivot) is = (p, named, is)
+  unsolvable (NoFactors pivot) is = (symmetric, (p, named, is))
   unsolvable OutOfMemory is = tt

@@ -1,6 +1,6 @@
 -- The words of the data lines that are written.
-use Rattle.std.proofs.Common.{◌≡◌, ℕ, ℤ, List, [], ◌∷◌, ◌++◌, true, Ok, refl, sym, ap, ◌∙◌}
-use Rattle.std.proofs.Common.{inl, inr}
+use Rattle.std.proofs.Common.{◌≡◌, ℕ, ℤ, List, [], ◌∷◌, ◌++◌, true, Ok, refl, sym, ap, subst, ◌∙◌}
+use Rattle.std.proofs.Common.{inr}
 use Rattle.std.specs.Prelude.{FitsSigned}
 use Rattle.std.specs.Int.{w128}
 use Rattle.std.specs.Fmt.{signed_decimal}
@@ -8,21 +8,22 @@ use Rattle.std.specs.Str.Parse.{signed_digits_value}
 use Rattle.std.proofs.lemmas.List.{append-nil}
 use Rattle.sparse_parser.specs.declared.header.Header.{Header}
 use Rattle.sparse_parser.specs.declared.header.Format.TheVariants.{Coordinate, Array}
-use Rattle.sparse_parser.specs.Grammar.{is_number}
+use Rattle.sparse_parser.specs.Grammar.{AreWords, is_number}
 use Rattle.sparse_parser.specs.InnerReading.{is_content, words_of}
 use Rattle.sparse_parser.specs.Meaning.{integer_of}
 use Rattle.sparse_parser.proofs.NumberLaws.{integer-number}
 use Rattle.sparse_parser.proofs.ContentLaws.{content_line}
 use Rattle.sparse_parser.proofs.LineShapes.{entry_1, entry_3}
-use Rattle.sparse_parser.proofs.WordLaws.{words_of-nil, words_of-blank, words_of-word}
+use Rattle.sparse_parser.proofs.WordLaws.{words_of-nil, words_of-blank, words_of-word, words_are}
 use Rattle.sparse_parser.proofs.WrittenWords.{IsText, index_text, integer_text, unblank, unended}
 use Rattle.sparse_parser.proofs.WrittenWords.{plain_text, not_comment}
 use Rattle.sparse_market_scalar.specs.IntegerTexts.{number_text}
 use Rattle.mtxkit_matrices.specs.declared.decimals.stage.Stage.TheVariants.{Entries}
 use Rattle.mtxkit_matrices.specs.Decimals.{IsScaled}
-use Rattle.mtxkit_matrices.specs.ScaledTexts.{IsScaledWord}
-use Rattle.mtxkit_matrices.specs.InnerRewriting.{AreBlankOrComment, IsLineWritten, coordinate_text}
+use Rattle.mtxkit_matrices.specs.ScaledTexts.{IsScaledWord, IsWrittenBelow, joined}
+use Rattle.mtxkit_matrices.specs.InnerRewriting.{IsLineWritten, coordinate_text}
 use Rattle.mtxkit_matrices.specs.InnerRewriting.{IsCoordinateLine, IsArrayLine}
+use Rattle.mtxkit_matrices.proofs.KeptLines.{not_skipped, passed_words}
 
 -- ---- words
 
@@ -43,10 +44,15 @@ integer_is_number z f = integer-number (signed_decimal z) (number_text w128 z f)
 
 -- ---- lines
 
-not_skipped : (words : List (List ℕ)) (word : List ℕ) (others : List (List ℕ))
-    → words ≡ word ∷ others → is_content words ≡ true → AreBlankOrComment words → ⊥
-not_skipped words word others e c (inl n) = cc
-not_skipped words word others e c (inr n) = cc
+-- a line that is neither blank nor a comment is written with these words, joined
+written_below : (line written word : List ℕ) (others words : List (List ℕ))
+    → words_of line ≡ word ∷ others → is_content (words_of line) ≡ true → words_of written ≡ words
+    → written ≡ joined words → IsWrittenBelow line written
+written_below line written word others words e content ws is = record {
+  unchanged =
+      λ p. absurd (not_skipped (words_of line) word others e content (passed_words line p));
+  spaced = λ n. (words, subst (AreWords written) ws (words_are written), is);
+}
 
 one_word : (word : List ℕ) → IsText word → words_of word ≡ word ∷ []
 one_word word h = ap words_of (sym (append-nil word))
@@ -66,7 +72,8 @@ three_words a b d h k l = next_word a (b ++ (32 ∷ d)) h
 
 scaled_word : (scale : ℕ) (value : List ℕ) (z : ℤ) → IsScaled scale value z → FitsSigned w128 z
     → IsScaledWord scale value (signed_decimal z)
-scaled_word scale value z s f = record { number = z; scaled = s; means = integer-means z f }
+scaled_word scale value z s f =
+    record { number = z; scaled = s; fits = f; is = refl; means = integer-means z f }
 
 -- a data line in coordinate format
 pub coordinate_line : {scale : ℕ} (h : Header) (line : List ℕ) {old new : List ℕ}
@@ -84,7 +91,7 @@ coordinate_line h line f content l =
       appended = l.appended;
       plain = unended l.row _ r.solid
           (refl, unended l.col _ c.solid (refl, plain_text text v.solid));
-      kept = λ skipped. absurd (not_skipped (words_of line) l.row _ l.words_are content skipped);
+      kept = written_below line _ l.row _ _ l.words_are content ws refl;
       step = inr (
         content,
         rw ws (content_line l.row _ (not_comment l.row r)),
@@ -109,7 +116,7 @@ array_line h line f content l =
       written = text;
       appended = l.appended;
       plain = plain_text text v.solid;
-      kept = λ skipped. absurd (not_skipped (words_of line) l.value _ l.words_are content skipped);
+      kept = written_below line _ l.value _ _ l.words_are content ws refl;
       step = inr (
         content,
         rw ws (content_line text [] (not_comment text v)),

@@ -4,7 +4,7 @@ use Rattle.std.specs.Prelude.{Some, filter}
 use Rattle.std.specs.Fmt.{signed_decimal}
 use Rattle.std.specs.Int.{w128}
 use Rattle.std.specs.Int.RustNames.{FitsSigned}
-use Rattle.std.specs.List.{list_all, AllByRecursion}
+use Rattle.std.specs.List.{list_all, flat_map, AllByRecursion}
 use Rattle.sparse_parser.specs.declared.header.Field.TheVariants.{Integer}
 use Rattle.sparse_parser.specs.declared.header.Format.{Format}
 use Rattle.sparse_parser.specs.declared.header.Symmetry.{Symmetry}
@@ -16,7 +16,8 @@ use Rattle.sparse_parser.specs.InnerReading.{is_content, words_of, written_lines
 use Rattle.mtxkit_matrices.specs.Decimals.{IsScaled}
 use Rattle.sparse_faults.specs.InnerLines.{AreAbove}
 use Rattle.mtxkit_matrices.specs.ScaledTexts.{IsScaledEntry, AreScaled, is_decimal, with_integers}
-use Rattle.mtxkit_matrices.specs.ScaledTexts.{IsSized, AreKeptBelowHeader}
+use Rattle.mtxkit_matrices.specs.ScaledTexts.{IsSized, IsBlankOrComment, integer_head}
+use Rattle.mtxkit_matrices.specs.ScaledTexts.{IsWrittenBelow, AreLinesKept, ended_line}
 use Rattle.mtxkit_matrices.specs.declared.decimals.stage.Stage.{Stage}
 use Rattle.mtxkit_matrices.specs.declared.decimals.stage.Stage.TheVariants.{Head, Sizes, Entries}
 
@@ -80,17 +81,23 @@ AreRewritten scale (Entries h) read wrote =
 
 -- ---- one line
 
--- a header line with the field `integer`, this format and this symmetry
-pub record IsHead (format : Format) (symmetry : Symmetry) (line : List ℕ) : Type 0 where
-  pub plain : IsOneLine line
-  pub says : header_of (words_of line)
-      ≡ Some (record { format = format; field = Integer; symmetry = symmetry })
-  pub allowed : is_allowed (record { format = format; field = Integer; symmetry = symmetry }) ≡ true
+-- the header with the field `integer`, this format and this symmetry
+abbrev pub integers_in : Format → Symmetry → Header
+integers_in format symmetry = record { format = format; field = Integer; symmetry = symmetry }
 
--- a blank line, or a comment below the header, is written unchanged
-abbrev pub IsCopied : Stage → List ℕ → List ℕ → Type 0
-IsCopied Head line written = words_of line ≡ [] → written ≡ line
-IsCopied stage line written = AreBlankOrComment (words_of line) → written ≡ line
+-- the header line with the field `integer`, this format and this symmetry
+pub record IsHead (format : Format) (symmetry : Symmetry) (line : List ℕ) : Type 0 where
+  pub is : line ≡ integer_head (integers_in format symmetry)
+  pub plain : IsOneLine line
+  pub says : header_of (words_of line) ≡ Some (integers_in format symmetry)
+  pub allowed : is_allowed (integers_in format symmetry) ≡ true
+
+-- what is written for a line at this stage, if the next one is at stage `next`: the header line with integers, what is
+-- written below the size line, or the line itself
+abbrev pub IsWrittenAt : Stage → Stage → List ℕ → List ℕ → Type 0
+IsWrittenAt Head (Sizes h) line written = written ≡ integer_head h
+IsWrittenAt (Entries h) next line written = IsWrittenBelow line written
+IsWrittenAt stage next line written = written ≡ line
 
 -- for this line a line was appended, and the next one is at stage `next`
 pub record IsLineWritten (scale : ℕ) (stage : Stage) (line : List ℕ) (next : Stage)
@@ -98,7 +105,7 @@ pub record IsLineWritten (scale : ℕ) (stage : Stage) (line : List ℕ) (next :
   pub written : List ℕ
   pub appended : new ≡ old ++ written
   pub plain : IsOneLine written
-  pub kept : IsCopied stage line written
+  pub kept : IsWrittenAt stage next line written
   pub step : IsStep scale stage (words_of line) next (words_of written)
 
 -- two indices and an integer
@@ -131,10 +138,22 @@ pub record IsArrayLine (scale : ℕ) (words : List (List ℕ)) (old new : List �
 
 -- ---- the text
 
--- the lines written are the lines read, except for the header, the size line and the data lines
+-- the lines are blank lines, a line with this header, and comments; only the header line is changed
+pub record AreUnsized (header : Header) (lines written : List (List ℕ)) : Type 0 where
+  pub blank : List (List ℕ)
+  pub head : List ℕ
+  pub between : List (List ℕ)
+  pub lines_are : lines ≡ blank ++ (head ∷ between)
+  pub written_are : written ≡ blank ++ (integer_head header ∷ between)
+  pub blanks : AllByRecursion AreBlanks blank
+  pub some : AreBlanks head → ⊥
+  pub skipped : AllByRecursion IsBlankOrComment between
+
+-- the lines written are the lines read, except for the header and the data lines
 abbrev pub AreLinesWritten : Stage → List (List ℕ) → List (List ℕ) → Type 0
 AreLinesWritten Head lines written = (written ≡ lines) × AllByRecursion AreBlanks lines
-AreLinesWritten stage lines written = AreKeptBelowHeader lines written
+AreLinesWritten (Sizes h) lines written = AreUnsized h lines written
+AreLinesWritten (Entries h) lines written = AreLinesKept h lines written
 
 -- the text above `rest`, which begins with the line of this number, was read, and `written` is what was
 -- written for it
@@ -145,5 +164,6 @@ pub record IsTextWritten (scale : ℕ) (text : List ℕ) (stage : Stage) (number
   pub above : AreAbove text 1 before number rest
   pub wrote_is : (more : List ℕ) (behind : List (List ℕ)) → AreLines more behind
       → AreLines (written ++ more) (wrote ++ behind)
+  pub ends : written ≡ flat_map ended_line wrote
   pub are : AreRewritten scale stage (written_lines before) (written_lines wrote)
   pub kept : AreLinesWritten stage before wrote

@@ -1,5 +1,5 @@
 -- Why a line is refused. What the line must be depends on the stage.
-use Rattle.std.specs.Prelude.{◌≡◌, ◌≢◌, ◌⊎◌, ℕ, true, false, List, []}
+use Rattle.std.specs.Prelude.{◌≡◌, ◌≢◌, ◌⊎◌, ℕ, true, false, List, [], Option, None}
 use Rattle.sparse_parser.specs.declared.header.Format.{Format}
 use Rattle.sparse_parser.specs.declared.header.Header.{Header}
 use Rattle.sparse_parser.specs.InnerReading.{is_content}
@@ -59,3 +59,8 @@ IsLineFailure scale (Sizes h) number words e =
     (e ≡ errors.OutOfMemory) ⊎ (AreContent words × IsSizesFailure h number words e)
 IsLineFailure scale (Entries h) number words e =
     (e ≡ errors.OutOfMemory) ⊎ (AreContent words × IsEntryFailure scale h.format number words e)
+
+-- the least scale of the value that is refused as a fraction, if one is and has one
+abbrev pub next_scale : ScaleError → Option ℕ
+next_scale (errors.Fraction n least) = least
+next_scale e = None

@@ -1,12 +1,13 @@
 -- Why the numbers of a text are not scaled.
 use Rattle.std.specs.Prelude.{◌≡◌, ◌≢◌, ◌⊎◌, ℕ, Option, Bool, true, false, ◌&&◌, List, [], ◌∷◌, ◌++◌}
 use Rattle.std.specs.Prelude.{Some, None}
+use Rattle.std.specs.List.{list_all}
 use Rattle.sparse_parser.specs.declared.header.Format.{Format}
 use Rattle.sparse_parser.specs.declared.header.Format.TheVariants.{Coordinate, Array}
 use Rattle.sparse_parser.specs.declared.header.Header.{Header}
 use Rattle.sparse_parser.specs.Header.{header_of, is_allowed}
 use Rattle.sparse_parser.specs.Grammar.{AreLines, AreHeaded}
-use Rattle.sparse_parser.specs.Grammar.{is_index, is_number, is_size}
+use Rattle.sparse_parser.specs.Grammar.{is_index, is_number, is_size, is_entry}
 use Rattle.mtxkit_matrices.specs.declared.decimals.error.ScaleError.{ScaleError}
 use Rattle.mtxkit_matrices.specs.declared.decimals.error.ScaleError.TheVariants as errors
 use Rattle.mtxkit_matrices.specs.declared.decimals.number.Misfit.{Misfit}
@@ -38,6 +39,7 @@ pub record AreBelowSizes (scale : ℕ) (lines : List (List ℕ)) (h : Header) : 
   pub headed : AreBelowHeader lines h (size ∷ read)
   pub sized : is_size size ≡ true
   pub sizes : IsSized h size
+  pub listed : list_all is_entry read ≡ true
   pub values : AreScaled scale h.format read wrote
 
 -- ---- faults of the words of a line

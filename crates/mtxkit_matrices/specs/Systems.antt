@@ -5,6 +5,7 @@ use Rattle.sparse_algebra.specs.Plain.{Plain}
 use Rattle.sparse_coo_dense.specs.Coo.{Coo}
 use Rattle.mtxkit_matrices.specs.Differences.{IsFirstDifference, IsFirstAsymmetry}
 use Rattle.mtxkit_matrices.specs.Pivots.{IsSingularPivot}
+use Rattle.mtxkit_matrices.specs.Values.{IsSymmetricMatrix}
 use Rattle.mtxkit_matrices.specs.declared.orders.EliminationOrder.{EliminationOrder}
 use Rattle.mtxkit_matrices.specs.declared.systems.SystemError.{SystemError}
 use Rattle.mtxkit_matrices.specs.declared.systems.SystemError.TheVariants.{NotSymmetric, NoFactors}
@@ -23,12 +24,13 @@ pub record IsEquation {S T U : Type 0} (a : Coo S) (x : Coo T) (b : Coo U) : Typ
   pub cols : x.ncols ≡ b.ncols
 
 module _ (R : CommRing) where
-  -- the matrix differs from its transpose, at first where the error says, or the pivot of the error has
-  -- no inverse; the other errors say nothing about its values
+  -- the matrix differs from its transpose, at first where the error says, or it is symmetric and the
+  -- pivot of the error has no inverse; the other errors say nothing about its values
   abbrev pub IsUnsolvable : {T : Type 0} → (T → R.Carrier) → EliminationOrder → Plain R
       → SystemError → Type 0
   IsUnsolvable f order a (NotSymmetric at) = IsFirstAsymmetry R a at.row at.col
-  IsUnsolvable f order a (NoFactors pivot) = IsSingularPivot R f order a pivot
+  IsUnsolvable f order a (NoFactors pivot) =
+      IsSymmetricMatrix R a × IsSingularPivot R f order a pivot
   IsUnsolvable f order a error = Unit {0}
 
   -- the product differs from b, which has n rows and m columns, at first where the error says

@@ -13,8 +13,9 @@ use std::alloc::Global;
 /// Returns a Matrix Market text of decimal numbers with each number multiplied by `10^scale`, as a text of integers.
 ///
 /// The numbers are read exactly, whatever their number of digits. The sizes, the rows and columns of entries, the
-/// symmetry, the format, the comments and the order of the lines are kept. Each line gets LF as its end, and the words
-/// of a data line are separated by one space. The field of the text is `real` or `integer`.
+/// symmetry, the format, the comments and the order of the lines are kept. Each line gets LF as its end, the words of
+/// the header are in lower case after `%%MatrixMarket`, and those of the header and of a data line are separated by one
+/// space. The field of the text is `real` or `integer`.
 ///
 /// Linear in the text's length; the memory is the result's.
 ///

@@ -87,6 +87,7 @@ pub fn draw(
 ) -> Result<Picture, AllocError>
     ensures height { IfOk result (λ p. p.height ≡ height) }
     ensures width { IfOk result (λ p. p.width ≡ width) }
+    ensures cells { IfOk result (λ p. length p.counts ≡ height * width) }
     ensures counts { IfOk result (λ p. (r c : ℕ) → r < height → c < width
         → count_at p r c ≡ entries_in pattern.now height width r c) }
     ensures black { IfOk result (λ p. (r c : ℕ) → r < height → c < width

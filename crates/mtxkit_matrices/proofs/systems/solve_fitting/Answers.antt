@@ -1,4 +1,4 @@
-use Rattle.std.proofs.Common.{subst, ap, ◌∙◌}
+use Rattle.std.proofs.Common.{subst, ap, rules, ◌∙◌}
 use Rattle.std.specs.Prelude.{IfErr, IfOk}
 use Rattle.std.proofs.lemmas.Result.{IfErr-weaker}
 use Rattle.sparse_algebra.specs.Plain.{Plain, below, plain_product}
@@ -8,6 +8,7 @@ use Rattle.sparse_dense_ops.specs.Solutions.{HasSameValues}
 use Rattle.sparse_pattern.specs.Raw.{Raw}
 use Rattle.mtxkit_matrices.specs.InnerSystems.{IsUnsolvableIn}
 use Rattle.mtxkit_matrices.specs.Pivots.{IsOrderBy}
+use Rattle.mtxkit_matrices.specs.Values.{IsSymmetricMatrix}
 use Rattle.mtxkit_matrices.proofs.SingularPivots.{unsolvable}
 use Rattle.mtxkit_matrices.proofs.systems.solve_fitting.Goals as goal
 
@@ -34,6 +35,7 @@ returns-clause-refused g c =
       count = c.in_ok-permutation.ensures.count ∙ rows;
       natural = λ natural. c.in_ok-permutation.ensures.natural natural ∙ ap below rows;
     } in
-    IfErr-weaker c.solve_in_order.result _ _ (λ e. unsolvable R f c.args.order a p named e)
+    let symmetric : IsSymmetricMatrix R a = search rules in
+    IfErr-weaker c.solve_in_order.result _ _ (λ e. unsolvable R f c.args.order a p named symmetric e)
     (subst (λ (q : Plain R). IfErr c.solve_in_order.result (IsUnsolvableIn R f p q)) plain
     c.solve_in_order.ensures.refused)

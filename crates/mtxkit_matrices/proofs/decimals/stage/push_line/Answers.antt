@@ -1,8 +1,18 @@
-use Rattle.std.proofs.Common.{rules}
+use Rattle.std.proofs.Common.{inl, inr, rules}
 use Rattle.std.proofs.lemmas.Result.{IfOk-weaker}
-use Rattle.mtxkit_matrices.proofs.CopiedLines.{is_commented, are_content, comment_step, copied}
+use Rattle.mtxkit_matrices.proofs.CopiedLines.{is_commented, are_content, blank_step, comment_step, copied}
+use Rattle.mtxkit_matrices.proofs.KeptLines.{same_at}
 use Rattle.mtxkit_matrices.proofs.ScaleRefusals.{line_memory_failed, sizes_refused}
 use Rattle.mtxkit_matrices.proofs.decimals.stage.push_line.Goals as goal
+
+pub returns-in_default-clause-written : goal.returns-in_default-clause-written
+returns-in_default-clause-written c =
+    let blank = c.in_default.ensures in
+    IfOk-weaker c.push_bytes.result _ _ (λ next h. h c.args.scale)
+    (copied c.args.line.now _ _ c.args.stage c.args.stage c.requires
+    (λ scale. blank_step scale c.args.stage _ blank)
+    (same_at c.args.stage c.args.line.now (inl blank)) c.push_bytes.result
+    c.push_bytes.ensures.next c.push_bytes.ensures.appended)
 
 pub returns-in_default-stage-clause-written : goal.returns-in_default-stage-clause-written
 returns-in_default-stage-clause-written c =
@@ -11,6 +21,7 @@ returns-in_default-stage-clause-written c =
     IfOk-weaker c.push_bytes-in_default-stage.result _ _ (λ next h. h c.args.scale)
     (copied c.args.line.now _ _ c.args.stage c.args.stage c.requires
     (λ scale. comment_step scale c.args.stage _ c.in_default-stage.not-Head comment)
+    (same_at c.args.stage c.args.line.now (inr comment))
     c.push_bytes-in_default-stage.result c.push_bytes-in_default-stage.ensures.next
     c.push_bytes-in_default-stage.ensures.appended)
 

@@ -11,8 +11,8 @@ returns-in-Some-Ok-clause-written c =
     let sizes = sized c.args.header _ c.from_line.result c.from_line.ensures _
     (c.in-Some-Ok.is ∙ ap (λ (x : Result Size Cause). Some x) c.in-Some-Ok.field-0-is) in
     copied c.args.line.now _ _ (Sizes c.args.header) (Entries c.args.header) c.requires.plain
-    (λ scale. inr (c.requires.content.content, refl, refl, sizes.0, sizes.1)) c.push_bytes.result
-    c.push_bytes.ensures.next c.push_bytes.ensures.appended
+    (λ scale. inr (c.requires.content.content, refl, refl, sizes.0, sizes.1)) refl
+    c.push_bytes.result c.push_bytes.ensures.next c.push_bytes.ensures.appended
 
 pub returns-in-Some-Ok-clause-refused : goal.returns-in-Some-Ok-clause-refused
 returns-in-Some-Ok-clause-refused c =
