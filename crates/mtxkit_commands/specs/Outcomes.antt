@@ -11,7 +11,7 @@ use Rattle.mtxkit_arguments.specs.Files.{is_saved}
 use Rattle.mtxkit_arguments.specs.declared.commands.Command.{Command}
 use Rattle.mtxkit_commands.specs.Answers.{IsAnswer}
 use Rattle.mtxkit_commands.specs.Failures.{IsFailure, IsUnscaledBy, IsMisorderedBy, IsUnevaluatedBy}
-use Rattle.mtxkit_commands.specs.Inputs.{Reading}
+use Rattle.file_readings.specs.Readings.{Reading}
 use Rattle.mtxkit_commands.specs.declared.command_error.CommandError.{CommandError}
 use Rattle.mtxkit_commands.specs.declared.command_error.CommandError.TheVariants.{Failed}
 use Rattle.mtxkit_commands.specs.declared.command_error.CommandError.TheVariants.{Unscaled}

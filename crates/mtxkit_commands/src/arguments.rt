@@ -14,8 +14,9 @@ ghost use Rattle.mtxkit_commands.specs.Usage.{argument_status, IsExplainedAt};
 
 use crate::cli::{finish, run};
 use crate::failure_lines::{report, report_write};
-use crate::inputs::{Inputs, Texts};
+use crate::inputs::Inputs;
 use crate::unread::report_unread;
+use file_readings::Texts;
 use mtxkit_arguments::{ArgMatches, Explanation, command_of, given_words, parse};
 use mtxkit_texts::{Failure, Screen};
 use sparse_io::{Out, Sink, write_all_to};

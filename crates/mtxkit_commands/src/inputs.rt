@@ -1,28 +1,14 @@
 //! Reads the files of a command.
 
-ghost use Rattle.std.specs.Prelude.{◌≡◌, ◌∷◌, List, Ok, Err, IfOk, IfErr, string_bytes};
-ghost use Rattle.mtxkit_commands.specs.Inputs.{input_fault, IsRead, IsUnread};
+ghost use Rattle.std.specs.Prelude.{◌≡◌, IfOk, IfErr, string_bytes};
+ghost use Rattle.file_readings.specs.Readings.{IsRead};
+ghost use Rattle.mtxkit_commands.specs.Inputs.{input_fault, IsUnread};
 
-use crate::record::Record;
+use file_readings::{Record, Texts};
 use mtxkit_texts::{Failure, Screen, read_shown};
 use std::fs::{File, OpenFile};
 use std::io;
 use std::rt::Files;
-
-/// Reads files. Contracts see which files were read, in which order, and the text or the error of each.
-pub trait Texts {
-    ghost use Rattle.mtxkit_commands.specs.Inputs.{Reading};
-
-    // The files that were read so far and their texts or errors, the last one first.
-    ghost readings: { Self → List Reading };
-
-    /// Reads the file with this path.
-    fn read(&mut self, path: &str) -> io::Result<String>
-        ensures text { IfOk result (λ text. readings self.new
-            ≡ (path.now, Ok (string_bytes text)) ∷ readings self.old) }
-        ensures failed { IfErr result (λ error. readings self.new
-            ≡ (path.now, Err error) ∷ readings self.old) };
-}
 
 /// The files of the system; the path `-` is standard input. The record of the files that were read occupies no memory.
 #[derive(Drop)]

@@ -22,11 +22,11 @@ use Rattle.std.specs.contracts.impls.GlobalAllocator.TheImpl.{ghosts}
 use Rattle.std.specs.contracts.io.Error as error
 use Rattle.std.specs.contracts.result.Result as result
 use Rattle.std.specs.contracts.string.String as string
-use Rattle.mtxkit_commands.specs.Inputs.{reading_of}
-use Rattle.mtxkit_commands.specs.contracts.record.Record as row
-use Rattle.mtxkit_commands.specs.contracts.record.Record.with as f
-use Rattle.mtxkit_commands.proofs.record.Record.with.Statement.{statement}
-use Rattle.mtxkit_commands.proofs.record.Record.with.Code as code
+use Rattle.file_readings.specs.Readings.{reading_of}
+use Rattle.file_readings.specs.contracts.record.Record as row
+use Rattle.file_readings.specs.contracts.record.Record.with as f
+use Rattle.file_readings.proofs.record.Record.with.Statement.{statement}
+use Rattle.file_readings.proofs.record.Record.with.Code as code
 
 -- what reading a file gave
 abbrev read_row : RattleType

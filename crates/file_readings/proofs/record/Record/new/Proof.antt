@@ -10,10 +10,10 @@ use denote.Shadow.{pure_i}
 use denote.Steps.{nothing}
 use denote.Triple.Entry.{on_entry}
 use denote.Triple.Walked.{says, ends_at}
-use Rattle.mtxkit_commands.specs.contracts.record.Record as row
-use Rattle.mtxkit_commands.specs.contracts.record.Record.new as f
-use Rattle.mtxkit_commands.proofs.record.Record.new.Statement.{statement}
-use Rattle.mtxkit_commands.proofs.record.Record.new.Code as code
+use Rattle.file_readings.specs.contracts.record.Record as row
+use Rattle.file_readings.specs.contracts.record.Record.new as f
+use Rattle.file_readings.proofs.record.Record.new.Statement.{statement}
+use Rattle.file_readings.proofs.record.Record.new.Code as code
 
 pub new_spec : {M : Type 1} → statement M
 new_spec 𝓤 𝓛 𝓜 𝓡 wired =
