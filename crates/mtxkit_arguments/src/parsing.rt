@@ -2,8 +2,8 @@
 
 ghost use Rattle.clap.specs.Values.{kind_of};
 ghost use Rattle.clap.specs.declared.error.kind.ErrorKind.TheVariants as kind;
-ghost use Rattle.std.specs.Prelude.{◌≡◌, IfOk};
-ghost use Rattle.mtxkit_arguments.specs.Explained.{IsExplained};
+ghost use Rattle.std.specs.Prelude.{◌≡◌, ◌<◌, ◌+◌, IfErr, IfOk, length};
+ghost use Rattle.mtxkit_arguments.specs.Explained.{HasMessage, IsExplained};
 ghost use Rattle.mtxkit_arguments.specs.declared.parsing.Explanation.TheVariants.{OutOfMemory};
 
 use crate::command_line::command_line;
@@ -18,7 +18,7 @@ const NEGATIVE_SCALE: &str =
 pub enum Explanation {
     /// Help or the version, which the arguments ask for.
     Help(String),
-    /// Why the arguments are wrong.
+    /// Why the arguments are wrong, in a text that is not empty.
     Mistake(String),
     /// An allocation failed.
     OutOfMemory,
@@ -30,7 +30,9 @@ pub enum Explanation {
 ///
 /// Returns what is said in place of running a command if `clap` does not accept the arguments, if they ask for help or
 /// for the version, or if an allocation fails.
-pub fn parse<'a>(alloc: Global, words: &'a [String]) -> Result<ArgMatches<'a>, Explanation> {
+pub fn parse<'a>(alloc: Global, words: &'a [String]) -> Result<ArgMatches<'a>, Explanation>
+    ensures { IfErr result HasMessage }
+{
     match matched(alloc, words) {
         Ok(matches) => Ok(matches),
         Err(error) => Err(explanation_of(alloc, &error)),
@@ -47,6 +49,7 @@ fn matched<'a>(alloc: Global, words: &'a [String]) -> Result<ArgMatches<'a>, Err
 fn explanation_of(alloc: Global, error: &Error) -> Explanation
     ensures explained { IsExplained (kind_of error.now) result }
     ensures memory { kind_of error.now ≡ kind.OutOfMemory → result ≡ OutOfMemory }
+    ensures some { HasMessage result }
 {
     match explained(alloc, error) {
         Ok(explanation) => explanation,
@@ -58,6 +61,7 @@ fn explanation_of(alloc: Global, error: &Error) -> Explanation
 fn explained(alloc: Global, error: &Error) -> Result<Explanation, AllocError>
     ensures explained { IfOk result (IsExplained (kind_of error.now)) }
     ensures memory { IfOk result (λ e. kind_of error.now ≡ kind.OutOfMemory → e ≡ OutOfMemory) }
+    ensures some { IfOk result HasMessage }
 {
     if error.kind() == clap::error::ErrorKind::OutOfMemory {
         return Ok(Explanation::OutOfMemory);
@@ -70,8 +74,14 @@ fn explained(alloc: Global, error: &Error) -> Result<Explanation, AllocError>
     Ok(Explanation::Help(text))
 }
 
-// Returns what is added to a message of `clap`: one about a negative power of ten says what is done with it.
-fn addition(message: &str) -> &'static str {
+// Returns what is added to a message of `clap`: a line end to an empty one, and to one about a negative power of ten
+// what is done with it.
+fn addition(message: &str) -> &'static str
+    ensures { 0 < length message.now + length result.now }
+{
+    if message.is_empty() {
+        return "\n";
+    }
     if message.contains("'--scale <K>': -") {
         NEGATIVE_SCALE
     } else {
