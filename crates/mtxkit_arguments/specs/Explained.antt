@@ -12,7 +12,8 @@ IsExplained kind (Help text) = (kind ≡ DisplayHelp) ⊎ (kind ≡ DisplayVersi
 IsExplained kind (Mistake text) = (kind ≢ DisplayHelp) × (kind ≢ DisplayVersion)
 IsExplained kind OutOfMemory = Unit {0}
 
--- the text that says what is wrong is not empty
+-- the text that is said is not empty
 abbrev pub HasMessage : Explanation → Type 0
+HasMessage (Help text) = 0 < length (string_bytes text)
 HasMessage (Mistake text) = 0 < length (string_bytes text)
-HasMessage explanation = Unit {0}
+HasMessage OutOfMemory = Unit {0}

@@ -13,12 +13,12 @@ use std::alloc::{AllocError, Global};
 const NEGATIVE_SCALE: &str =
     "\nK is 0 or more: mtxkit multiplies the numbers by 10^K, and does not divide them.\n";
 
-/// What is said in place of running a command.
+/// What is said in place of running a command, in a text that is not empty.
 #[derive(Debug, Drop)]
 pub enum Explanation {
     /// Help or the version, which the arguments ask for.
     Help(String),
-    /// Why the arguments are wrong, in a text that is not empty.
+    /// Why the arguments are wrong.
     Mistake(String),
     /// An allocation failed.
     OutOfMemory,
@@ -67,6 +67,7 @@ fn explained(alloc: Global, error: &Error) -> Result<Explanation, AllocError>
         return Ok(Explanation::OutOfMemory);
     }
     let mut text = format!(in alloc; "{error}")?;
+    text.push_str(line_end(text.as_str()))?;
     if error.use_stderr() {
         text.push_str(addition(text.as_str()))?;
         return Ok(Explanation::Mistake(text));
@@ -74,14 +75,15 @@ fn explained(alloc: Global, error: &Error) -> Result<Explanation, AllocError>
     Ok(Explanation::Help(text))
 }
 
-// Returns what is added to a message of `clap`: a line end to an empty one, and to one about a negative power of ten
-// what is done with it.
-fn addition(message: &str) -> &'static str
+// Returns the line end that is added to an empty message.
+fn line_end(message: &str) -> &'static str
     ensures { 0 < length message.now + length result.now }
 {
-    if message.is_empty() {
-        return "\n";
-    }
+    if message.is_empty() { "\n" } else { "" }
+}
+
+// Returns what is added to a message of `clap`: one about a negative power of ten says what is done with it.
+fn addition(message: &str) -> &'static str {
     if message.contains("'--scale <K>': -") {
         NEGATIVE_SCALE
     } else {
