@@ -11,6 +11,8 @@ mod fault_files;
 mod inputs;
 mod one_file;
 mod orders;
+mod outputs;
+mod save_record;
 mod scaled;
 mod unread;
 
@@ -20,3 +22,4 @@ pub use cli::{finish, run};
 pub use command_error::CommandError;
 pub use failure_lines::{failure_line, report};
 pub use inputs::{Inputs, read_text};
+pub use outputs::{Outputs, Saves};
