@@ -1,2 +1,3 @@
 mod GivenCommands
 mod Paths
+mod SameRows

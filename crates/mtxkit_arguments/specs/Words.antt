@@ -62,11 +62,13 @@ abbrev pub GivesMethod : Option (List ℕ) → Method → Type 0
 GivesMethod None method = method ≡ MinimumDegree
 GivesMethod (Some name) method = name ≡ method_name method
 
--- the order has the name that is given, or is that of the file with this path; it is the natural one if none is given
+-- the order has the name that is given, or is that of the file with this path if it is no order's name; it is the
+-- natural one if none is given
 abbrev pub IsOrderNamed : List ℕ → FillOrder → Type 0
 IsOrderNamed name fill.Natural = name ≡ codes "natural"
 IsOrderNamed name (fill.Computed method) = name ≡ method_name method
-IsOrderNamed name (fill.File path) = path.now ≡ name
+IsOrderNamed name (fill.File path) = (path.now ≡ name) × (name ≢ codes "natural")
+    × ((method : Method) → name ≢ method_name method)
 
 abbrev pub GivesOrder : Option (List ℕ) → FillOrder → Type 0
 GivesOrder None order = order ≡ fill.Natural
@@ -159,6 +161,10 @@ GivesCommand words (Solve modulus order a b) = IsArgument words (codes "A") a.no
 GivesCommand words (Check modulus a x b) = IsArgument words (codes "A") a.now
     × IsArgument words (codes "X") x.now × IsArgument words (codes "B") b.now
     × GivesModulus words modulus
+
+-- the arguments give no command with this name
+abbrev pub GiveNone : Found → List ℕ → Type 0
+GiveNone words name = (command : Command) → name ≡ command_name command → ¬ GivesCommand words command
 
 -- the command is that of the subcommand that `clap` met, and the subcommand's arguments give it
 pub record IsGiven (matches : ArgMatches) (command : Command) : Type 0 where

@@ -1,13 +1,16 @@
 //! The choices that arguments make: targets, sizes, orders and forms.
 
 ghost use Rattle.clap.specs.Matches.{found_of, first_value};
-ghost use Rattle.std.specs.Prelude.{◌≡◌, ◌<◌, IfSome, codes};
+ghost use Rattle.std.specs.Prelude.{◌≡◌, ◌≢◌, ◌<◌, IfNone, IfSome, codes};
 ghost use Rattle.std.specs.Option.{option_map};
 ghost use Rattle.mtxkit_arguments.specs.Optional.{GivesFlag};
 ghost use Rattle.mtxkit_arguments.specs.Sizes.{size_given};
 ghost use Rattle.mtxkit_arguments.specs.Words.{field_name, shown_on, IsTargetOf};
 ghost use Rattle.mtxkit_arguments.specs.Words.{GivesElimination, GivesReportFormat, GivesMethod, GivesModulus};
 ghost use Rattle.mtxkit_arguments.specs.Words.{GivesOrder, GivesForm, GivesScale, GivesSize};
+ghost use Rattle.mtxkit_arguments.specs.declared.options.Values.{Values};
+ghost use Rattle.mtxkit_matrices.specs.declared.orders.EliminationOrder.{EliminationOrder};
+ghost use Rattle.mtxkit_patterns.specs.declared.square.Method.{Method};
 
 use crate::options::{FillOrder, Target, Values};
 use clap::ArgMatches;
@@ -88,7 +91,8 @@ pub(crate) fn modulus_of(words: &ArgMatches<'_>) -> Option<u64>
 
 /// Returns whether this field is written with values.
 pub(crate) fn values_of(field: &str) -> Option<Values>
-    ensures { IfSome result (λ values. field.now ≡ field_name values) }
+    ensures named { IfSome result (λ values. field.now ≡ field_name values) }
+    ensures none { IfNone result ((values : Values) → field.now ≢ field_name values) }
 {
     match field {
         "integer" => Some(Values::Integers),
@@ -99,7 +103,9 @@ pub(crate) fn values_of(field: &str) -> Option<Values>
 
 /// Returns the method with this name, and minimum degree if none is given.
 pub(crate) fn method_of(name: Option<&str>) -> Option<Method>
-    ensures { IfSome result (GivesMethod (option_map (λ name. name.now) name.entry)) }
+    ensures given { IfSome result (GivesMethod (option_map (λ name. name.now) name.entry)) }
+    ensures none { IfNone result
+        ((method : Method) → ¬ GivesMethod (option_map (λ name. name.now) name.entry) method) }
 {
     let Some(name) = name else {
         return Some(Method::MinimumDegree);
@@ -139,7 +145,9 @@ pub(crate) fn form_of(words: &ArgMatches<'_>) -> Form
 
 /// Returns the order with this name, and minimum degree if none is given.
 pub(crate) fn elimination_order(name: Option<&str>) -> Option<EliminationOrder>
-    ensures { IfSome result (GivesElimination (option_map (λ name. name.now) name.entry)) }
+    ensures given { IfSome result (GivesElimination (option_map (λ name. name.now) name.entry)) }
+    ensures none { IfNone result ((order : EliminationOrder)
+        → ¬ GivesElimination (option_map (λ name. name.now) name.entry) order) }
 {
     let Some(name) = name else {
         return Some(EliminationOrder::MinimumDegree);

@@ -2,6 +2,7 @@
 
 ghost use Rattle.std.specs.Prelude.{◌≡◌, IfErr, IfOk, Err};
 ghost use Rattle.std.specs.IoError.{error_kind};
+ghost use Rattle.std.specs.Vec.Iter.{into_iter_items};
 ghost use Rattle.mtxkit_arguments.specs.Given.{argument_fault};
 ghost use Rattle.mtxkit_arguments.specs.declared.given.ArgumentError.TheVariants.{OutOfMemory};
 
@@ -46,6 +47,8 @@ impl<T: Drop> From<AllocFailed<T>> for ArgumentError {
 ///
 /// Returns `NotText` if an argument is not UTF-8, and `OutOfMemory` if an allocation fails.
 pub fn given_words(alloc: Global, arguments: io::Result<Args>) -> Result<Vec<String>, ArgumentError>
+    ensures given { IfOk arguments (λ args. IfOk result
+        (λ words. words.items ≡ into_iter_items args)) }
     ensures refused { IfOk arguments (λ _. IfErr result (λ e. e ≡ OutOfMemory)) }
     ensures unread { IfErr arguments (λ e. result ≡ Err (argument_fault (error_kind e))) }
 {
@@ -57,7 +60,8 @@ pub fn given_words(alloc: Global, arguments: io::Result<Args>) -> Result<Vec<Str
 
 // Returns the arguments in order.
 fn listed(alloc: Global, arguments: Args) -> Result<Vec<String>, ArgumentError>
-    ensures { IfErr result (λ e. e ≡ OutOfMemory) }
+    ensures given { IfOk result (λ words. words.items ≡ into_iter_items arguments) }
+    ensures refused { IfErr result (λ e. e ≡ OutOfMemory) }
 {
     let mut words = Vec::with_capacity(alloc, arguments.len())?;
     for word in arguments {

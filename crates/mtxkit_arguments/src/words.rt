@@ -1,9 +1,10 @@
 //! The command that the arguments give.
 
 ghost use Rattle.clap.specs.Matches.{found_of};
-ghost use Rattle.std.specs.Prelude.{◌≡◌, IfSome, codes};
+ghost use Rattle.std.specs.Prelude.{◌≡◌, IfNone, IfSome, codes};
 ghost use Rattle.mtxkit_arguments.specs.Sizes.{IsSized};
-ghost use Rattle.mtxkit_arguments.specs.Words.{command_name, GivesCommand, IsGiven};
+ghost use Rattle.mtxkit_arguments.specs.Words.{command_name, GiveNone, GivesCommand, IsGiven};
+ghost use Rattle.mtxkit_arguments.specs.declared.commands.Command.{Command};
 
 use crate::choices::{
     elimination_order, fill_order, form_of, method_of, modulus_of, report_format, scale_of,
@@ -12,11 +13,11 @@ use crate::choices::{
 use crate::commands::Command;
 use clap::ArgMatches;
 
-/// Returns the command that `clap` matched, or `None` if `clap` accepts an argument that the command does not have. The
-/// size of a picture is not 0.
+/// Returns the command that `clap` matched, or `None` if its arguments give none. The size of a picture is not 0.
 pub fn command_of<'m, 'a>(matches: &'m ArgMatches<'a>) -> Option<Command<'m>>
     ensures sized { IfSome result IsSized }
     ensures given { IfSome result (IsGiven matches.now) }
+    ensures none { IfNone result ((command : Command) → ¬ IsGiven matches.now command) }
 {
     let (name, words) = matches.subcommand()?;
     named_command(name, words)
@@ -27,6 +28,7 @@ fn named_command<'m, 'a>(name: &str, words: &'m ArgMatches<'a>) -> Option<Comman
     ensures sized { IfSome result IsSized }
     ensures named { IfSome result (λ command. name.now ≡ command_name command) }
     ensures given { IfSome result (GivesCommand (found_of words.now)) }
+    ensures none { IfNone result (GiveNone (found_of words.now) name.now) }
 {
     match name {
         "info" => info_of(words),
@@ -49,6 +51,7 @@ fn info_of<'a>(words: &ArgMatches<'a>) -> Option<Command<'a>>
     ensures sized { IfSome result IsSized }
     ensures named { IfSome result (λ command. command_name command ≡ codes "info") }
     ensures given { IfSome result (GivesCommand (found_of words.now)) }
+    ensures none { IfNone result (GiveNone (found_of words.now) (codes "info")) }
 {
     let file = words.get_str("FILE")?;
     let form = report_format(words);
@@ -59,6 +62,7 @@ fn spy_of<'a>(words: &ArgMatches<'a>) -> Option<Command<'a>>
     ensures sized { IfSome result IsSized }
     ensures named { IfSome result (λ command. command_name command ≡ codes "spy") }
     ensures given { IfSome result (GivesCommand (found_of words.now)) }
+    ensures none { IfNone result (GiveNone (found_of words.now) (codes "spy")) }
 {
     let file = words.get_str("FILE")?;
     let target = target_of(words);
@@ -70,6 +74,7 @@ fn copy_of<'a>(words: &ArgMatches<'a>) -> Option<Command<'a>>
     ensures sized { IfSome result IsSized }
     ensures named { IfSome result (λ command. command_name command ≡ codes "copy") }
     ensures given { IfSome result (GivesCommand (found_of words.now)) }
+    ensures none { IfNone result (GiveNone (found_of words.now) (codes "copy")) }
 {
     let file = words.get_str("FILE")?;
     Some(Command::Copy { file })
@@ -79,6 +84,7 @@ fn field_of<'a>(words: &ArgMatches<'a>) -> Option<Command<'a>>
     ensures sized { IfSome result IsSized }
     ensures named { IfSome result (λ command. command_name command ≡ codes "field") }
     ensures given { IfSome result (GivesCommand (found_of words.now)) }
+    ensures none { IfNone result (GiveNone (found_of words.now) (codes "field")) }
 {
     let file = words.get_str("FILE")?;
     let values = values_of(words.get_str("FIELD")?)?;
@@ -90,6 +96,7 @@ fn integer_of<'a>(words: &ArgMatches<'a>) -> Option<Command<'a>>
     ensures sized { IfSome result IsSized }
     ensures named { IfSome result (λ command. command_name command ≡ codes "integer") }
     ensures given { IfSome result (GivesCommand (found_of words.now)) }
+    ensures none { IfNone result (GiveNone (found_of words.now) (codes "integer")) }
 {
     let file = words.get_str("FILE")?;
     let scale = scale_of(words);
@@ -100,6 +107,7 @@ fn symmetric_of<'a>(words: &ArgMatches<'a>) -> Option<Command<'a>>
     ensures sized { IfSome result IsSized }
     ensures named { IfSome result (λ command. command_name command ≡ codes "symmetric") }
     ensures given { IfSome result (GivesCommand (found_of words.now)) }
+    ensures none { IfNone result (GiveNone (found_of words.now) (codes "symmetric")) }
 {
     let file = words.get_str("FILE")?;
     Some(Command::Symmetric { file })
@@ -109,6 +117,7 @@ fn order_of<'a>(words: &ArgMatches<'a>) -> Option<Command<'a>>
     ensures sized { IfSome result IsSized }
     ensures named { IfSome result (λ command. command_name command ≡ codes "order") }
     ensures given { IfSome result (GivesCommand (found_of words.now)) }
+    ensures none { IfNone result (GiveNone (found_of words.now) (codes "order")) }
 {
     let file = words.get_str("FILE")?;
     let method = method_of(words.get_str("METHOD"))?;
@@ -119,6 +128,7 @@ fn permute_of<'a>(words: &ArgMatches<'a>) -> Option<Command<'a>>
     ensures sized { IfSome result IsSized }
     ensures named { IfSome result (λ command. command_name command ≡ codes "permute") }
     ensures given { IfSome result (GivesCommand (found_of words.now)) }
+    ensures none { IfNone result (GiveNone (found_of words.now) (codes "permute")) }
 {
     let order = words.get_str("ORDER")?;
     let file = words.get_str("FILE")?;
@@ -129,6 +139,7 @@ fn fill_of<'a>(words: &ArgMatches<'a>) -> Option<Command<'a>>
     ensures sized { IfSome result IsSized }
     ensures named { IfSome result (λ command. command_name command ≡ codes "fill") }
     ensures given { IfSome result (GivesCommand (found_of words.now)) }
+    ensures none { IfNone result (GiveNone (found_of words.now) (codes "fill")) }
 {
     let file = words.get_str("FILE")?;
     let order = fill_order(words.get_str("order"));
@@ -140,6 +151,7 @@ fn eval_of<'m, 'a>(words: &'m ArgMatches<'a>) -> Option<Command<'m>>
     ensures sized { IfSome result IsSized }
     ensures named { IfSome result (λ command. command_name command ≡ codes "eval") }
     ensures given { IfSome result (GivesCommand (found_of words.now)) }
+    ensures none { IfNone result (GiveNone (found_of words.now) (codes "eval")) }
 {
     let files = words.get_strs("FILE")?;
     Some(Command::Eval {
@@ -154,6 +166,7 @@ fn solve_of<'a>(words: &ArgMatches<'a>) -> Option<Command<'a>>
     ensures sized { IfSome result IsSized }
     ensures named { IfSome result (λ command. command_name command ≡ codes "solve") }
     ensures given { IfSome result (GivesCommand (found_of words.now)) }
+    ensures none { IfNone result (GiveNone (found_of words.now) (codes "solve")) }
 {
     let modulus = modulus_of(words);
     let order = elimination_order(words.get_str("order"))?;
@@ -171,6 +184,7 @@ fn check_of<'a>(words: &ArgMatches<'a>) -> Option<Command<'a>>
     ensures sized { IfSome result IsSized }
     ensures named { IfSome result (λ command. command_name command ≡ codes "check") }
     ensures given { IfSome result (GivesCommand (found_of words.now)) }
+    ensures none { IfNone result (GiveNone (found_of words.now) (codes "check")) }
 {
     let modulus = modulus_of(words);
     let a = words.get_str("A")?;

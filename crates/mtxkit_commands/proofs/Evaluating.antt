@@ -4,7 +4,7 @@ use Rattle.mtxkit_eval.specs.declared.error.EvalError.{EvalError}
 use Rattle.mtxkit_eval.specs.declared.error.EvalError.TheVariants as eval
 use Rattle.mtxkit_commands.specs.Failures.{IsEvalError, IsEvalFault}
 use Rattle.mtxkit_commands.specs.CommandFaults.{eval_fault}
-use Rattle.mtxkit_commands.specs.Inputs.{Reading}
+use Rattle.file_readings.specs.Readings.{Reading}
 
 -- the error of the command for an error of evaluating the expression
 pub eval-error : (modulus : Option ℕ) (words : List ℕ) (files : List (List ℕ)) (old new : List Reading)

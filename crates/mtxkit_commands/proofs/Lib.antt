@@ -1,4 +1,3 @@
 mod OrderRefusals
-mod Readings
 mod Reports
 mod Evaluating

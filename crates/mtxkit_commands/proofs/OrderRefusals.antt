@@ -5,7 +5,7 @@ use Rattle.mtxkit_patterns.specs.declared.order_error.OrderError.TheVariants.{Fa
 use Rattle.mtxkit_patterns.specs.declared.order_error.OrderError.TheVariants.{NotColumn, OutOfRange}
 use Rattle.mtxkit_patterns.specs.declared.order_error.OrderError.TheVariants.{Repeated, OtherLength}
 use Rattle.mtxkit_commands.specs.CommandFaults.{order_fault}
-use Rattle.mtxkit_commands.specs.Inputs.{Reading}
+use Rattle.file_readings.specs.Readings.{Reading}
 use Rattle.mtxkit_commands.specs.OrderCommands.{IsErrorOfOne, IsErrorOfTwo}
 
 pub one_refused : (IsFault : List ℕ → OrderError → Type 0) (file text : List ℕ)

@@ -1,14 +1,15 @@
 -- A line of an error was written, or none for an output that its reader has closed.
-use Rattle.std.proofs.Common.{◌≡◌, ℕ, List, Option, None, Result, Ok, Err, IfOk, IfErr, refl, inl}
-use Rattle.std.proofs.Common.{inr, arith, sym, subst, ◌∙◌, ◌≢◌}
+use Rattle.std.proofs.Common.{◌≡◌, ◌⊎◌, ◌<◌, ℕ, List, length, Option, None, Result, Ok, Err, IfOk}
+use Rattle.std.proofs.Common.{IfErr, refl, inl, inr, arith, sym, subst, ◌∙◌, ◌≢◌}
 use Rattle.std.specs.declared.io.ErrorKind.{ErrorKind}
 use Rattle.std.specs.declared.io.ErrorKind.TheVariants as io
 use Rattle.mtxkit_texts.specs.declared.failure.Failure.{Failure}
 use Rattle.mtxkit_texts.specs.declared.failure.Failure.TheVariants.{OutOfMemory, Usage}
 use Rattle.mtxkit_commands.specs.Names.{error_file, fault_line, fault_names, with_line}
 use Rattle.mtxkit_commands.specs.Outcomes.{error_status, write_status, IsStatus}
-use Rattle.mtxkit_commands.specs.Reports.{HasReport, IsErrorLine, IsErrorReported, IsReported}
-use Rattle.mtxkit_commands.specs.Reports.{IsSilent, IsWriteReported, IsWritten, memory_line, Tells}
+use Rattle.mtxkit_commands.specs.Reports.{HasReport, HasText, IsErrorLine, IsErrorReported}
+use Rattle.mtxkit_commands.specs.Reports.{IsMemoryLine, IsReported, IsSilent, IsWriteReported, IsWritten}
+use Rattle.mtxkit_commands.specs.Reports.{memory_line, Tells}
 use Rattle.mtxkit_commands.specs.declared.command_error.CommandError.{CommandError}
 use Rattle.mtxkit_commands.specs.declared.command_error.CommandError.TheVariants.{Failed}
 use Rattle.mtxkit_commands.specs.declared.command_error.CommandError.TheVariants.{Unscaled}
@@ -58,7 +59,33 @@ error_status-some (Unevaluated error) is = omega (arith, is)
 error_status-some (Unwritten io.BrokenPipe) is = omega (arith, is)
 error_status-some (Unwritten kind) is = omega (arith, is)
 
+write_status-not_2 : (kind : ErrorKind) → write_status kind ≡ 2 → ⊥
+write_status-not_2 io.BrokenPipe is = omega (arith, is)
+write_status-not_2 kind is = omega (arith, is)
+
+-- the line of an error is not empty
+line-some : (path : Option (List ℕ)) (line : List ℕ) → IsErrorLine path line ⊎ IsMemoryLine line
+    → 0 < length line
+line-some path line names = elim names [
+  | inl begins ↦ rw begins.1 (omega arith)
+  | inr memory ↦ rw memory (omega arith)
+]
+
 module _ (old new : Option (List ℕ)) (before after : ℕ) where
+  pub text_of_report : (path : Option (List ℕ)) → IsReported path old new before after
+      → HasText old new before after
+  text_of_report path told = (told.line, line-some path told.line told.names, told.written)
+
+  -- the text of an error with status 2 was written
+  text_of_error : (command : Command) (error : CommandError) → error_status error ≡ 2
+      → IsErrorReported command error old new before after → HasText old new before after
+  text_of_error command (Failed OutOfMemory) is told = absurd (omega (arith, is))
+  text_of_error command (Failed failure) is told = text_of_report _ told
+  text_of_error command (Unscaled error least) is told = text_of_report _ told
+  text_of_error command (Misordered error) is told = text_of_report _ told
+  text_of_error command (Unevaluated error) is told = text_of_report _ told
+  text_of_error command (Unwritten kind) is told = absurd (write_status-not_2 kind is)
+
   written_at_1 : (kind : ErrorKind) → write_status kind ≡ 1
       → IsWriteReported kind old new before after → IsReported None old new before after
   written_at_1 io.BrokenPipe is told = absurd (omega (arith, is))
@@ -108,6 +135,7 @@ module _ (old new : Option (List ℕ)) (before after : ℕ) where
   tells_error command error status is told = record {
     silent = λ none. absurd (error_status-some error (sym is ∙ none));
     reported = λ one. written_of_error command error (sym is ∙ one) told;
+    mistaken = λ two. text_of_error command error (sym is ∙ two) told;
     stopped = λ stop. silent_of_error command error (sym is ∙ stop) told;
   }
 
@@ -117,6 +145,7 @@ module _ (old new : Option (List ℕ)) (before after : ℕ) where
   tells_line status told = record {
     silent = told.silent;
     reported = λ one. (None, told.reported one);
+    mistaken = told.mistaken;
     stopped = told.stopped;
   }
 

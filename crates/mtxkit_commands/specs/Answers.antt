@@ -20,9 +20,9 @@ use Rattle.mtxkit_arguments.specs.declared.options.Target.{Target}
 use Rattle.mtxkit_arguments.specs.declared.options.Target.TheVariants.{Blocks, Svg}
 use Rattle.mtxkit_arguments.specs.declared.options.Values.{Values}
 use Rattle.mtxkit_arguments.specs.declared.options.Values.TheVariants.{Integers, Pattern}
-use Rattle.mtxkit_commands.specs.Inputs.{Reading}
+use Rattle.file_readings.specs.Readings.{Reading}
 use Rattle.mtxkit_commands.specs.OrderCommands.{IsOrderAnswer, IsPermuteAnswer, IsFillAnswer}
-use Rattle.mtxkit_commands.specs.Reads.{ReadsOne, ReadsTwo, ReadsThree, ReadsAll}
+use Rattle.file_readings.specs.Reads.{ReadsOne, ReadsTwo, ReadsThree, ReadsAll}
 
 -- the picture of the pattern that a text means, in the format of the target
 abbrev pub ShowsPicture : Target → List ℕ → ℕ → List ℕ → Type 0

@@ -25,9 +25,11 @@ use Rattle.mtxkit_arguments.specs.declared.commands.Command.TheVariants.{Symmetr
 use Rattle.mtxkit_arguments.specs.declared.commands.Command.TheVariants.{Eval}
 use Rattle.mtxkit_arguments.specs.declared.options.Values.{Values}
 use Rattle.mtxkit_arguments.specs.declared.options.Values.TheVariants.{Integers, Pattern}
-use Rattle.mtxkit_commands.specs.Inputs.{Reading, IsUnread, IsFirstUnread}
+use Rattle.file_readings.specs.Readings.{Reading}
+use Rattle.mtxkit_commands.specs.Inputs.{IsUnread, IsFirstUnread}
 use Rattle.mtxkit_commands.specs.OrderCommands.{IsOrderError, IsPermuteError, IsFillError}
-use Rattle.mtxkit_commands.specs.Reads.{ReadsOne, ReadsThree, ReadsAll, FailsOne, FailsTwo}
+use Rattle.file_readings.specs.Reads.{ReadsOne, ReadsThree, ReadsAll}
+use Rattle.mtxkit_commands.specs.Reads.{FailsOne, FailsTwo}
 use Rattle.mtxkit_commands.specs.Reads.{IsSecondUnread, IsThirdUnread}
 use Rattle.mtxkit_commands.specs.declared.command_error.CommandError.{CommandError}
 use Rattle.mtxkit_commands.specs.declared.command_error.CommandError.TheVariants.{Failed}

@@ -8,3 +8,6 @@ pub mod Reports
 pub mod OrderCommands
 pub mod CommandFaults
 pub mod Reads
+pub mod Savings
+pub mod Standard
+pub mod Logs

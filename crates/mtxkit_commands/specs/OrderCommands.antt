@@ -9,8 +9,9 @@ use Rattle.mtxkit_patterns.specs.declared.square.Method.{Method}
 use Rattle.mtxkit_facts.specs.declared.facts.ReportFormat.{ReportFormat}
 use Rattle.mtxkit_arguments.specs.declared.options.FillOrder.{FillOrder}
 use Rattle.mtxkit_arguments.specs.declared.options.FillOrder.TheVariants as fill
-use Rattle.mtxkit_commands.specs.Inputs.{Reading}
-use Rattle.mtxkit_commands.specs.Reads.{ReadsOne, ReadsTwo, FailsOne, FailsTwo}
+use Rattle.file_readings.specs.Readings.{Reading}
+use Rattle.file_readings.specs.Reads.{ReadsOne, ReadsTwo}
+use Rattle.mtxkit_commands.specs.Reads.{FailsOne, FailsTwo}
 use Rattle.mtxkit_commands.specs.declared.command_error.CommandError.{CommandError}
 use Rattle.mtxkit_commands.specs.declared.command_error.CommandError.TheVariants.{Failed}
 use Rattle.mtxkit_commands.specs.declared.command_error.CommandError.TheVariants.{Misordered}

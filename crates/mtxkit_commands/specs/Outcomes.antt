@@ -1,5 +1,5 @@
 -- What a command has done when it ends, and its exit status.
-use Rattle.std.specs.Prelude.{◌≡◌, ◌⊎◌, ◌+◌, ◌≤◌, ℕ, List, Option, Some, Bool, true, false}
+use Rattle.std.specs.Prelude.{◌≡◌, ◌⊎◌, ◌+◌, ◌<◌, ◌≤◌, ℕ, List, ◌∷◌, length, Option, Some, None, true}
 use Rattle.std.specs.declared.io.Error.{Error}
 use Rattle.std.specs.declared.io.ErrorKind.{ErrorKind}
 use Rattle.std.specs.declared.io.ErrorKind.TheVariants as io
@@ -7,11 +7,12 @@ use Rattle.std.specs.Io.KnownBytes.{Appends, Keeps}
 use Rattle.mtxkit_texts.specs.Statuses.{status_of}
 use Rattle.mtxkit_texts.specs.declared.failure.Failure.{Failure}
 use Rattle.mtxkit_texts.specs.declared.failure.Failure.TheVariants.{Unsaved}
-use Rattle.mtxkit_arguments.specs.Files.{is_saved}
+use Rattle.mtxkit_arguments.specs.Files.{is_saved, saved_file}
 use Rattle.mtxkit_arguments.specs.declared.commands.Command.{Command}
 use Rattle.mtxkit_commands.specs.Answers.{IsAnswer}
 use Rattle.mtxkit_commands.specs.Failures.{IsFailure, IsUnscaledBy, IsMisorderedBy, IsUnevaluatedBy}
-use Rattle.mtxkit_commands.specs.Inputs.{Reading}
+use Rattle.file_readings.specs.Readings.{Reading}
+use Rattle.mtxkit_commands.specs.Savings.{Saving}
 use Rattle.mtxkit_commands.specs.declared.command_error.CommandError.{CommandError}
 use Rattle.mtxkit_commands.specs.declared.command_error.CommandError.TheVariants.{Failed}
 use Rattle.mtxkit_commands.specs.declared.command_error.CommandError.TheVariants.{Unscaled}
@@ -68,26 +69,36 @@ error_status (Unwritten kind) = write_status kind
 abbrev pub IsStatus : ℕ → Type 0
 IsStatus status = (status ≤ 2) ⊎ (status ≡ 141)
 
--- nothing was appended to the output if the result is written to a file, and otherwise the result
-abbrev pub IsDelivered : Bool → Command → List Reading → List Reading → Option (List ℕ)
+-- the answer was appended to the output and no file was to be written, or the answer was to be written to the file with
+-- this path and nothing was appended
+abbrev pub IsDelivered : Option (List ℕ) → List ℕ → List Saving → List Saving → Option (List ℕ)
     → Option (List ℕ) → Type 0
-IsDelivered true command before after old new = new ≡ old
-IsDelivered false command before after old new =
-    (written : List ℕ) × IsAnswer command before after written × Appends old new written
+IsDelivered None answer saved saved' old new = (saved' ≡ saved) × Appends old new answer
+IsDelivered (Some path) answer saved saved' old new =
+    (saved' ≡ (path, answer) ∷ saved) × (new ≡ old)
 
-abbrev pub IsAnswered : Command → List Reading → List Reading → Option (List ℕ) → Option (List ℕ)
-    → Type 0
-IsAnswered command before after old new =
-    IsDelivered (is_saved command) command before after old new
+-- the command read its files, and its answer for these was delivered
+abbrev pub IsAnswered : Command → List Reading → List Reading → List Saving → List Saving
+    → Option (List ℕ) → Option (List ℕ) → Type 0
+IsAnswered command before after saved saved' old new =
+    (answer : List ℕ) × IsAnswer command before after answer
+    × IsDelivered (saved_file command) answer saved saved' old new
 
--- a command was answered, or no file was read and a text was appended, such as help
-abbrev pub HasAnswered : List Reading → List Reading → Option (List ℕ) → Option (List ℕ) → Type 0
-HasAnswered before after old new =
-    ((command : Command) × IsAnswered command before after old new)
-    ⊎ ((after ≡ before) × (text : List ℕ) × Appends old new text)
+-- no file was read or to be written, and a text was appended, such as help
+abbrev pub HasHelped : List Reading → List Reading → List Saving → List Saving → Option (List ℕ)
+    → Option (List ℕ) → Type 0
+HasHelped before after saved saved' old new = (text : List ℕ) × (after ≡ before)
+    × (saved' ≡ saved) × (0 < length text) × Appends old new text
+
+-- a command was answered, or help was
+abbrev pub HasAnswered : List Reading → List Reading → List Saving → List Saving → Option (List ℕ)
+    → Option (List ℕ) → Type 0
+HasAnswered before after saved saved' old new =
+    ((command : Command) × IsAnswered command before after saved saved' old new)
+    ⊎ HasHelped before after saved saved' old new
 
 -- the same, and the known bytes stayed as they were from then on
-abbrev pub HasFlushedAnswer : List Reading → List Reading → Option (List ℕ) → Option (List ℕ)
-    → Type 0
-HasFlushedAnswer before after old new =
-    (written : Option (List ℕ)) × HasAnswered before after old written × Keeps written new
+abbrev pub HasFlushedAnswer : List Reading → List Reading → List Saving → List Saving
+    → Option (List ℕ) → Option (List ℕ) → Type 0
+HasFlushedAnswer before after saved saved' old new = (written : Option (List ℕ))
+    × HasAnswered before after saved saved' old written × Keeps written new

@@ -1,5 +1,5 @@
 -- What is written about errors, and at which status.
-use Rattle.std.specs.Prelude.{◌≡◌, ◌⊎◌, ℕ, ◌+◌, List, ◌++◌, codes, Option, None}
+use Rattle.std.specs.Prelude.{◌≡◌, ◌⊎◌, ℕ, ◌+◌, ◌<◌, List, ◌++◌, length, codes, Option, None}
 use Rattle.std.specs.Io.KnownBytes.{Appends}
 use Rattle.std.specs.declared.io.ErrorKind.{ErrorKind}
 use Rattle.std.specs.declared.io.ErrorKind.TheVariants as io
@@ -42,11 +42,17 @@ HasReport old new before after =
 abbrev pub IsSilent : Option (List ℕ) → Option (List ℕ) → ℕ → ℕ → Type 0
 IsSilent old new before after = (new ≡ old) × (after ≡ before)
 
--- what was reported at this status: nothing at 0 and at 141, and at 1 what `Report` says
+-- a text that is not empty was written, or a write of it failed
+abbrev pub HasText : Option (List ℕ) → Option (List ℕ) → ℕ → ℕ → Type 0
+HasText old new before after =
+    (text : List ℕ) × (0 < length text) × IsWritten text old new before after
+
+-- what was reported at this status: nothing at 0 and at 141, at 1 what `Report` says, and at 2 a text
 pub record Tells (Report : Option (List ℕ) → Option (List ℕ) → ℕ → ℕ → Type 0) (status : ℕ)
     (old new : Option (List ℕ)) (before after : ℕ) : Type 0 where
   pub silent : status ≡ 0 → IsSilent old new before after
   pub reported : status ≡ 1 → Report old new before after
+  pub mistaken : status ≡ 2 → HasText old new before after
   pub stopped : status ≡ 141 → IsSilent old new before after
 
 -- a failed write of this kind was reported: by no line if the reader of the output has closed it

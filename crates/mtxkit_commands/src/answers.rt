@@ -7,10 +7,11 @@ ghost use Rattle.mtxkit_commands.specs.Failures.{HasNoAnswer, IsUnsolved, IsUnch
 
 use crate::command_error::CommandError;
 use crate::evaluated::evaluated_of;
-use crate::inputs::{Texts, read_text};
+use crate::inputs::read_text;
 use crate::one_file::{copied, described, pictured, rewritten, symmetrised};
 use crate::orders::{filled_of, ordered_of, permuted_of};
 use crate::scaled::scaled_of;
+use file_readings::Texts;
 use mtxkit_arguments::Command;
 use mtxkit_matrices::EliminationOrder;
 use mtxkit_systems::{check_text, solve_text};

@@ -1,21 +1,26 @@
 //! Runs the command that the arguments of `mtxkit` give, and returns the program's exit status.
 
-ghost use Rattle.std.specs.Prelude.{◌≡◌, ◌≢◌, ◌⊎◌, IfErr, IsTrue, None, ℕ, List};
-ghost use Rattle.std.specs.Io.KnownBytes.{Appends};
+ghost use Rattle.std.specs.Prelude.{◌≡◌, ◌≢◌, IfErr, IsTrue, None, List, []};
 ghost use Rattle.std.specs.IoError.{error_kind};
 ghost use Rattle.std.specs.Process.{exit_status};
+ghost use Rattle.file_readings.specs.Readings.{Reading};
+ghost use Rattle.mtxkit_arguments.specs.Explained.{HasMessage};
 ghost use Rattle.mtxkit_arguments.specs.Given.{argument_fault};
 ghost use Rattle.mtxkit_arguments.specs.Words.{IsGiven};
 ghost use Rattle.mtxkit_arguments.specs.declared.commands.Command.{Command};
 ghost use Rattle.mtxkit_commands.specs.Outcomes.{HasAnswered, HasFlushedAnswer};
 ghost use Rattle.mtxkit_commands.specs.Outcomes.{IsAnswered, IsStatus};
 ghost use Rattle.mtxkit_commands.specs.Reports.{HasReport, IsReported, Tells};
-ghost use Rattle.mtxkit_commands.specs.Usage.{argument_status, IsExplainedAt};
+ghost use Rattle.mtxkit_commands.specs.Savings.{Saving};
+ghost use Rattle.mtxkit_commands.specs.Usage.{AppendsHelp, argument_status, IsExplainedAt};
+ghost use Rattle.mtxkit_commands.specs.Usage.{WritesMistake};
 
 use crate::cli::{finish, run};
-use crate::failure_lines::{report, report_write};
-use crate::inputs::{Inputs, Texts};
+use crate::failure_lines::{report, report_write, write_message};
+use crate::inputs::Inputs;
+use crate::outputs::{Outputs, Saves};
 use crate::unread::report_unread;
+use file_readings::Texts;
 use mtxkit_arguments::{ArgMatches, Explanation, command_of, given_words, parse};
 use mtxkit_texts::{Failure, Screen};
 use sparse_io::{Out, Sink, write_all_to};
@@ -47,6 +52,9 @@ where
     S: io::Write + Drop,
     ensures status { IsStatus (exit_status result) }
     ensures flushed { exit_status result ≡ 0 → IsTrue out.new.flushed }
+    ensures answered { exit_status result ≡ 0 → (readings : List Reading)
+        × (savings : List Saving) × HasFlushedAnswer [] readings [] savings
+        (W.contents out.old.inner) (W.contents out.new.inner) }
     ensures tells { Tells HasReport (exit_status result) (E.accepted err.old) (E.accepted err.new)
         (E.failures err.old) (E.failures err.new) }
     ensures unanswered { exit_status result ≡ 2 → out.new.failures ≡ out.old.failures
@@ -56,7 +64,8 @@ where
 {
     let (mut stdin, mut screen) = (stdin, screen);
     let mut texts = Inputs::new(rt, &mut stdin, &mut screen);
-    exit_code(run_args(rt, arguments, &mut texts, out, err))
+    let mut files = Outputs::new(rt);
+    exit_code(run_args(rt.alloc(), arguments, &mut texts, &mut files, out, err))
 }
 
 // Returns an exit status in the type of the runtime.
@@ -67,22 +76,24 @@ fn exit_code(status: u8) -> ExitCode
 }
 
 // Runs the command that the arguments give, reports a failure, and returns the status.
-fn run_args<R, T, W, E>(
-    rt: &R,
+fn run_args<T, F, W, E>(
+    alloc: Global,
     arguments: io::Result<Args>,
     texts: &mut T,
+    files: &mut F,
     out: &mut Out<W>,
     err: &mut E,
 ) -> u8
 where
-    R: Files + AllocGlobal,
     T: Texts,
+    F: Saves,
     W: io::Write,
     E: Sink,
     ensures status { IsStatus result }
     ensures flushed { result ≡ 0 → IsTrue out.new.flushed }
     ensures answered { result ≡ 0 → HasFlushedAnswer (T.readings texts.old)
-        (T.readings texts.new) (W.contents out.old.inner) (W.contents out.new.inner) }
+        (T.readings texts.new) (F.savings files.old) (F.savings files.new)
+        (W.contents out.old.inner) (W.contents out.new.inner) }
     ensures tells { Tells HasReport result (E.accepted err.old) (E.accepted err.new)
         (E.failures err.old) (E.failures err.new) }
     ensures unanswered { result ≡ 2 → out.new.failures ≡ out.old.failures
@@ -90,101 +101,114 @@ where
     ensures unread { IfErr arguments
         (λ e. result ≡ argument_status (argument_fault (error_kind e))) }
 {
-    match given_words(rt.alloc(), arguments) {
-        Ok(words) => run_flushed(rt, &words, texts, out, err),
+    match given_words(alloc, arguments) {
+        Ok(words) => run_flushed(alloc, &words, texts, files, out, err),
         Err(error) => report_unread(error, err),
     }
 }
 
 // Runs the command that the arguments give. At status 0 the output was flushed.
-fn run_flushed<R, T, W, E>(
-    rt: &R,
+fn run_flushed<T, F, W, E>(
+    alloc: Global,
     words: &[String],
     texts: &mut T,
+    files: &mut F,
     out: &mut Out<W>,
     err: &mut E,
 ) -> u8
 where
-    R: Files + AllocGlobal,
     T: Texts,
+    F: Saves,
     W: io::Write,
     E: Sink,
     ensures status { IsStatus result }
     ensures flushed { result ≡ 0 → IsTrue out.new.flushed }
     ensures answered { result ≡ 0 → HasFlushedAnswer (T.readings texts.old)
-        (T.readings texts.new) (W.contents out.old.inner) (W.contents out.new.inner) }
+        (T.readings texts.new) (F.savings files.old) (F.savings files.new)
+        (W.contents out.old.inner) (W.contents out.new.inner) }
     ensures tells { Tells HasReport result (E.accepted err.old) (E.accepted err.new)
         (E.failures err.old) (E.failures err.new) }
     ensures unanswered { result ≡ 2 → out.new.failures ≡ out.old.failures
         → W.contents out.new.inner ≡ W.contents out.old.inner }
 {
-    match run_words(rt, words, texts, out, err) {
-        0 => finish(rt.alloc(), out, err),
+    match run_words(alloc, words, texts, files, out, err) {
+        0 => finish(alloc, out, err),
         status => status,
     }
 }
 
 // Runs the command that the arguments give, without a flush of the output.
-fn run_words<R, T, W, E>(rt: &R, words: &[String], texts: &mut T, out: &mut W, err: &mut E) -> u8
+fn run_words<T, F, W, E>(
+    alloc: Global,
+    words: &[String],
+    texts: &mut T,
+    files: &mut F,
+    out: &mut W,
+    err: &mut E,
+) -> u8
 where
-    R: Files + AllocGlobal,
     T: Texts,
+    F: Saves,
     W: Sink,
     E: Sink,
     ensures status { IsStatus result }
     ensures answered { result ≡ 0 → HasAnswered (T.readings texts.old) (T.readings texts.new)
-        (W.accepted out.old) (W.accepted out.new) }
+        (F.savings files.old) (F.savings files.new) (W.accepted out.old) (W.accepted out.new) }
     ensures tells { Tells HasReport result (E.accepted err.old) (E.accepted err.new)
         (E.failures err.old) (E.failures err.new) }
     ensures unanswered { result ≢ 0 → W.failures out.new ≡ W.failures out.old
         → W.accepted out.new ≡ W.accepted out.old }
 {
-    match parse(rt.alloc(), words) {
-        Ok(matches) => run_matched(rt, &matches, texts, out, err),
-        Err(explanation) => explain(rt.alloc(), &explanation, out, err),
+    match parse(alloc, words) {
+        Ok(matches) => run_matched(alloc, &matches, texts, files, out, err),
+        Err(explanation) => explain(alloc, &explanation, out, err),
     }
 }
 
 // Runs the command that `clap` matched, without a flush of the output.
-fn run_matched<R, T, W, E>(
-    rt: &R,
+fn run_matched<T, F, W, E>(
+    alloc: Global,
     matches: &ArgMatches<'_>,
     texts: &mut T,
+    files: &mut F,
     out: &mut W,
     err: &mut E,
 ) -> u8
 where
-    R: Files + AllocGlobal,
     T: Texts,
+    F: Saves,
     W: Sink,
     E: Sink,
     ensures status { IsStatus result }
     ensures answered { result ≡ 0 → (command : Command) × IsGiven matches.now command
-        × IsAnswered command (T.readings texts.old) (T.readings texts.new) (W.accepted out.old)
-        (W.accepted out.new) }
+        × IsAnswered command (T.readings texts.old) (T.readings texts.new) (F.savings files.old)
+        (F.savings files.new) (W.accepted out.old) (W.accepted out.new) }
     ensures tells { Tells HasReport result (E.accepted err.old) (E.accepted err.new)
         (E.failures err.old) (E.failures err.new) }
     ensures unanswered { result ≢ 0 → W.failures out.new ≡ W.failures out.old
         → W.accepted out.new ≡ W.accepted out.old }
 {
     match command_of(matches) {
-        Some(command) => run(rt, command, texts, out, err),
-        None => report(rt.alloc(), None, Failure::Usage, err),
+        Some(command) => run(alloc, command, texts, files, out, err),
+        None => report(alloc, None, Failure::Usage, err),
     }
 }
 
 // Writes what is said in place of running a command, and returns the exit status: help is written to `out`, with status
-// 0, and a mistake in the arguments to `err`, with status 2.
+// 0, and a mistake in the arguments to `err`, with status 2, each as it is.
 fn explain<W: Sink, E: Sink>(
     alloc: Global,
     explanation: &Explanation,
     out: &mut W,
     err: &mut E,
 ) -> u8
+    requires { HasMessage explanation.now }
     ensures status { IsStatus result }
     ensures explained { IsExplainedAt explanation.now result }
     ensures answered { result ≡ 0
-        → (text : List ℕ) × Appends (W.accepted out.old) (W.accepted out.new) text }
+        → AppendsHelp explanation.now (W.accepted out.old) (W.accepted out.new) }
+    ensures mistaken { result ≡ 2 → WritesMistake explanation.now (E.accepted err.old)
+        (E.accepted err.new) (E.failures err.old) (E.failures err.new) }
     ensures tells { Tells (IsReported None) result (E.accepted err.old) (E.accepted err.new)
         (E.failures err.old) (E.failures err.new) }
     ensures unanswered { result ≢ 0 → W.failures out.new ≡ W.failures out.old
@@ -196,8 +220,7 @@ fn explain<W: Sink, E: Sink>(
             Err(kind) => report_write(alloc, kind, err),
         },
         Explanation::Mistake(text) => {
-            // An error in writing the text is ignored.
-            let _ = write_all_to(err, text.as_bytes());
+            write_message(text.as_bytes(), err);
             2
         }
         Explanation::OutOfMemory => report(alloc, None, Failure::OutOfMemory, err),

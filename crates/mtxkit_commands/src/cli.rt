@@ -1,8 +1,9 @@
 //! Runs commands.
 
-ghost use Rattle.std.specs.Prelude.{◌≡◌, ◌≢◌, ◌≤◌, ◌⊎◌, ◌↔◌, None, Err};
+ghost use Rattle.std.specs.Prelude.{◌≡◌, ◌≢◌, ◌≤◌, ◌⊎◌, ◌↔◌, ◌∷◌, None, Err, false};
 ghost use Rattle.std.specs.Prelude.{OnOk, OnErr, IfOk, IfErr, IsOk, IsTrue};
 ghost use Rattle.std.specs.Io.KnownBytes.{Appends, Keeps};
+ghost use Rattle.mtxkit_arguments.specs.Files.{is_saved};
 ghost use Rattle.mtxkit_arguments.specs.Sizes.{IsSized};
 ghost use Rattle.mtxkit_commands.specs.Outcomes.{IsAnswered, IsUnsaved, IsOutputFailure};
 ghost use Rattle.mtxkit_commands.specs.Outcomes.{IsStatus, CanFail, error_status};
@@ -15,31 +16,41 @@ use crate::command_error::CommandError;
 use crate::evaluated::report_unevaluated;
 use crate::failure_lines::report_write;
 use crate::fault_files::report_failure;
-use crate::inputs::Texts;
 use crate::orders::{order_number, report_misordered};
+use crate::outputs::Saves;
 use crate::scaled::report_unscaled;
+use file_readings::Texts;
 use mtxkit_arguments::Command;
 use mtxkit_texts::Failure;
 use sparse_io::{Out, Sink, write_all_to};
 use std::alloc::Global;
-use std::rt::Files;
-use std::{fs, io};
+use std::io;
 
 /// Runs a command and returns its exit status. The size of a picture must not be 0.
 ///
 /// The result is written to `out`, or to the file that the command names. At the statuses 1 and 2 one line is written
 /// to `err`; an error in writing that line is ignored. The status is 141, and nothing is written to `err`, exactly where
 /// a write to `out` failed because its reader has closed it. All files are read before anything is written.
-pub fn run<R, T, W, E>(rt: &R, command: Command<'_>, texts: &mut T, out: &mut W, err: &mut E) -> u8
+pub fn run<T, F, W, E>(
+    alloc: Global,
+    command: Command<'_>,
+    texts: &mut T,
+    files: &mut F,
+    out: &mut W,
+    err: &mut E,
+) -> u8
 where
-    R: Files + AllocGlobal,
     T: Texts,
+    F: Saves,
     W: Sink,
     E: Sink,
     requires { IsSized command }
     ensures status { IsStatus result }
     ensures answered { result ≡ 0 → IsAnswered command.entry (T.readings texts.old)
-        (T.readings texts.new) (W.accepted out.old) (W.accepted out.new) }
+        (T.readings texts.new) (F.savings files.old) (F.savings files.new) (W.accepted out.old)
+        (W.accepted out.new) }
+    ensures unsaved { is_saved command.entry ≡ false
+        → F.savings files.new ≡ F.savings files.old }
     ensures unfailed { result ≡ 0 → W.failures out.new ≡ W.failures out.old }
     ensures failed { result ≢ 0 → (error : CommandError)
         × CanFail command.entry (T.readings texts.old) (T.readings texts.new)
@@ -52,9 +63,9 @@ where
     ensures unanswered { result ≢ 0 → W.failures out.new ≡ W.failures out.old
         → W.accepted out.new ≡ W.accepted out.old }
 {
-    match try_run(rt, command, texts, out) {
+    match try_run(alloc, command, texts, files, out) {
         Ok(()) => 0,
-        Err(error) => report_error(rt.alloc(), command, error, err),
+        Err(error) => report_error(alloc, command, error, err),
     }
 }
 
@@ -83,37 +94,42 @@ fn report_error<E: Sink>(
 }
 
 // Runs a command, without a report of its error.
-fn try_run<R, T, W>(
-    rt: &R,
+fn try_run<T, F, W>(
+    alloc: Global,
     command: Command<'_>,
     texts: &mut T,
+    files: &mut F,
     out: &mut W,
 ) -> Result<(), CommandError>
 where
-    R: Files + AllocGlobal,
     T: Texts,
+    F: Saves,
     W: Sink,
     requires { IsSized command }
     ensures failed { IfErr result (CanFail command.entry (T.readings texts.old)
         (T.readings texts.new) (W.failures out.old) (W.failures out.new) (W.last out.new)) }
     ensures answered { OnOk result (IsAnswered command.entry (T.readings texts.old)
-        (T.readings texts.new) (W.accepted out.old) (W.accepted out.new)) }
+        (T.readings texts.new) (F.savings files.old) (F.savings files.new) (W.accepted out.old)
+        (W.accepted out.new)) }
+    ensures unsaved { is_saved command.entry ≡ false
+        → F.savings files.new ≡ F.savings files.old }
     ensures unfailed { OnOk result (W.failures out.new ≡ W.failures out.old) }
     ensures unanswered { OnErr result (W.failures out.new ≡ W.failures out.old
         → W.accepted out.new ≡ W.accepted out.old) }
 {
-    let answer = answer_of(rt.alloc(), command, texts)?;
+    let answer = answer_of(alloc, command, texts)?;
     match command.path() {
-        Some(path) => Ok(save(rt, path, &answer)?),
+        Some(path) => Ok(save(files, path, &answer)?),
         None => write_text(out, &answer),
     }
 }
 
 // Creates or truncates the file, and writes the text to it.
-fn save<R: Files>(rt: &R, path: &str, text: &[u8]) -> Result<(), Failure>
-    ensures { IfErr result IsUnsaved }
+fn save<F: Saves>(files: &mut F, path: &str, text: &[u8]) -> Result<(), Failure>
+    ensures handed { F.savings files.new ≡ (path.now, text.now) ∷ F.savings files.old }
+    ensures failed { IfErr result IsUnsaved }
 {
-    saved(fs::write(rt, path, text))
+    saved(files.save(path, text))
 }
 
 // Returns the failure for an error in creating or writing the file, if there was one.

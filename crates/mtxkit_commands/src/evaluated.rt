@@ -4,13 +4,15 @@ ghost use Rattle.std.specs.Prelude.{◌≡◌, ◌⊎◌, IfOk, IfErr, None, map
 ghost use Rattle.mtxkit_arguments.specs.Files.{paths};
 ghost use Rattle.mtxkit_commands.specs.Answers.{IsEvalAnswer};
 ghost use Rattle.mtxkit_commands.specs.Failures.{IsEvalError};
-ghost use Rattle.mtxkit_commands.specs.Inputs.{AreRead, IsFirstUnread};
+ghost use Rattle.file_readings.specs.Readings.{AreRead};
+ghost use Rattle.mtxkit_commands.specs.Inputs.{IsFirstUnread};
 ghost use Rattle.mtxkit_commands.specs.Reports.{IsErrorLine, IsReported};
 ghost use Rattle.mtxkit_texts.specs.declared.failure.Failure.TheVariants.{OutOfMemory};
 
 use crate::command_error::CommandError;
 use crate::failure_lines::{push_name, write_line};
-use crate::inputs::{Texts, read_text};
+use crate::inputs::read_text;
+use file_readings::Texts;
 use mtxkit_eval::{EvalError, eval_text};
 use mtxkit_texts::Failure;
 use sparse_expr::Form;

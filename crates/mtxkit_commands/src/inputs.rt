@@ -1,28 +1,17 @@
 //! Reads the files of a command.
 
-ghost use Rattle.std.specs.Prelude.{◌≡◌, ◌∷◌, List, Ok, Err, IfOk, IfErr, string_bytes};
-ghost use Rattle.mtxkit_commands.specs.Inputs.{input_fault, IsRead, IsUnread};
+ghost use Rattle.std.specs.Prelude.{◌≡◌, ◌≢◌, ◌∷◌, [], Ok, Err, IfOk, IfErr, codes, string_bytes};
+ghost use Rattle.file_readings.specs.Readings.{IsRead};
+ghost use Rattle.mtxkit_commands.specs.Inputs.{input_fault, IsUnread};
+ghost use Rattle.mtxkit_commands.specs.Logs.{input_of, readings_of};
+ghost use Rattle.mtxkit_commands.specs.Standard.{TakesAll};
 
-use crate::record::Record;
+use file_readings::{Record, Texts};
 use mtxkit_texts::{Failure, Screen, read_shown};
+use std::alloc::Global;
 use std::fs::{File, OpenFile};
 use std::io;
 use std::rt::Files;
-
-/// Reads files. Contracts see which files were read, in which order, and the text or the error of each.
-pub trait Texts {
-    ghost use Rattle.mtxkit_commands.specs.Inputs.{Reading};
-
-    // The files that were read so far and their texts or errors, the last one first.
-    ghost readings: { Self → List Reading };
-
-    /// Reads the file with this path.
-    fn read(&mut self, path: &str) -> io::Result<String>
-        ensures text { IfOk result (λ text. readings self.new
-            ≡ (path.now, Ok (string_bytes text)) ∷ readings self.old) }
-        ensures failed { IfErr result (λ error. readings self.new
-            ≡ (path.now, Err error) ∷ readings self.old) };
-}
 
 /// The files of the system; the path `-` is standard input. The record of the files that were read occupies no memory.
 #[derive(Drop)]
@@ -35,7 +24,9 @@ pub struct Inputs<'a, R, I, W> {
 
 impl<'a, R, I, W> Inputs<'a, R, I, W> {
     /// Returns the files of `rt`, of which none was read. The screen shows the progress of reading.
-    pub fn new(rt: &'a R, stdin: &'a mut I, screen: &'a mut Screen<W>) -> Inputs<'a, R, I, W> {
+    pub fn new(rt: &'a R, stdin: &'a mut I, screen: &'a mut Screen<W>) -> Inputs<'a, R, I, W>
+        ensures { readings_of result ≡ [] }
+    {
         Inputs {
             rt,
             stdin,
@@ -51,18 +42,28 @@ where
     I: io::Read,
     W: io::Write,
 {
-    ghost readings = { λ inputs. inputs.log.readings };
+    ghost readings = { readings_of };
 
-    /// Returns `InvalidData` if the file is not UTF-8.
-    fn read(&mut self, path: &str) -> io::Result<String> {
+    /// Returns `InvalidData` if the file is not UTF-8. The text of the path `-` is all that is left of standard input.
+    fn read(&mut self, path: &str) -> io::Result<String>
+        ensures text { IfOk result (λ text. readings_of self.new
+            ≡ (path.now, Ok (string_bytes text)) ∷ readings_of self.old) }
+        ensures failed { IfErr result (λ error. readings_of self.new
+            ≡ (path.now, Err error) ∷ readings_of self.old) }
+        ensures standard { path.now ≡ codes "-" → IfOk result (λ text.
+            TakesAll (input_of I.remaining self.old) (input_of I.remaining self.new)
+            (string_bytes text)) }
+        ensures other { path.now ≢ codes "-"
+            → input_of I.remaining self.new ≡ input_of I.remaining self.old }
+    {
         let read = content_of(self.rt, self.stdin, self.screen, path);
         self.log = self.log.with(path.as_bytes(), &read);
         read
     }
 }
 
-// Returns the text of the file with this path, or that of standard input if the path is `-`. No contract says what a
-// file contains.
+// Returns the text of the file with this path, or what is left of standard input if the path is `-`. No contract says
+// what a file contains.
 fn content_of<R, I, W>(
     rt: &R,
     stdin: &mut I,
@@ -73,13 +74,26 @@ where
     R: Files + AllocGlobal,
     I: io::Read,
     W: io::Write,
+    ensures standard { path.now ≡ codes "-" → IfOk result (λ text.
+        TakesAll (I.remaining stdin.old) (I.remaining stdin.new) (string_bytes text)) }
+    ensures other { path.now ≢ codes "-" → stdin.new ≡ stdin.old }
 {
     if path == "-" {
-        return io::read_to_string(rt.alloc(), stdin);
+        return read_rest(rt.alloc(), stdin);
     }
     let file = File::open(rt, path)?;
     let size = file_size(&file);
     read_shown(rt.alloc(), file, path, size, screen)
+}
+
+// Returns the text of all that is left of the reader.
+fn read_rest<I: io::Read>(alloc: Global, reader: &mut I) -> io::Result<String>
+    ensures { IfOk result (λ text.
+        TakesAll (I.remaining reader.old) (I.remaining reader.new) (string_bytes text)) }
+{
+    let mut text = String::new(alloc);
+    reader.read_to_string(&mut text)?;
+    Ok(text)
 }
 
 // Returns the number of bytes of an open file, or 0 if it is not known.

@@ -11,7 +11,8 @@ mod fault_files;
 mod inputs;
 mod one_file;
 mod orders;
-mod record;
+mod outputs;
+mod save_record;
 mod scaled;
 mod unread;
 
@@ -20,4 +21,5 @@ pub use arguments::answer;
 pub use cli::{finish, run};
 pub use command_error::CommandError;
 pub use failure_lines::{failure_line, report};
-pub use inputs::{Inputs, Texts, read_text};
+pub use inputs::{Inputs, read_text};
+pub use outputs::{Outputs, Saves};

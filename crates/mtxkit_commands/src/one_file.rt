@@ -3,14 +3,16 @@
 ghost use Rattle.std.specs.Prelude.{◌<◌, IfOk, IfErr, string_bytes};
 ghost use Rattle.mtxkit_commands.specs.Answers.{ShowsPicture, WritesValues};
 ghost use Rattle.mtxkit_commands.specs.Failures.{IsFieldFailureOf};
-ghost use Rattle.mtxkit_commands.specs.Reads.{FailsOne, ReadsOne};
+ghost use Rattle.file_readings.specs.Reads.{ReadsOne};
+ghost use Rattle.mtxkit_commands.specs.Reads.{FailsOne};
 ghost use Rattle.mtxkit_texts.specs.AnyField.{IsPlacesFailure};
 ghost use Rattle.mtxkit_facts.specs.Facts.{IsInfoFailure, WritesInfo};
 ghost use Rattle.mtxkit_texts.specs.Headers.{header_in};
 ghost use Rattle.mtxkit_texts.specs.Lower.{IsSymmetricFailure, Symmetrised};
 ghost use Rattle.mtxkit_texts.specs.Rewritten.{IsCopyFailure, WritesCopy};
 
-use crate::inputs::{Texts, read_text};
+use crate::inputs::read_text;
+use file_readings::Texts;
 use mtxkit_arguments::{Target, Values};
 use mtxkit_facts::{ReportFormat, info_text};
 use mtxkit_texts::{

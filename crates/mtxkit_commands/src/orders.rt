@@ -11,7 +11,8 @@ ghost use Rattle.mtxkit_commands.specs.Reports.{IsErrorLine, IsReported};
 
 use crate::command_error::CommandError;
 use crate::failure_lines::{push_name, write_line};
-use crate::inputs::{Texts, read_text};
+use crate::inputs::read_text;
+use file_readings::Texts;
 use mtxkit_arguments::FillOrder;
 use mtxkit_facts::ReportFormat;
 use mtxkit_patterns::{

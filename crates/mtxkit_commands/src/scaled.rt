@@ -9,7 +9,8 @@ ghost use Rattle.mtxkit_commands.specs.Reports.{IsErrorLine, IsReported};
 
 use crate::command_error::CommandError;
 use crate::failure_lines::{push_name, write_line};
-use crate::inputs::{Texts, read_text};
+use crate::inputs::read_text;
+use file_readings::Texts;
 use mtxkit_matrices::{ScaleError, least_scale, scaled_text};
 use mtxkit_texts::Failure;
 use sparse_io::Sink;

@@ -85,9 +85,13 @@ pub record IsFirstFailed (texts : List (List ℕ)) (failure : Failure) : Type 0 
 abbrev pub IsFirstMisread : List (List ℕ) → Failure → Type 0
 IsFirstMisread texts failure = (failure ≡ OutOfMemory) ⊎ IsFirstFailed texts failure
 
--- a text is misread, though the words denote an expression
-abbrev pub IsMisread : List ℕ → List (List ℕ) → EvalError → Type 0
-IsMisread words texts error = (failure : Failure) × (error ≡ Failed failure) × IsFirstMisread texts failure
+-- the words denote an expression, and the failure is that of the first text that is misread
+pub record IsMisread (words : List ℕ) (texts : List (List ℕ)) (error : EvalError) : Type 0 where
+  pub expr : Expr
+  pub failure : Failure
+  pub said : IsSaid (words_of words) expr
+  pub is : error ≡ Failed failure
+  pub first : IsFirstMisread texts failure
 
 -- the expression that the words denote has no value over the matrices that the texts mean
 pub record HasNoValue (modulus : Option ℕ) (words : List ℕ) (texts : List (List ℕ)) (error : EvalError)

@@ -80,9 +80,11 @@ pub record HasWideValue (a : Result (Plain whole_ring) ExprError) (row col : ℕ
   pub is : a ≡ Ok value
   pub first : IsFirstWide value row col
 
--- the bound on the magnitudes of the value does not fit in 128 bits with a sign
-abbrev pub IsUnbounded : List (Compressed W128) → Expr → Type 0
-IsUnbounded ms expr = 2 ^ 127 ≤ (extent_of (map matrix_extent ms) expr).largest
+-- the expression has a value, and the bound on its magnitudes does not fit in 128 bits with a sign
+pub record IsUnbounded (ms : List (Compressed W128)) (expr : Expr) : Type 0 where
+  pub value : Plain whole_ring
+  pub is : exact_value ms expr ≡ Ok value
+  pub bound : 2 ^ 127 ≤ (extent_of (map matrix_extent ms) expr).largest
 
 -- why there is no exact value of 64 bits
 abbrev pub IsInexact : List (Compressed W128) → Expr → EvalError → Type 0

@@ -6,7 +6,7 @@ use crate::outcome::{Outcome, checksum_of_bytes};
 use crate::page::Page;
 use case_words::turn::Turn;
 use mtxkit_arguments::{Command, FillOrder, Target, Values};
-use mtxkit_commands::{Inputs, run as run_command};
+use mtxkit_commands::{Inputs, Outputs, run as run_command};
 use mtxkit_facts::ReportFormat;
 use mtxkit_matrices::EliminationOrder;
 use mtxkit_patterns::Method;
@@ -157,14 +157,24 @@ fn run_args(rt: &HostRuntime, turn: &mut Turn, command: Command<'static>) -> Out
     let mut stdin: &[u8] = &[];
     let mut screen = Screen::none();
     let mut inputs = Inputs::new(rt, &mut stdin, &mut screen);
+    let mut files = Outputs::new(rt);
+    let alloc = rt.alloc();
     let mut whole = Out::new(Page::new());
     let mut errors = Out::new(Page::new());
-    if run_command(rt, command, &mut inputs, &mut whole, &mut errors) != 0 {
+    if run_command(
+        alloc,
+        command,
+        &mut inputs,
+        &mut files,
+        &mut whole,
+        &mut errors,
+    ) != 0
+    {
         return Outcome::Unready;
     }
     let (mut out, mut err) = (Out::new(Page::new()), Out::new(Page::new()));
     turn.begin();
-    let status = turn.end(run_command(rt, command, &mut inputs, &mut out, &mut err));
+    let status = turn.end(run_command(alloc, command, &mut inputs, &mut files, &mut out, &mut err));
     answered(status, &out.into_inner(), &err.into_inner())
 }
 

@@ -1,6 +1,6 @@
 use Rattle.std.proofs.Common.{inr}
 use Rattle.std.proofs.lemmas.Result.{IfOk-weaker, MatchResult-weaker}
-use Rattle.mtxkit_commands.proofs.Readings.{three-read}
+use Rattle.file_readings.proofs.Readings.{three-read}
 use Rattle.mtxkit_commands.proofs.answers.check_of.Goals as goal
 
 pub returns-clause-answer : goal.returns-clause-answer

@@ -1,5 +1,5 @@
 use Rattle.std.proofs.Common.{map, take, string_bytes}
-use Rattle.mtxkit_commands.specs.Inputs.{AreRead}
+use Rattle.file_readings.specs.Readings.{AreRead}
 use Rattle.mtxkit_arguments.specs.Files.{paths}
 use Rattle.mtxkit_commands.proofs.evaluated.read_all.Given as goal
 

@@ -1,4 +1,4 @@
-use Rattle.mtxkit_commands.proofs.Readings.{one_read}
+use Rattle.file_readings.proofs.Readings.{one_read}
 use Rattle.mtxkit_commands.proofs.one_file.described.Goals as goal
 
 pub returns-clause-answer : goal.returns-clause-answer

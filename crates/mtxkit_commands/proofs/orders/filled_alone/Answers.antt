@@ -1,7 +1,7 @@
 use Rattle.std.proofs.lemmas.Result.{err_from_is_err_and}
 use Rattle.mtxkit_patterns.specs.Orders.{IsNoSquare}
 use Rattle.mtxkit_commands.proofs.OrderRefusals.{one_refused}
-use Rattle.mtxkit_commands.proofs.Readings.{one_read}
+use Rattle.file_readings.proofs.Readings.{one_read}
 use Rattle.mtxkit_commands.proofs.orders.filled_alone.Goals as goal
 
 pub returns-in_err-fill_text-clause-failed : goal.returns-in_err-fill_text-clause-failed

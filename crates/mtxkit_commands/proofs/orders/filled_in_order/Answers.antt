@@ -1,7 +1,7 @@
 use Rattle.std.proofs.lemmas.Result.{err_from_is_err_and}
 use Rattle.mtxkit_patterns.specs.FillTexts.{IsUnfilled}
 use Rattle.mtxkit_commands.proofs.OrderRefusals.{two_refused}
-use Rattle.mtxkit_commands.proofs.Readings.{two_read}
+use Rattle.file_readings.proofs.Readings.{two_read}
 use Rattle.mtxkit_commands.proofs.orders.filled_in_order.Goals as goal
 
 pub returns-in_err-fill_text_in_order-clause-failed : goal.returns-in_err-fill_text_in_order-clause-failed

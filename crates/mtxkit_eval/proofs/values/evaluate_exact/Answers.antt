@@ -14,8 +14,14 @@ returns-in_err-value-clause-refused c =
 
 pub returns-then-expression_extent-clause-refused : goal.returns-then-expression_extent-clause-refused
 returns-then-expression_extent-clause-refused c =
-    uncapped-large _ (subst (λ n. 2 ^ 127 - 1 < n)
-    (ap (λ (a : Extent). a.largest) c.expression_extent.ensures) c.if-expression_extent.true)
+    let has = c.in_ok-value.ensures.value in
+    record {
+      value = has.value;
+      is = has.is;
+      bound = uncapped-large _ (subst (λ n. 2 ^ 127 - 1 < n)
+          (ap (λ (a : Extent). a.largest) c.expression_extent.ensures)
+          c.if-expression_extent.true);
+    }
 
 pub returns-in-None-clause-value : goal.returns-in-None-clause-value
 returns-in-None-clause-value c =

@@ -1,4 +1,4 @@
--- Builds a value of size 0 whose list of readings is empty.
+-- Builds a value of size 0 whose list of files is empty.
 use Rattle.std.proofs.Common.{[], ◌∷◌, refl}
 use Rattle.std.proofs.raw_atomic.Walks.{proved}
 use mir.Val.{vstruct, vnil}
@@ -10,17 +10,17 @@ use denote.Shadow.{pure_i}
 use denote.Steps.{nothing}
 use denote.Triple.Entry.{on_entry}
 use denote.Triple.Walked.{says, ends_at}
-use Rattle.mtxkit_commands.specs.contracts.record.Record as row
-use Rattle.mtxkit_commands.specs.contracts.record.Record.new as f
-use Rattle.mtxkit_commands.proofs.record.Record.new.Statement.{statement}
-use Rattle.mtxkit_commands.proofs.record.Record.new.Code as code
+use Rattle.mtxkit_commands.specs.contracts.save_record.SaveRecord as row
+use Rattle.mtxkit_commands.specs.contracts.save_record.SaveRecord.new as f
+use Rattle.mtxkit_commands.proofs.save_record.SaveRecord.new.Statement.{statement}
+use Rattle.mtxkit_commands.proofs.save_record.SaveRecord.new.Code as code
 
 pub new_spec : {M : Type 1} → statement M
 new_spec 𝓤 𝓛 𝓜 𝓡 wired =
     let c = f.clauses 𝓛 𝓜.mem 𝓡.returns in
     proved 𝓛 f.ended tt c 𝓜 𝓡 tt f.Key.name code.function (code.unfolded 𝓤 𝓛.H 𝓜 𝓡 wired) (λ κs. tt)
     (λ κs. tt) (λ κs qs bounds a _ are.
-    let none : row.the_row.Denot = record { readings = [] } in
+    let none : row.the_row.Denot = record { savings = [] } in
     qed 𝓛 (raw (on_entry 𝓛 f.signature κs qs a tt) ∷ raw ((c κs a).requires tt) ∷ []) ∵ keep ! [] $
     enter ! _ _ _ _ _ $ alloc_all ! (λ l. pass_all ! refl tt $
     sets ! (agg ! (no_more !)) refl (tt, tt) $ returns ! (look_at ! 0 refl) $ free_all ! refl $

@@ -1,12 +1,11 @@
 -- The record of files that were read one after the other.
-use Rattle.std.proofs.Common.{◌≡◌, ◌+◌, ◌<◌, ◌≤◌, ℕ, List, [], ◌∷◌, ◌++◌, Ok, length, take, drop, get_or}
+use Rattle.std.proofs.Common.{◌≡◌, ◌+◌, ◌<◌, ◌≤◌, ℕ, List, [], ◌∷◌, ◌++◌, Ok, map, length, take, drop, get_or}
 use Rattle.std.proofs.Common.{refl, sym, ap, subst, ◌∙◌, append_assoc, take-append-drop, length-append, arith}
 use Rattle.std.proofs.lemmas.List.{map-append, take_all, take_more, length-map, length-take-le}
+use Rattle.std.specs.declared.io.Error.{Error}
 use denote.Ref.{Bor}
-use Rattle.mtxkit_texts.specs.declared.failure.Failure.{Failure}
-use Rattle.mtxkit_commands.specs.Inputs.{Reading, IsRead, IsUnread, AreRead, IsFirstUnread}
-use Rattle.mtxkit_commands.specs.Inputs.{after_reading}
-use Rattle.mtxkit_arguments.specs.Files.{paths}
+use Rattle.file_readings.specs.Readings.{Reading, IsRead, IsUnread, AreRead, IsFirstUnread}
+use Rattle.file_readings.specs.Readings.{after_reading}
 
 -- the record of a file, whose text is `p'`
 pub one_read : (file : List ℕ) (r s : List Reading) (p p' : List ℕ) → IsRead file r s p → p' ≡ p
@@ -38,6 +37,10 @@ after-more (q ∷ ps) (s ∷ ts) p t old e =
 pub none-read : (old new : List Reading) → new ≡ old → AreRead [] [] old new
 none-read old new e = record { counted = refl; readings = e }
 
+-- the bytes of borrowed paths
+abbrev pub paths : List (Bor (List ℕ)) → List (List ℕ)
+paths files = map (λ file. file.now) files
+
 -- the files before file k were read
 module _ (files : List (Bor (List ℕ))) (k : ℕ) (w : Bor (List ℕ)) (inside : k < length files)
     (ts : List (List ℕ)) (old middle new : List Reading)
@@ -59,9 +62,10 @@ module _ (files : List (Bor (List ℕ))) (k : ℕ) (w : Bor (List ℕ)) (inside 
             ∙ sym (after-more before ts path t old counted);
       })
 
-  pub first-unread : (failure : Failure) → IsUnread (k + 1) (get_or files k w).now middle new failure
-      → IsFirstUnread (paths files) old new failure
-  first-unread failure unread =
+  pub first-unread : {F : Type 0} (fault : ℕ → Error → F) (failure : F)
+      → IsUnread fault (k + 1) (get_or files k w).now middle new failure
+      → IsFirstUnread fault (paths files) old new failure
+  first-unread fault failure unread =
       let long : length (paths (take k files)) ≡ k =
       length-map (take k files) (λ (file : Bor (List ℕ)). file.now)
       ∙ length-take-le k files (omega (arith, inside)) in
@@ -77,8 +81,8 @@ module _ (files : List (Bor (List ℕ))) (k : ℕ) (w : Bor (List ℕ)) (inside 
             ∙ append_assoc (paths (take k files)) ((get_or files k w).now ∷ [])
             (paths (drop (k + 1) files));
         read = read;
-        unread = subst (λ n. IsUnread (n + 1) (get_or files k w).now middle new failure) (sym long)
-            unread;
+        unread = subst (λ n. IsUnread fault (n + 1) (get_or files k w).now middle new failure)
+            (sym long) unread;
       }
 
 pub all-read : (files : List (Bor (List ℕ))) (k : ℕ) (ts : List (List ℕ)) (old new : List Reading)

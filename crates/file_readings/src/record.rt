@@ -2,7 +2,7 @@
 
 ghost use Rattle.std.specs.Prelude.{◌≡◌, List, [], ◌∷◌};
 ghost use base.Fml.{ftrue};
-ghost use Rattle.mtxkit_commands.specs.Inputs.{Reading, reading_of};
+ghost use Rattle.file_readings.specs.Readings.{Reading, reading_of};
 
 use std::io;
 use std::marker::Model;

@@ -1,0 +1,31 @@
+-- Builds a value of size 0 whose list of readings is empty.
+use Rattle.std.proofs.Common.{[], ◌∷◌, refl}
+use Rattle.std.proofs.raw_atomic.Walks.{proved}
+use mir.Val.{vstruct, vnil}
+use types.Kit.{raw, ◌$◌, ◌∵◌, !, qed, done, keep, join, suffices}
+use types.Run.{enter, no_more, returns}
+use types.Part.{agg}
+use types.ByLocal.{alloc_all, pass_all, free_all, look_at, sets}
+use denote.Shadow.{pure_i}
+use denote.Steps.{nothing}
+use denote.Triple.Entry.{on_entry}
+use denote.Triple.Walked.{says, ends_at}
+use Rattle.file_readings.specs.contracts.record.Record as row
+use Rattle.file_readings.specs.contracts.record.Record.new as f
+use Rattle.file_readings.proofs.record.Record.new.Statement.{statement}
+use Rattle.file_readings.proofs.record.Record.new.Code as code
+
+pub new_spec : {M : Type 1} → statement M
+new_spec 𝓤 𝓛 𝓜 𝓡 wired =
+    let c = f.clauses 𝓛 𝓜.mem 𝓡.returns in
+    proved 𝓛 f.ended tt c 𝓜 𝓡 tt f.Key.name code.function (code.unfolded 𝓤 𝓛.H 𝓜 𝓡 wired) (λ κs. tt)
+    (λ κs. tt) (λ κs qs bounds a _ are.
+    let none : row.the_row.Denot = record { readings = [] } in
+    qed 𝓛 (raw (on_entry 𝓛 f.signature κs qs a tt) ∷ raw ((c κs a).requires tt) ∷ []) ∵ keep ! [] $
+    enter ! _ _ _ _ _ $ alloc_all ! (λ l. pass_all ! refl tt $
+    sets ! (agg ! (no_more !)) refl (tt, tt) $ returns ! (look_at ! 0 refl) $ free_all ! refl $
+    pure_i ! (row.the_row.own_val none (vstruct vnil ∷ [])) ((λ vss. (tt, tt)), tt)
+    ((tt, (refl, tt)), tt) $
+    suffices ! _ (ends_at 𝓛 f.ended tt c ((κs, qs, bounds, a, tt), tt) (vstruct vnil) none tt tt) $
+    says ! refl $
+    nothing ! $ join ! $ nothing ! $ done !))
