@@ -8,7 +8,7 @@ use Rattle.sparse_parser.specs.declared.header.Header.{Header}
 use Rattle.mtxkit_matrices.specs.declared.facts.info.Info.{Info}
 use Rattle.mtxkit_facts.specs.Json.{first_member, flag_member, member, number_member, object_end}
 use Rattle.mtxkit_facts.specs.Json.{quoted}
-use Rattle.mtxkit_texts.specs.Headers.{format_name, field_name, symmetry_name}
+use Rattle.mtxkit_matrices.specs.HeaderWords.{format_name, field_name, symmetry_name}
 use Rattle.mtxkit_facts.specs.declared.facts.TextFacts.{TextFacts}
 
 -- the names of the header, each null if there is none

@@ -2,7 +2,7 @@
 use Rattle.std.specs.Prelude.{ℕ, List, [], ◌++◌, codes, Option, Some, None}
 use Rattle.sparse_parser.specs.declared.header.Header.{Header}
 use Rattle.mtxkit_matrices.specs.FactLines.{line, count_line}
-use Rattle.mtxkit_texts.specs.Headers.{format_name, field_name, symmetry_name}
+use Rattle.mtxkit_matrices.specs.HeaderWords.{format_name, field_name, symmetry_name}
 
 -- ---- the header
 

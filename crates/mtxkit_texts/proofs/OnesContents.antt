@@ -23,7 +23,8 @@ use Rattle.sparse_parser.proofs.LineShapes.{entry_2, entry_3}
 use Rattle.sparse_parser.proofs.NumberLaws.{index-number}
 use Rattle.sparse_parser.proofs.WordLaws.{words_of-nil, words_of-blank, words_of-word}
 use Rattle.sparse_parser.proofs.WrittenWords.{index_text, not_comment, plain_text, test_plain, unblank}
-use Rattle.mtxkit_texts.specs.Headers.{format_name, is_supported_field, symmetry_name}
+use Rattle.mtxkit_matrices.specs.HeaderWords.{format_name, symmetry_name}
+use Rattle.mtxkit_texts.specs.Headers.{is_supported_field}
 use Rattle.mtxkit_texts.specs.Ones.{copied, has_no_contents, head_words, no_entry, one, one_words}
 use Rattle.mtxkit_texts.specs.Ones.{spaced, unconjugated}
 use Rattle.mtxkit_texts.proofs.OneWords.{copy-index, copy-one}

@@ -1,13 +1,11 @@
 -- The headers of texts.
-use Rattle.std.specs.Prelude.{ℕ, List, Option, Some, None, Bool, true, false, codes}
+use Rattle.std.specs.Prelude.{ℕ, List, Option, Some, None, Bool, true, false}
 use Rattle.sparse_parser.specs.Bytes.{after, leading}
 use Rattle.sparse_parser.specs.Header.{header_of}
 use Rattle.sparse_parser.specs.InnerBytes.{is_space, is_within_line}
 use Rattle.sparse_parser.specs.InnerReading.{words_of}
 use Rattle.sparse_parser.specs.declared.header.Field.{Field}
 use Rattle.sparse_parser.specs.declared.header.Field.TheVariants.{Real, Complex, Integer, Pattern}
-use Rattle.sparse_parser.specs.declared.header.Format.{Format}
-use Rattle.sparse_parser.specs.declared.header.Format.TheVariants.{Coordinate, Array}
 use Rattle.sparse_parser.specs.declared.header.Header.{Header}
 use Rattle.sparse_parser.specs.declared.header.Symmetry.{Symmetry}
 use Rattle.sparse_parser.specs.declared.header.Symmetry.TheVariants.{General, Symmetric}
@@ -47,20 +45,3 @@ is_pattern_field Pattern = true
 abbrev pub is_pattern : Option Header → Bool
 is_pattern None = false
 is_pattern (Some h) = is_pattern_field h.field
-
--- the words of a header
-abbrev pub format_name : Format → List ℕ
-format_name Coordinate = codes "coordinate"
-format_name Array = codes "array"
-
-abbrev pub field_name : Field → List ℕ
-field_name Real = codes "real"
-field_name Complex = codes "complex"
-field_name Integer = codes "integer"
-field_name Pattern = codes "pattern"
-
-abbrev pub symmetry_name : Symmetry → List ℕ
-symmetry_name General = codes "general"
-symmetry_name Symmetric = codes "symmetric"
-symmetry_name SkewSymmetric = codes "skew-symmetric"
-symmetry_name Hermitian = codes "hermitian"

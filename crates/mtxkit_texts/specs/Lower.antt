@@ -104,11 +104,11 @@ abbrev pub IsOblongIntegers : List ℕ → Failure → Type 0
 IsOblongIntegers text failure = (list : Coo ℤ) × (MeansIntegers text list
     × ((list.nrows ≢ list.ncols) × (failure ≡ NotSquare (dimensions_of list))))
 
--- the failure says where the matrix differs from its transpose, at first row by row
+-- the matrix is square, and the failure says where it differs from its transpose, at first row by row
 abbrev pub IsAsymmetry : {T : Type 0} (R : CommRing) → (T → R.Carrier) → Compressed T → Failure
     → Type 0
-IsAsymmetry R f m failure = (at : Coordinates)
-    × ((failure ≡ NotSymmetric at) × IsFirstAsymmetry R (plain_of_rows R f m) at.row at.col)
+IsAsymmetry R f m failure = (m.pattern.major_dim ≡ m.pattern.minor_dim) × ((at : Coordinates)
+    × ((failure ≡ NotSymmetric at) × IsFirstAsymmetry R (plain_of_rows R f m) at.row at.col))
 
 -- the failure says why the pattern that the text means is not symmetric
 abbrev pub IsUnsymmetricPattern : List ℕ → Failure → Type 0

@@ -14,7 +14,7 @@ use Rattle.sparse_parser.specs.Grammar.{AreLines, IsDocument}
 use Rattle.sparse_parser.specs.Header.{header_of}
 use Rattle.sparse_parser.specs.InnerReading.{words_of}
 use Rattle.sparse_parser.specs.Meaning.{is_of_field}
-use Rattle.mtxkit_texts.specs.Headers.{format_name, symmetry_name}
+use Rattle.mtxkit_matrices.specs.HeaderWords.{format_name, symmetry_name}
 
 -- ---- the header and the entries
 

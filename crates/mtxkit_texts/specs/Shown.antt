@@ -1,5 +1,5 @@
 -- The text of `mtxkit spy`.
-use Rattle.std.specs.Prelude.{◌≡◌, ℕ, ◌<◌, ◌≤◌, ◌↔◌, IsTrue, List, length}
+use Rattle.std.specs.Prelude.{◌≡◌, ℕ, ◌*◌, ◌<◌, ◌≤◌, ◌↔◌, IsTrue, List, length}
 use Rattle.sparse_algebra.specs.declared.scalar.wide.W128.{W128}
 use Rattle.sparse_pattern.specs.Raw.{Raw}
 use Rattle.sparse_compressed.specs.Compressed.{Compressed}
@@ -9,12 +9,13 @@ use Rattle.mtxkit_matrices.specs.PictureSizes.{picture_sizes}
 use Rattle.mtxkit_matrices.specs.SvgTexts.{svg_text, svg_title}
 use Rattle.mtxkit_texts.specs.AnyField.{MeansPlaces}
 
--- the picture of a pattern, whose sides have at most `size` cells; a cell has the number of entries that
--- lie in it, and is black exactly if there is one
+-- the picture of a pattern, whose sides have at most `size` cells; it has a number for each cell: that of
+-- the entries that lie in it. A cell is black exactly if there is one
 pub record IsDrawing (p : Raw) (size : ℕ) (picture : CellCounts) : Type 0 where
   pub sizes : (picture.height, picture.width) ≡ picture_sizes p.major_dim p.minor_dim size
   pub high : picture.height ≤ size
   pub wide : picture.width ≤ size
+  pub cells : length picture.counts ≡ picture.height * picture.width
   pub counts : (r c : ℕ) → r < picture.height → c < picture.width
       → count_at picture r c ≡ entries_in p picture.height picture.width r c
   pub black : (r c : ℕ) → r < picture.height → c < picture.width

@@ -1,9 +1,9 @@
 //! The headers of texts.
 
 ghost use Rattle.std.specs.Prelude.{◌≡◌};
-ghost use Rattle.mtxkit_texts.specs.Headers.{field_name, format_name, header_in, is_pattern};
+ghost use Rattle.mtxkit_matrices.specs.HeaderWords.{field_name, format_name, symmetry_name};
+ghost use Rattle.mtxkit_texts.specs.Headers.{header_in, is_pattern};
 ghost use Rattle.mtxkit_texts.specs.Headers.{is_pattern_field, is_supported, is_supported_field};
-ghost use Rattle.mtxkit_texts.specs.Headers.{symmetry_name};
 
 use sparse_parser::header::{Field, Format, Header, Symmetry};
 use sparse_parser::lines::{after_space, split_line};

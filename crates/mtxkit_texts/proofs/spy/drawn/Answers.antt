@@ -11,6 +11,7 @@ returns c =
       sizes = rw (high, wide, ← c.major_dim.ensures, ← c.minor_dim.ensures) sizes.sizes;
       high = rw high sizes.height;
       wide = rw wide sizes.width;
+      cells = rw (high, wide) picture.cells;
       counts = λ r k down across. rw (← high, ← wide)
           at (picture.counts r k (omega (arith, down, high)) (omega (arith, across, wide)));
       black = λ r k down across. rw (← high, ← wide)
