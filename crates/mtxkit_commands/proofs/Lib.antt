@@ -2,3 +2,4 @@ mod OrderRefusals
 mod Readings
 mod Reports
 mod Evaluating
+mod FoundScales
