@@ -1,3 +1,4 @@
 mod OrderRefusals
 mod Reports
 mod Evaluating
+mod FoundScales

@@ -1,9 +1,10 @@
 -- Why commands write nothing.
-use Rattle.std.specs.Prelude.{◌≡◌, ◌⊎◌, ℕ, List, Option}
+use Rattle.std.specs.Prelude.{◌≡◌, ◌⊎◌, ℕ, List, Option, None}
 use Rattle.mtxkit_matrices.specs.declared.orders.EliminationOrder.{EliminationOrder}
 use Rattle.mtxkit_matrices.specs.ScaleFailures.{IsScaleFailure}
 use Rattle.mtxkit_matrices.specs.ScaledTexts.{IsLeastTextScale}
 use Rattle.mtxkit_matrices.specs.declared.decimals.error.ScaleError.{ScaleError}
+use Rattle.mtxkit_matrices.specs.declared.decimals.error.ScaleError.TheVariants.{Fraction}
 use Rattle.mtxkit_patterns.specs.declared.order_error.OrderError.{OrderError}
 use Rattle.mtxkit_texts.specs.AnyField.{IsPlacesFailure}
 use Rattle.mtxkit_facts.specs.Facts.{IsInfoFailure}
@@ -95,11 +96,16 @@ IsFailure (Solve modulus order a b) old new failure =
 IsFailure (Check modulus a x b) old new failure =
     IsUnchecked modulus a.now x.now b.now old new failure
 
--- the numbers of the file's text are not scaled, for this reason; `least` is the least scale with which they are, if
--- one was found
+-- the least scale with which the text is scaled, which is computed only for a value that is refused as a fraction
+abbrev pub IsScaleFound : List ℕ → ScaleError → Option ℕ → Type 0
+IsScaleFound text (Fraction n least) found = IsLeastTextScale text found
+IsScaleFound text error found = found ≡ None
+
+-- the numbers of the file's text are not scaled, for this reason; `least` is the least scale with which they are, if it
+-- was computed and there is one
 abbrev pub IsUnscaled : ℕ → List ℕ → List Reading → List Reading → ScaleError → Option ℕ → Type 0
 IsUnscaled scale file old new error least =
-    ReadsOne file (λ text. IsScaleFailure scale text error × IsLeastTextScale text least) old new
+    ReadsOne file (λ text. IsScaleFailure scale text error × IsScaleFound text error least) old new
 
 -- the command is `integer`, and the numbers of its file's text are not scaled, for this reason
 abbrev pub IsUnscaledBy : Command → List Reading → List Reading → ScaleError → Option ℕ → Type 0
@@ -110,7 +116,7 @@ IsUnscaledBy command old new error least = ⊥
 -- the error of `integer` for a text that is not scaled for this reason
 abbrev pub IsUnscaledText : List ℕ → ScaleError → CommandError → Type 0
 IsUnscaledText text error (Failed failure) = failure ≡ OutOfMemory
-IsUnscaledText text error (Unscaled why least) = (why ≡ error) × IsLeastTextScale text least
+IsUnscaledText text error (Unscaled why least) = (why ≡ error) × IsScaleFound text error least
 IsUnscaledText text error other = ⊥
 
 -- the command is one of those about orders, and the order or its matrix is at fault, in this way

@@ -1,5 +1,5 @@
 -- The text of `mtxkit fill`.
-use Rattle.std.specs.Prelude.{◌≡◌, ◌⊎◌, ℕ, List, Option, Some, None}
+use Rattle.std.specs.Prelude.{◌≡◌, ◌⊎◌, ℕ, List, length, Option, Some, None}
 use Rattle.sparse_pattern.specs.Raw.{Raw}
 use Rattle.sparse_permutation.specs.PermutedPatterns.{IsPermutedPattern}
 use Rattle.sparse_permutation.specs.Permutations.{IsOrder}
@@ -7,8 +7,8 @@ use Rattle.mtxkit_facts.specs.declared.facts.ReportFormat.{ReportFormat}
 use Rattle.mtxkit_facts.specs.declared.facts.ReportFormat.TheVariants.{Lines, Json}
 use Rattle.mtxkit_patterns.specs.FillJson.{fill_json}
 use Rattle.mtxkit_patterns.specs.Fills.{AreFillCounts, fill_lines}
-use Rattle.mtxkit_patterns.specs.Orders.{MeansOrder, MeansPattern, IsMisordered, IsNoSquare}
-use Rattle.mtxkit_patterns.specs.Permuted.{IsMisfit}
+use Rattle.mtxkit_patterns.specs.Orders.{MeansOrder, MeansPattern, IsMisordered}
+use Rattle.mtxkit_patterns.specs.Permuted.{IsMisfitPattern}
 use Rattle.mtxkit_patterns.specs.declared.counts.FillCounts.{FillCounts}
 use Rattle.mtxkit_patterns.specs.declared.order_error.OrderError.{OrderError}
 use Rattle.mtxkit_patterns.specs.declared.square.Method.{Method}
@@ -24,10 +24,10 @@ pub record SaysFill (form : ReportFormat) (pattern : Raw) (written : List ℕ) :
   pub are : AreFillCounts pattern counts
   pub is : written ≡ fill_in form counts
 
--- the facts about the fill of P A Pᵀ, for the pattern of A
+-- the facts about the fill of P A Pᵀ, for the pattern of A, which has as many rows as P
 abbrev pub SaysFillIn : ReportFormat → List ℕ → Raw → List ℕ → Type 0
-SaysFillIn form order pattern written =
-    (permuted : Raw) × (IsPermutedPattern order pattern permuted × SaysFill form permuted written)
+SaysFillIn form order pattern written = (pattern.major_dim ≡ length order) × ((permuted : Raw)
+    × (IsPermutedPattern order pattern permuted × SaysFill form permuted written))
 
 -- the same for the square pattern that the text means, in its own order, or in some order if a method is given
 abbrev pub SaysFillBy : ReportFormat → Option Method → Raw → List ℕ → Type 0
@@ -45,8 +45,8 @@ WritesFillIn form first text written = (order : List ℕ) × (pattern : Raw)
     × (MeansOrder first order × (MeansPattern text pattern
     × ((pattern.major_dim ≡ pattern.minor_dim) × SaysFillIn form order pattern written)))
 
--- why the fill of the second text is not counted in the order of the first one
+-- why the fill of the second text is not counted in the order of the first one: that means no order, or it means one
+-- and the second text is at fault
 abbrev pub IsUnfilled : List ℕ → List ℕ → OrderError → Type 0
-IsUnfilled first text error = IsMisordered 1 first error ⊎ (IsNoSquare 2 text error
-    ⊎ ((order : List ℕ) × (pattern : Raw) × (MeansOrder first order × (MeansPattern text pattern
-    × IsMisfit order pattern.major_dim pattern.minor_dim error))))
+IsUnfilled first text error = IsMisordered 1 first error
+    ⊎ ((order : List ℕ) × (MeansOrder first order × IsMisfitPattern order text error))

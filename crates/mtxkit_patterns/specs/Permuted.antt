@@ -53,7 +53,7 @@ IsMisfit order nrows ncols (NotSquare n) = (n ≡ 2) × (nrows ≢ ncols)
 IsMisfit order nrows ncols (OtherLength n) = (n ≡ 1) × ((nrows ≡ ncols) × (nrows ≢ length order))
 IsMisfit order nrows ncols error = ⊥
 
--- why the pattern or the matrix of the second text is not permuted
+-- why the order does not permute the pattern or the matrix of the second text
 abbrev pub IsMisfitPattern : List ℕ → List ℕ → OrderError → Type 0
 IsMisfitPattern order text (Failed failure) = IsPlacesFailure 2 text failure
 IsMisfitPattern order text error = (p : Raw)

@@ -11,7 +11,7 @@ use crate::fill_json::json_of;
 use crate::fill_lines::lines_of;
 use crate::order_error::OrderError;
 use crate::order_reading::read_order;
-use crate::orders::square_pattern;
+use crate::orders::{load_pattern, square_pattern};
 use crate::permuted::fit;
 use crate::square::{Method, order_of, permuted_pattern};
 use mtxkit_facts::ReportFormat;
@@ -62,7 +62,7 @@ pub fn fill_text_in_order(
     ensures refused { IfErr result (IsUnfilled order.now text.now) }
 {
     let order = read_order(alloc, 1, order)?;
-    let pattern = square_pattern(alloc, 2, text)?;
+    let pattern = load_pattern(alloc, 2, text)?;
     fit(pattern.major_dim(), pattern.minor_dim(), &order)?;
     Ok(permuted(alloc, form, &pattern, &order)?)
 }

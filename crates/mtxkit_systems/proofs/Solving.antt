@@ -1,7 +1,9 @@
 -- A system over ring elements is solved or tested exactly if that over their integers is.
-use Rattle.std.proofs.Common.{◌≡◌, ◌⊎◌, ◌↔◌, ℕ, ℤ, Option, inl, inr, Ok}
-use Rattle.std.proofs.Common.{Err, Result, subst, refl, sym, ap, ◌∙◌}
-use Rattle.std.proofs.lemmas.Bool.{cases_eq}
+use Rattle.std.proofs.Common.{◌≡◌, ◌⊎◌, ◌↔◌, ℕ, ℤ, Bool, true, List, [], ◌∷◌, Option, Some, None}
+use Rattle.std.proofs.Common.{inl, inr, Ok, Err, Result, subst, refl, sym, ap, ◌∙◌}
+use Rattle.std.specs.Prelude.{◌==◌}
+use Rattle.std.specs.List.{list_any}
+use Rattle.std.proofs.lemmas.Bool.{cases_eq, eqb-true, or_cases}
 use Rattle.sparse_algebra.specs.Algebra.{CommRing}
 use Rattle.sparse_algebra.specs.Plain.{Plain, plain_product}
 use Rattle.sparse_coo_dense.specs.Coo.{Coo}
@@ -11,6 +13,7 @@ use Rattle.mtxkit_matrices.specs.Coordinates.{dimensions_of}
 use Rattle.mtxkit_matrices.specs.Differences.{IsFirstDifference, IsFirstAsymmetry}
 use Rattle.mtxkit_matrices.specs.Pivots.{IsSingularPivot}
 use Rattle.mtxkit_matrices.specs.Systems.{IsEquation, IsNoSolution, IsSystem, IsUnsolvable}
+use Rattle.mtxkit_matrices.specs.Values.{IsSymmetricMatrix}
 use Rattle.mtxkit_matrices.specs.declared.orders.EliminationOrder.{EliminationOrder}
 use Rattle.mtxkit_matrices.specs.declared.solutions.CheckError.{CheckError}
 use Rattle.mtxkit_matrices.specs.declared.solutions.CheckError.TheVariants as check
@@ -18,10 +21,11 @@ use Rattle.mtxkit_matrices.specs.declared.systems.SystemError.{SystemError}
 use Rattle.mtxkit_matrices.specs.declared.systems.SystemError.TheVariants as system
 use Rattle.mtxkit_texts.specs.declared.failure.Failure.{Failure}
 use Rattle.mtxkit_texts.specs.declared.failure.Failure.TheVariants.{Modulus}
+use Rattle.mtxkit_eval.specs.Moduli.{IsNoneOf, moduli}
 use Rattle.mtxkit_eval.specs.Rings.{ring_of, reduced_by, ring_value}
 use Rattle.mtxkit_systems.specs.SystemErrors.{check_fault, system_fault}
 use Rattle.mtxkit_systems.specs.Systems.{plain_of_integers, IsSolved, IsTested}
-use Rattle.mtxkit_systems.specs.Systems.{IsSolvedBy, IsTestedBy}
+use Rattle.mtxkit_systems.specs.Systems.{IsListed, IsSolvedBy, IsTestedBy}
 
 -- ---- shapes fit or do not fit
 
@@ -129,7 +133,8 @@ module _ (R : CommRing) where
     refused m order (system.NoFactors pivot) says why = (
       system-same (system_at_err system.Shapes a b (system.NoFactors pivot) says (λ e. cc)),
       refl,
-      subst (λ (q : Plain R). IsSingularPivot R f order q pivot) same_a why,
+      subst (IsSymmetricMatrix R) same_a why.0,
+      subst (λ (q : Plain R). IsSingularPivot R f order q pivot) same_a why.1,
     )
     refused m order system.OutOfMemory says why = tt
 
@@ -171,16 +176,36 @@ module _ (R : CommRing) where
 
 -- ---- from the ring of a modulus to the modulus
 
+-- the number is one of the list
+abbrev pub is_among : List ℕ → ℕ → Bool
+is_among ks n = list_any (λ k. n == k) ks
+
+among_some : (ks : List ℕ) (n : ℕ) → is_among ks n ≡ true → IsNoneOf ks n → ⊥
+among_some [] n e none = cc
+among_some (k ∷ ks) n e none = elim (or_cases (n == k) (is_among ks n) e) [
+  | inl same ↦ none.0 (eqb-true n k same)
+  | inr more ↦ among_some ks n more none.1
+]
+
+-- no modulus is given, or one of the list
+abbrev pub is_listed : Option ℕ → Bool
+is_listed None = true
+is_listed (Some m) = is_among moduli m
+
+pub listed : (m : Option ℕ) → is_listed m ≡ true → IsListed m
+listed None e unlisted = unlisted
+listed (Some m) e unlisted = among_some moduli m e unlisted
+
 pub solved_by : (m : Option ℕ) (order : EliminationOrder) (a b : Coo ℤ)
-    (solved : Result (Coo ℤ) Failure)
+    (solved : Result (Coo ℤ) Failure) → is_listed m ≡ true
     → IsSolved (ring_of m) (ring_value m) (reduced_by m) m order a b solved
     → IsSolvedBy m order a b solved
-solved_by m order a b (Ok x) is = is
-solved_by m order a b (Err Modulus) is = absurd is
-solved_by m order a b (Err failure) is = is
+solved_by m order a b (Ok x) e is = (listed m e, is)
+solved_by m order a b (Err Modulus) e is = absurd is
+solved_by m order a b (Err failure) e is = (listed m e, is)
 
 pub tested_by : (m : Option ℕ) (a x b : Coo ℤ) (tested : Result (Unit {0}) Failure)
-    → IsTested (ring_of m) a x b tested → IsTestedBy m a x b tested
-tested_by m a x b (Ok done) is = is
-tested_by m a x b (Err Modulus) is = absurd is
-tested_by m a x b (Err failure) is = is
+    → is_listed m ≡ true → IsTested (ring_of m) a x b tested → IsTestedBy m a x b tested
+tested_by m a x b (Ok done) e is = (listed m e, is.0, is.1)
+tested_by m a x b (Err Modulus) e is = absurd is
+tested_by m a x b (Err failure) e is = (listed m e, is)

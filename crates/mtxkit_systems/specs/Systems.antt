@@ -51,16 +51,17 @@ module _ (R : CommRing) where
     pub values : All (λ z. reduced z ≡ z) (map (λ t. t.2) x.triplets)
 
   -- why the system is not solved: the shapes, which the failure has, do not fit; or they fit, and A differs from its
-  -- transpose, at first where the failure says; or the pivot of the failure has no inverse in the order that is asked
-  -- for, modulo the number m of the ring
+  -- transpose, at first where the failure says; or A is symmetric, and the pivot of the failure has no inverse in the
+  -- order that is asked for, modulo the number m of the ring
   abbrev pub IsUnsolved : {T : Type 0} → (T → R.Carrier) → Option ℕ → EliminationOrder → Coo ℤ → Coo ℤ → Failure
       → Type 0
   IsUnsolved g m order a b (Shapes first second) =
       (IsSystem a b → ⊥) × (first ≡ dimensions_of a) × (second ≡ dimensions_of b)
   IsUnsolved g m order a b (NotSymmetric at) =
       IsSystem a b × IsFirstAsymmetry R (plain_of_integers a) at.row at.col
-  IsUnsolved g m order a b (NoFactors modulus pivot) =
-      IsSystem a b × (modulus ≡ m) × IsSingularPivot R g order (plain_of_integers a) pivot
+  IsUnsolved g m order a b (NoFactors modulus pivot) = IsSystem a b × (modulus ≡ m)
+      × IsSymmetricMatrix R (plain_of_integers a)
+      × IsSingularPivot R g order (plain_of_integers a) pivot
   IsUnsolved g m order a b OutOfMemory = Unit {0}
   IsUnsolved g m order a b failure = ⊥
 
@@ -89,22 +90,27 @@ module _ (R : CommRing) where
 
 -- ---- by the modulus that a command gives, if any
 
+-- no modulus is given, or one that the program is built for
+abbrev pub IsListed : Option ℕ → Type 0
+IsListed m = IsUnlisted m → ⊥
+
 -- why the system is not solved: the modulus is not listed; or it is, and the system is not solved in its ring
 abbrev pub IsUnsolvedBy : Option ℕ → EliminationOrder → Coo ℤ → Coo ℤ → Failure → Type 0
 IsUnsolvedBy m order a b Modulus = IsUnlisted m
-IsUnsolvedBy m order a b failure = IsUnsolved (ring_of m) (ring_value m) m order a b failure
+IsUnsolvedBy m order a b failure =
+    IsListed m × IsUnsolved (ring_of m) (ring_value m) m order a b failure
 
 abbrev pub IsSolvedBy : Option ℕ → EliminationOrder → Coo ℤ → Coo ℤ → Result (Coo ℤ) Failure → Type 0
-IsSolvedBy m order a b (Ok x) = Solves (ring_of m) (reduced_by m) a x b
+IsSolvedBy m order a b (Ok x) = IsListed m × Solves (ring_of m) (reduced_by m) a x b
 IsSolvedBy m order a b (Err failure) = IsUnsolvedBy m order a b failure
 
 -- why a solution is not confirmed: the modulus is not listed; or it is, and the solution is not confirmed in its ring
 abbrev pub IsUntestedBy : Option ℕ → Coo ℤ → Coo ℤ → Coo ℤ → Failure → Type 0
 IsUntestedBy m a x b Modulus = IsUnlisted m
-IsUntestedBy m a x b failure = IsUntested (ring_of m) a x b failure
+IsUntestedBy m a x b failure = IsListed m × IsUntested (ring_of m) a x b failure
 
 abbrev pub IsTestedBy : Option ℕ → Coo ℤ → Coo ℤ → Coo ℤ → Result (Unit {0}) Failure → Type 0
-IsTestedBy m a x b (Ok done) = IsEquation a x b × IsProduct (ring_of m) a x b
+IsTestedBy m a x b (Ok done) = IsListed m × IsEquation a x b × IsProduct (ring_of m) a x b
 IsTestedBy m a x b (Err failure) = IsUntestedBy m a x b failure
 
 -- ---- texts
@@ -123,8 +129,9 @@ abbrev pub IsThirdNoList : List ℕ → List ℕ → List ℕ → Failure → Ty
 IsThirdNoList first second third failure = (one two : Coo ℤ)
     × MeansIntegers first one × MeansIntegers second two × IsNoList 3 third failure
 
--- the text of a matrix X for which A X = B, where the two texts mean A and B
+-- the text of a matrix X for which A X = B, where the two texts mean A and B and the modulus is listed
 pub record WritesSolution (m : Option ℕ) (first second written : List ℕ) : Type 0 where
+  pub listed : IsListed m
   pub a : Coo ℤ
   pub x : Coo ℤ
   pub b : Coo ℤ
@@ -149,9 +156,9 @@ IsSolveFailure m order first second failure =
     (failure ≡ OutOfMemory) ⊎ (IsNoList 1 first failure ⊎ (IsSecondNoList first second failure
     ⊎ HasNoSolution m order first second failure))
 
--- the three texts mean A, X and B, and A X = B
+-- the modulus is listed, the three texts mean A, X and B, and A X = B
 abbrev pub MeansProduct : Option ℕ → List ℕ → List ℕ → List ℕ → Type 0
-MeansProduct m first second third = (a x b : Coo ℤ)
+MeansProduct m first second third = IsListed m × (a x b : Coo ℤ)
     × MeansIntegers first a × MeansIntegers second x × MeansIntegers third b
     × IsEquation a x b × IsProduct (ring_of m) a x b
 

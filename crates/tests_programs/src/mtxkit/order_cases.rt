@@ -55,6 +55,12 @@ pub const PERMUTE_CASES: &[SystemCase] = &[
         &[OBLONG, "2 2 0\n"],
         Err("mtxkit: 0.mtx: an order is an array of one column\n"),
     ),
+    // Both files are at fault.
+    (
+        &["permute"],
+        &[OBLONG, OBLONG],
+        Err("mtxkit: 0.mtx: an order is an array of one column\n"),
+    ),
     (
         &["permute"],
         &["2 1 2\n2 1 2\n1 1 1\n", "2 2 0\n"],
@@ -91,4 +97,15 @@ pub const FILL_CASES: &[SystemCase] = &[
     (&["fill", "--order", "amd"], &[ARROW], Ok(NO_FILL)),
     (&["fill", "--order"], &[REVERSED, ARROW], Ok(NO_FILL)),
     (&["fill"], &[OBLONG], Err("mtxkit: 0.mtx: not square\n")),
+    (
+        &["fill", "--order"],
+        &[EXCHANGED, OBLONG],
+        Err("mtxkit: 1.mtx: not square\n"),
+    ),
+    // Both files are at fault.
+    (
+        &["fill", "--order"],
+        &["2 1 2\n1 1 2\n2 1 2\n", OBLONG],
+        Err("mtxkit: 0.mtx: number 2 of the order occurs before\n"),
+    ),
 ];
