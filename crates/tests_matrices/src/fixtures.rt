@@ -46,6 +46,24 @@ pub fn csc<T: Copy>(
     CscMatrix::try_from_csc_data(arrays.1, arrays.0, offsets, indices, values)
 }
 
+/// The CSR matrix of arrays whose rows need not be sorted.
+pub fn unsorted_csr(
+    alloc: Global,
+    arrays: Arrays<'_, i32>,
+) -> Result<CsrMatrix<i32>, SparseFormatError> {
+    let (offsets, indices, values) = copied(alloc, arrays)?;
+    CsrMatrix::try_from_unsorted_csr_data(alloc, arrays.0, arrays.1, offsets, indices, values)
+}
+
+/// The CSC matrix of arrays whose columns need not be sorted.
+pub fn unsorted_csc(
+    alloc: Global,
+    arrays: Arrays<'_, i32>,
+) -> Result<CscMatrix<i32>, SparseFormatError> {
+    let (offsets, indices, values) = copied(alloc, arrays)?;
+    CscMatrix::try_from_unsorted_csc_data(alloc, arrays.1, arrays.0, offsets, indices, values)
+}
+
 /// Whether two slices are equal. A call takes the prover less time than `==` with its references.
 pub fn are_equal<T: PartialEq>(left: &[T], right: &[T]) -> bool {
     left == right

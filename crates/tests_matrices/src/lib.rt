@@ -1,8 +1,10 @@
-//! Tests of lists and matrices that rows of `cases` can't hold: values that are dropped, iterators, growth within
-//! reserved memory, counting by keys, generated texts, sizes at which a call could take too much time, and inverses by
-//! trial.
+//! Tests of lists and matrices that rows of `cases` can't hold: plain integers, values that are dropped, iterators,
+//! growth within reserved memory, counting by keys, the text of an allocation failure, generated texts, sizes at which a
+//! call could take too much time, and inverses by trial.
 #![tactic(auto)]
 
+#[cfg(test)]
+mod allocation_error;
 #[cfg(test)]
 mod callers;
 #[cfg(test)]
@@ -21,6 +23,8 @@ mod growth;
 mod iterators;
 #[cfg(test)]
 mod json_texts;
+#[cfg(test)]
+mod plain_integers;
 #[cfg(test)]
 mod sizes;
 #[cfg(test)]

@@ -1,6 +1,9 @@
-//! Tests of hostile and of long Matrix Market texts, of files, of byte sinks, and of expressions beside slow programs.
+//! Tests of hostile and of long Matrix Market texts, of files, of byte sinks, of errors that no text leads to, and of
+//! expressions beside slow programs.
 #![tactic(auto)]
 
+#[cfg(test)]
+mod error_texts;
 #[cfg(test)]
 mod expressions;
 #[cfg(test)]
