@@ -1,0 +1,4 @@
+pub mod Lu
+pub mod Ranks
+pub mod Kernels
+pub mod Refutations

@@ -1,0 +1,3 @@
+//! Factorisations P A Q = L U of any matrix: what they say of its rank, its kernel, and its systems of equations.
+#![tactic(auto)]
+
