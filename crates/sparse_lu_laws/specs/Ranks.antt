@@ -1,5 +1,5 @@
 -- The rank of a matrix, and the rings over which an elimination finds it.
-use Rattle.std.specs.Prelude.{◌≡◌, ◌≢◌, ℕ, ◌≤◌, ◌⊎◌}
+use Rattle.std.specs.Prelude.{◌≡◌, ◌≢◌, ℕ, ◌≤◌}
 use Rattle.sparse_algebra.specs.Algebra.{CommRing}
 use Rattle.sparse_algebra.specs.Plain.{Plain, plain_product}
 use Rattle.sparse_algebra.specs.Inverses.{HasInverse}
@@ -29,8 +29,8 @@ module _ (R : CommRing) where
       pub nonzero : R.one ≢ R.zero
       pub inverse : (e : R.Carrier) → e ≢ R.zero → HasInverse R f e
 
-    -- one is not zero, and if a sum has an inverse, one of its two terms has
+    -- one is not zero, and a sum of two elements without inverses has none
     pub record IsLocal : Type 0 where
       pub nonzero : R.one ≢ R.zero
-      pub term : (d e : R.Carrier) → HasInverse R f (R.add d e)
-          → HasInverse R f d ⊎ HasInverse R f e
+      pub sum : (d e : R.Carrier) → ¬ HasInverse R f d → ¬ HasInverse R f e
+          → ¬ HasInverse R f (R.add d e)

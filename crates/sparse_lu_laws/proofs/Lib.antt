@@ -1,0 +1,9 @@
+mod Sums
+mod Refutations
+mod Combinations
+mod Triangles
+mod FullRank
+mod Inverses
+mod Eliminations
+mod InnerSizes
+mod RankBounds
