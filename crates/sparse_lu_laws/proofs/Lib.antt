@@ -7,3 +7,5 @@ mod Inverses
 mod Eliminations
 mod InnerSizes
 mod RankBounds
+mod LocalRings
+mod PrimeFields

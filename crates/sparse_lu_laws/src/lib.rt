@@ -4,4 +4,5 @@
 
 pub mod kernels;
 pub mod ranks;
+pub mod rings;
 pub mod systems;
