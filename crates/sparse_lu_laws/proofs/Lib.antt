@@ -9,3 +9,5 @@ mod InnerSizes
 mod RankBounds
 mod LocalRings
 mod PrimeFields
+mod TrialDivision
+mod ListedPrimes

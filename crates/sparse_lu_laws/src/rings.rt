@@ -27,3 +27,17 @@ pub fn wrapping_is_local_law()
 pub fn prime_is_field_law()
     ensures { (m : ℕ) → IsPrime m → IsField (mod_ring m) (mod_value {m = m}) }
 {}
+
+/// These numbers are prime.
+pub fn listed_primes_law()
+    ensures p2 { IsPrime 2 }
+    ensures p3 { IsPrime 3 }
+    ensures p5 { IsPrime 5 }
+    ensures p7 { IsPrime 7 }
+    ensures p11 { IsPrime 11 }
+    ensures p13 { IsPrime 13 }
+    ensures p101 { IsPrime 101 }
+    ensures p65537 { IsPrime 65537 }
+    ensures p998244353 { IsPrime 998244353 }
+    ensures p1000000007 { IsPrime 1000000007 }
+{}

@@ -1,0 +1,54 @@
+-- Moduli that are prime, by trial division.
+use Rattle.std.proofs.Common.{◌≡◌, ◌≢◌, ◌<◌, refl, lit<, arith, subst}
+use Rattle.std.specs.Int.{◌∣◌}
+use Rattle.std.proofs.Math.Nat.{eq-zero_of_zero-dvd}
+use Rattle.std.proofs.lemmas.Nat.Gcd.{le_of_dvd}
+use Rattle.sparse_lu_laws.specs.Primes.{IsPrime}
+use Rattle.sparse_lu_laws.proofs.TrialDivision.{none_divides, prime_by_trial}
+
+pub prime_2 : IsPrime 2
+prime_2 = record {
+  above_one = lit< tt;
+  divisors = λ d divides.
+      let most = le_of_dvd {n = 2} (lit< tt) divides in
+      let some : d ≢ 0 = λ none.
+      let two = eq-zero_of_zero-dvd (subst (λ k. k ∣ 2) none divides) in
+      absurd (cc) in
+      grind arith;
+}
+
+pub prime_3 : IsPrime 3
+unfolding none_divides
+prime_3 = prime_by_trial 3 0 (lit< tt) (lit< tt) refl
+
+pub prime_5 : IsPrime 5
+unfolding none_divides
+prime_5 = prime_by_trial 5 0 (lit< tt) (lit< tt) refl
+
+pub prime_7 : IsPrime 7
+unfolding none_divides
+prime_7 = prime_by_trial 7 0 (lit< tt) (lit< tt) refl
+
+pub prime_11 : IsPrime 11
+unfolding none_divides
+prime_11 = prime_by_trial 11 1 (lit< tt) (lit< tt) refl
+
+pub prime_13 : IsPrime 13
+unfolding none_divides
+prime_13 = prime_by_trial 13 1 (lit< tt) (lit< tt) refl
+
+pub prime_101 : IsPrime 101
+unfolding none_divides
+prime_101 = prime_by_trial 101 4 (lit< tt) (lit< tt) refl
+
+pub prime_65537 : IsPrime 65537
+unfolding none_divides
+prime_65537 = prime_by_trial 65537 8 (lit< tt) (lit< tt) refl
+
+pub prime_998244353 : IsPrime 998244353
+unfolding none_divides
+prime_998244353 = prime_by_trial 998244353 15 (lit< tt) (lit< tt) refl
+
+pub prime_1000000007 : IsPrime 1000000007
+unfolding none_divides
+prime_1000000007 = prime_by_trial 1000000007 15 (lit< tt) (lit< tt) refl
