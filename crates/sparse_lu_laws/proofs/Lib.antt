@@ -11,3 +11,6 @@ mod LocalRings
 mod PrimeFields
 mod TrialDivision
 mod ListedPrimes
+mod Powers
+mod Orders
+mod Generators

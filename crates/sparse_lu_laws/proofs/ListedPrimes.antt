@@ -1,9 +1,11 @@
--- Moduli that are prime, by trial division.
-use Rattle.std.proofs.Common.{◌≡◌, ◌≢◌, ◌<◌, refl, lit<, arith, subst}
+-- Moduli that are prime, by trial division, and the last by a primitive root.
+use Rattle.std.proofs.Common.{◌≡◌, ◌≢◌, ◌<◌, refl, lit<, arith, subst, ℕ, List, [], ◌∷◌}
 use Rattle.std.specs.Int.{◌∣◌}
 use Rattle.std.proofs.Math.Nat.{eq-zero_of_zero-dvd}
 use Rattle.std.proofs.lemmas.Nat.Gcd.{le_of_dvd}
 use Rattle.sparse_lu_laws.specs.Primes.{IsPrime}
+use Rattle.sparse_lu_laws.proofs.Generators.{prime_by_generator}
+use Rattle.sparse_lu_laws.proofs.Powers.{power_modulo, squared_times}
 use Rattle.sparse_lu_laws.proofs.TrialDivision.{none_divides, prime_by_trial}
 
 pub prime_2 : IsPrime 2
@@ -52,3 +54,38 @@ prime_998244353 = prime_by_trial 998244353 15 (lit< tt) (lit< tt) refl
 pub prime_1000000007 : IsPrime 1000000007
 unfolding none_divides
 prime_1000000007 = prime_by_trial 1000000007 15 (lit< tt) (lit< tt) refl
+
+-- ---- 2 ^ 61 - 1, of which 37 is a primitive root
+
+prime_31 : IsPrime 31
+unfolding none_divides
+prime_31 = prime_by_trial 31 2 (lit< tt) (lit< tt) refl
+
+prime_41 : IsPrime 41
+unfolding none_divides
+prime_41 = prime_by_trial 41 3 (lit< tt) (lit< tt) refl
+
+prime_61 : IsPrime 61
+unfolding none_divides
+prime_61 = prime_by_trial 61 3 (lit< tt) (lit< tt) refl
+
+prime_151 : IsPrime 151
+unfolding none_divides
+prime_151 = prime_by_trial 151 4 (lit< tt) (lit< tt) refl
+
+prime_331 : IsPrime 331
+unfolding none_divides
+prime_331 = prime_by_trial 331 5 (lit< tt) (lit< tt) refl
+
+prime_1321 : IsPrime 1321
+unfolding none_divides
+prime_1321 = prime_by_trial 1321 6 (lit< tt) (lit< tt) refl
+
+abbrev factors : List ℕ
+factors = 2 ∷ 3 ∷ 3 ∷ 5 ∷ 5 ∷ 7 ∷ 11 ∷ 13 ∷ 31 ∷ 41 ∷ 61 ∷ 151 ∷ 331 ∷ 1321 ∷ []
+
+pub prime_2305843009213693951 : IsPrime 2305843009213693951
+unfolding power_modulo squared_times
+prime_2305843009213693951 =
+    prime_by_generator 2305843009213693950 37 61 (lit< tt) (lit< tt) refl factors refl
+    (((prime_2, refl), ((prime_3, refl), ((prime_3, refl), ((prime_5, refl), ((prime_5, refl), ((prime_7, refl), ((prime_11, refl), ((prime_13, refl), ((prime_31, refl), ((prime_41, refl), ((prime_61, refl), ((prime_151, refl), ((prime_331, refl), ((prime_1321, refl), tt)))))))))))))))

@@ -25,6 +25,12 @@ combined_inverse R q b c z none one =
     ∙ sym (distrib_right R (R.mul q b) c z) ∙ mul_off R (R.add (R.mul q b) c) z none))
     ∙ one
 
+pub one_not_zero : (m : ℕ) → 1 < m → (mod_ring m).one ≢ (mod_ring m).zero
+one_not_zero m more same =
+    let above : 1 < modulus m = omega arith in
+    let numbers : 1 % modulus m ≡ 0 % modulus m = ap (λ c. c.number) same in
+    absurd (omega (arith, mod-eq_of_lt above, zero-mod (modulus m)))
+
 module _ (m : ℕ) (prime : IsPrime m) where
   abbrev R : CommRing
   R = mod_ring m
@@ -47,7 +53,7 @@ module _ (m : ℕ) (prime : IsPrime m) where
   ]
 
   -- the inverse of b follows from that of m % b, which is less than b
-  class_inverse : (n b : ℕ) → b < n → 0 < b → b < m
+  pub class_inverse : (n b : ℕ) → b < n → 0 < b → b < m
       → (z : R.Carrier) × (R.mul (mod_class m b) z ≡ R.one)
   class_inverse zero b under some less = absurd (omega arith)
   class_inverse (suc n) b under some less = elim (cases_eq b 1) [
@@ -64,10 +70,7 @@ module _ (m : ℕ) (prime : IsPrime m) where
 
   pub prime-field : IsField R (mod_value {m = m})
   prime-field = record {
-    nonzero = λ same.
-        let above : 1 < modulus m = omega (arith, prime.above_one) in
-        let numbers : 1 % modulus m ≡ 0 % modulus m = ap (λ c. c.number) same in
-        absurd (omega (arith, mod-eq_of_lt above));
+    nonzero = one_not_zero m prime.above_one;
     inverse = λ e some.
         let positive : e.number ≢ 0 = λ none. some (same_residue e R.zero
         (none ∙ sym (zero-mod (modulus m)))) in

@@ -77,3 +77,7 @@ module _ (R : CommRing) {T : Type 0} (f : T → R.Carrier) {a l u : Plain R} {p 
       | inr most ↦ most
     ];
   }
+
+pub one_rank : (R : CommRing) (a : Plain R) (r s : ℕ) → HasRank R a r → HasRank R a s → r ≡ s
+one_rank R a r s first second =
+    omega (arith, first.least s second.factored, second.least r first.factored)

@@ -11,7 +11,8 @@ ghost use Rattle.sparse_lu_laws.specs.Ranks.{IsField, IsLocal};
 
 use sparse_algebra::scalar::Units;
 
-/// Every field is a local ring: a sum of zeros is zero.
+/// Every field is a local ring: a sum of zeros is zero (Atiyah and Macdonald, Introduction to Commutative Algebra,
+/// chapter 1).
 pub fn field_is_local_law<T: Units>()
     ensures { IsField T.ring T.value → IsLocal T.ring T.value }
 {}
@@ -28,7 +29,8 @@ pub fn prime_is_field_law()
     ensures { (m : ℕ) → IsPrime m → IsField (mod_ring m) (mod_value {m = m}) }
 {}
 
-/// These numbers are prime.
+/// These numbers are prime: by trial division, and the last one by a primitive root (Lucas's test as in Knuth, The Art
+/// of Computer Programming, volume 2, section 4.5.4).
 pub fn listed_primes_law()
     ensures p2 { IsPrime 2 }
     ensures p3 { IsPrime 3 }
@@ -40,4 +42,5 @@ pub fn listed_primes_law()
     ensures p65537 { IsPrime 65537 }
     ensures p998244353 { IsPrime 998244353 }
     ensures p1000000007 { IsPrime 1000000007 }
+    ensures p2305843009213693951 { IsPrime 2305843009213693951 }
 {}

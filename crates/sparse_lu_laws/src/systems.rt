@@ -13,7 +13,8 @@ pub fn refutation_law<T: Ring>()
     ensures { (a b x y : Plain T.ring) → IsRefutation T.ring a b y → ¬ IsSolution T.ring a x b }
 {}
 
-/// If there are as many pivots as columns, all solutions of a system have the same values.
+/// If there are as many pivots as columns, all solutions of a system have the same values (Golub and Van Loan, Matrix
+/// Computations, chapter 3).
 pub fn solution_law<T: Units>()
     ensures { (a l u x y b : Plain T.ring) (p q : List ℕ)
         → IsLu T.ring T.value a l u p q a.cols

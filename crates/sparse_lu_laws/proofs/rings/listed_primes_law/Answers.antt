@@ -1,5 +1,6 @@
 use Rattle.sparse_lu_laws.proofs.ListedPrimes.{prime_2, prime_3, prime_5, prime_7, prime_11}
-use Rattle.sparse_lu_laws.proofs.ListedPrimes.{prime_13, prime_101, prime_65537, prime_998244353, prime_1000000007}
+use Rattle.sparse_lu_laws.proofs.ListedPrimes.{prime_13, prime_101, prime_65537, prime_998244353}
+use Rattle.sparse_lu_laws.proofs.ListedPrimes.{prime_1000000007, prime_2305843009213693951}
 use Rattle.sparse_lu_laws.proofs.rings.listed_primes_law.Goals as goal
 
 pub returns-clause-p2 : goal.returns-clause-p2
@@ -31,3 +32,6 @@ returns-clause-p998244353 c = prime_998244353
 
 pub returns-clause-p1000000007 : goal.returns-clause-p1000000007
 returns-clause-p1000000007 c = prime_1000000007
+
+pub returns-clause-p2305843009213693951 : goal.returns-clause-p2305843009213693951
+returns-clause-p2305843009213693951 c = prime_2305843009213693951
