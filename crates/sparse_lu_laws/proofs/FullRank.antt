@@ -1,13 +1,12 @@
 -- With as many pivots as columns, a x = a y only if x = y.
-use Rattle.std.proofs.Common.{◌≡◌, ℕ, ◌<◌, ◌-◌, inl, inr, List, length, get_or, ap, sym, ◌∙◌, subst}
+use Rattle.std.proofs.Common.{◌≡◌, ℕ, ◌<◌, ◌-◌, inl, inr, List, get_or, ap, sym, ◌∙◌}
 use Rattle.std.proofs.Common.{refl, arith}
 use Rattle.std.specs.Prelude.{nat_lt, ◌&&◌}
 use Rattle.sparse_algebra.proofs.Cases.{lt_or_gt}
 use Rattle.sparse_algebra.specs.Algebra.{CommRing}
 use Rattle.sparse_algebra.specs.Sums.{sum_below}
 use Rattle.sparse_algebra.specs.Plain.{Plain, plain_product}
-use Rattle.sparse_algebra.proofs.RingLemmas.{mul_zero}
-use Rattle.sparse_algebra.proofs.SumLemmas.{where_yes, sum_below-none, sum_below-same, product_assoc}
+use Rattle.sparse_algebra.proofs.SumLemmas.{where_yes, sum_below-same, product_assoc}
 use Rattle.sparse_permutation.proofs.Orders.{order_below, order_occurs}
 use Rattle.sparse_permutation.proofs.PermutedPlain.{both_below}
 use Rattle.sparse_permutation.proofs.Reindexing.{sum_below-permuted}
@@ -30,8 +29,7 @@ module _ (R : CommRing) {T : Type 0} (f : T → R.Carrier) {a l u : Plain R} {p 
   unit_at k less = let inverse = lu.factors.units k less in (f inverse.0, inverse.1)
 
   module _ (full : r ≡ a.cols) (d : ℕ → R.Carrier)
-      (null : (i : ℕ) → i < a.rows → sum_below R a.cols (λ k. R.mul (a.value i k) (d k)) ≡ R.zero)
-      where
+      (null : (i : ℕ) → i < a.rows → sum_below R a.cols (λ k. R.mul (a.value i k) (d k)) ≡ R.zero) where
     -- d in the order of the columns of U
     abbrev moved : ℕ → R.Carrier
     moved k = d (get_or q k 0)
@@ -48,8 +46,11 @@ module _ (R : CommRing) {T : Type 0} (f : T → R.Carrier) {a l u : Plain R} {p 
         (sym lu.col_count)
         ∙ sum_below-permuted R lu.col_order (λ k. R.mul (a.value row k) (d k))
         ∙ ap (λ n. sum_below R n (λ k. R.mul (a.value row k) (d k))) lu.col_count
-        ∙ null row (omega (arith, lu.row_count,
-        order_below lu.row_order i (omega (arith, lu.row_count))))
+        ∙ null row (omega (
+          arith,
+          lu.row_count,
+          order_below lu.row_order i (omega (arith, lu.row_count)),
+        ))
 
     -- so U d is zero
     upper_null : (i : ℕ) → i < r

@@ -1,21 +1,27 @@
 -- Lucas's test for primes: m is prime if a ^ (m - 1) = 1 modulo m, and a ^ ((m - 1) / q) - 1 has an inverse modulo m for
 -- each prime q that divides m - 1.
 use Rattle.std.proofs.Common.{◌≡◌, ◌≢◌, ℕ, zero, suc, ◌+◌, ◌*◌, ◌/◌, ◌%◌, ◌^◌, ◌<◌, ◌≤◌, inl, inr}
-use Rattle.std.proofs.Common.{List, [], ◌∷◌, ap, sym, ◌∙◌, subst, refl, arith}
+use Rattle.std.proofs.Common.{List, [], ◌∷◌, ap, sym, ◌∙◌, subst, arith}
+use Rattle.std.specs.Prelude.{Bool, true, nat_eq}
 use Rattle.std.specs.Int.{◌∣◌}
+use Rattle.std.specs.List.{list_all}
 use Rattle.std.proofs.Math.Nat.{div-add-mod', div-le_self, dvd-add_iff_right, dvd-mul_right}
 use Rattle.std.proofs.Math.Nat.{dvd-mul_right_of_dvd, dvd_of_mod-eq-zero, eq-one_of_dvd-one}
-use Rattle.std.proofs.Math.Nat.{eq-zero_of_zero-dvd, mod-eq-zero_of_dvd, mod-eq_of_lt, mod-lt, zero-mod}
+use Rattle.std.proofs.Math.Nat.{eq-zero_of_zero-dvd, mod-eq-zero_of_dvd, mod-eq_of_lt, mod-lt}
+use Rattle.std.proofs.Math.Nat.{zero-mod}
 use Rattle.std.proofs.lemmas.Bool.{cases_eq}
+use Rattle.std.proofs.lemmas.Bool.Decides.{Decides-eqb}
 use Rattle.std.proofs.lemmas.Nat.Gcd.{le_of_dvd}
 use Rattle.sparse_algebra.specs.Algebra.{CommRing}
 use Rattle.sparse_algebra.specs.Moduli.{modulus, mod_class, mod_ring}
 use Rattle.sparse_algebra.specs.Residues.{mul-mod_left}
+use Rattle.sparse_algebra.proofs.Cases.{and_parts}
 use Rattle.sparse_algebra.proofs.ModClasses.{mod_class_add, mod_same}
 use Rattle.sparse_algebra.proofs.RingLemmas.{zero_mul}
 use Rattle.sparse_lu_laws.specs.Primes.{IsPrime}
 use Rattle.sparse_lu_laws.proofs.Orders.{HasFullOrder, more_residues}
 use Rattle.sparse_lu_laws.proofs.Powers.{power, power_suc, power_modulo, power_modulo_class}
+use Rattle.sparse_lu_laws.proofs.TrialDivision.{is_small_prime, small_prime}
 use Rattle.sparse_lu_laws.proofs.PrimeFields.{class_inverse, one_not_zero}
 
 -- ---- the primes that divide a product of primes
@@ -23,10 +29,6 @@ use Rattle.sparse_lu_laws.proofs.PrimeFields.{class_inverse, one_not_zero}
 abbrev pub product : List ℕ → ℕ
 product [] = 1
 product (q ∷ qs) = q * product qs
-
-abbrev pub Each : (ℕ → Type 0) → List ℕ → Type 0
-Each P [] = Unit {0}
-Each P (q ∷ qs) = P q × Each P qs
 
 -- if the prime q does not divide t, then t divides s if it divides q s
 prime_cancels : (q t s : ℕ) → IsPrime q → t % q ≢ 0 → t ∣ q * s → t ∣ s
@@ -46,30 +48,43 @@ prime_cancels q t s prime other divides =
     (subst (λ x. t ∣ x) sum (dvd-mul_right t (y * s)))
 
 -- a divisor above one of a product of primes is divisible by one of them
-prime_among : (P : ℕ → Type 0) (qs : List ℕ) (t : ℕ) → Each (λ q. IsPrime q × P q) qs
-    → t ∣ product qs → 1 < t → (q : ℕ) × (q ∣ t) × P q
-prime_among P [] t each divides more = absurd (omega (arith, eq-one_of_dvd-one divides))
-prime_among P (q ∷ qs) t each divides more = elim (cases_eq (t % q) 0) [
-  | inl none ↦ (q, dvd_of_mod-eq-zero q none, each.0.1)
-  | inr other ↦ prime_among P qs t each.1
-      (prime_cancels q t (product qs) each.0.0 other divides) more
-]
+prime_among : (pass : ℕ → Bool) (qs : List ℕ) (t : ℕ) → list_all is_small_prime qs ≡ true
+    → list_all pass qs ≡ true → t ∣ product qs → 1 < t
+    → (q : ℕ) × (q ∣ t) × (pass q ≡ true)
+prime_among pass [] t primes passed divides more =
+    absurd (omega (arith, eq-one_of_dvd-one divides))
+prime_among pass (q ∷ qs) t primes passed divides more =
+    let prime = and_parts (is_small_prime q) (list_all is_small_prime qs) primes in
+    let both = and_parts (pass q) (list_all pass qs) passed in
+    elim (cases_eq (t % q) 0) [
+      | inl none ↦ (q, dvd_of_mod-eq-zero q none, both.0)
+      | inr other ↦ prime_among pass qs t prime.1 both.1
+          (prime_cancels q t (product qs) (small_prime q prime.0) other divides) more
+    ]
 
 -- ---- the test
 
--- a ^ (n / q) - 1 to the power n is one modulo n + 1, where n stands for -1
-abbrev pub IsTested : ℕ → ℕ → ℕ → ℕ → Type 0
-IsTested n a k q = power_modulo (suc n) (power_modulo (suc n) a k (n / q) + n) k n ≡ 1
+-- whether a ^ (n / q) - 1 to the power n is one modulo n + 1, where n stands for -1
+unfoldable pub passes : ℕ → ℕ → ℕ → ℕ → Bool
+passes n a k q = nat_eq (power_modulo (suc n) (power_modulo (suc n) a k (n / q) + n) k n) 1
+
+passed_power : (n a k q : ℕ) → passes n a k q ≡ true
+    → power_modulo (suc n) (power_modulo (suc n) a k (n / q) + n) k n ≡ 1
+unfolding passes
+passed_power n a k q test = (Decides-eqb _ 1).0 test
 
 module _ (n a k : ℕ) (some : 0 < n) (fits : n < 2 ^ k) (whole : power_modulo (suc n) a k n ≡ 1)
-    (qs : List ℕ) (factors : product qs ≡ n) (each : Each (λ q. IsPrime q × IsTested n a k q) qs)
-    where
+    (qs : List ℕ) (factors : product qs ≡ n) (primes : list_all is_small_prime qs ≡ true)
+    (passed : list_all (passes n a k) qs ≡ true) where
   module _ (d : ℕ) (above : 1 < d) (divides : d ∣ suc n) where
     abbrev R : CommRing
     R = mod_ring d
 
+    is_modulus : d ≡ modulus d
+    is_modulus = omega arith
+
     modulus_divides : modulus d ∣ suc n
-    modulus_divides = subst (λ x. x ∣ suc n) (let same : d ≡ modulus d = omega arith in same) divides
+    modulus_divides = subst (λ x. x ∣ suc n) is_modulus divides
 
     class_of_modulus : mod_class d (1 + n) ≡ R.zero
     class_of_modulus =
@@ -88,25 +103,26 @@ module _ (n a k : ℕ) (some : 0 < n) (fits : n < 2 ^ k) (whole : power_modulo (
     power_of_zero zero less = absurd (omega arith)
     power_of_zero (suc e) less = power_suc R R.zero e ∙ zero_mul R (power R R.zero e)
 
-    tested_class : (q : ℕ) → IsTested n a k q → power R (mod_class d a) (n / q) ≢ R.one
+    tested_class : (q : ℕ) → passes n a k q ≡ true → power R (mod_class d a) (n / q) ≢ R.one
     tested_class q test one =
         let x = power_modulo (suc n) a k (n / q) in
         let first : mod_class d x ≡ R.one =
         class_of_power a (n / q) (omega (arith, div-le_self n q)) ∙ one in
         let none : mod_class d (x + n) ≡ R.zero = mod_class_add d x n
         ∙ ap (λ c. R.add c (mod_class d n)) first ∙ sym (mod_class_add d 1 n) ∙ class_of_modulus in
-        one_not_zero d above (ap (mod_class d) (sym test) ∙ class_of_power (x + n) n fits
-        ∙ ap (λ c. power R c n) none ∙ power_of_zero n some)
+        one_not_zero d above (ap (mod_class d) (sym (passed_power n a k q test))
+        ∙ class_of_power (x + n) n fits ∙ ap (λ c. power R c n) none ∙ power_of_zero n some)
 
     full_order : HasFullOrder R (mod_class d a) n
     full_order t divisor more =
-        let found = prime_among (IsTested n a k) qs t each
+        let found = prime_among (passes n a k) qs t primes passed
         (subst (λ x. t ∣ x) (sym factors) divisor) more in
         (found.0, found.1, tested_class found.0 found.2)
 
     pub only_whole : d ≡ suc n
     only_whole =
-        let most : d ≤ suc n = le_of_dvd (let positive : 0 < suc n = omega arith in positive) divides in
+        let positive : 0 < suc n = omega arith in
+        let most : d ≤ suc n = le_of_dvd positive divides in
         let least : n < d = more_residues d above (mod_class d a) n whole_class full_order in
         omega arith
 

@@ -40,9 +40,11 @@ module _ (R : CommRing) {T : Type 0} (f : T → R.Carrier) where
 
     first_unit : HasInverse R f (sum_below R s (λ k. R.mul (x 0 k) (y k 0)))
     first_unit =
-        let inverse = h.units 0 (omega arith) in
-        (inverse.0, ap (λ c. R.mul c (f inverse.0)) (first_row 0 (omega arith)
-        ∙ ap (R.mul (l 0 0)) (h.ones 0 (omega arith)) ∙ R.laws.mul_one (l 0 0)) ∙ inverse.1)
+        let inverse = h.units 0 (omega arith) in (
+          inverse.0,
+          ap (λ c. R.mul c (f inverse.0)) (first_row 0 (omega arith)
+              ∙ ap (R.mul (l 0 0)) (h.ones 0 (omega arith)) ∙ R.laws.mul_one (l 0 0)) ∙ inverse.1,
+        )
 
   -- ---- one step, with the term q of the first value
 

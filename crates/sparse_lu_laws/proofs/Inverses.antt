@@ -6,7 +6,7 @@ use Rattle.sparse_algebra.proofs.Cases.{and_both}
 use Rattle.sparse_algebra.specs.Algebra.{CommRing}
 use Rattle.sparse_algebra.specs.Plain.{Plain, plain_identity, plain_product}
 use Rattle.sparse_algebra.proofs.RingLemmas.{mul_zero}
-use Rattle.sparse_algebra.proofs.SumLemmas.{where_yes, where_no, sum_below-same, product_assoc}
+use Rattle.sparse_algebra.proofs.SumLemmas.{where_yes, where_no, product_assoc}
 use Rattle.sparse_dense_ops.proofs.RingSteps.{mul_off}
 use Rattle.sparse_dense_ops.specs.Solutions.{HasSameValues}
 use Rattle.sparse_lu_laws.specs.Lu.{IsLu}

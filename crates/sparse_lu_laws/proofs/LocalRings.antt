@@ -1,12 +1,11 @@
 -- Fields are local rings, and so are the integers modulo a power of two.
-use Rattle.std.proofs.Common.{◌≡◌, ◌≢◌, ℕ, zero, suc, ◌+◌, ◌-◌, ◌*◌, ◌/◌, ◌%◌, ◌^◌, ◌<◌, inl, inr}
-use Rattle.std.proofs.Common.{ap, sym, ◌∙◌, refl, arith, subst}
-use Rattle.std.specs.Int.{cast_unsigned}
+use Rattle.std.proofs.Common.{◌≡◌, ℕ, zero, suc, ◌+◌, ◌-◌, ◌*◌, ◌/◌, ◌%◌, ◌^◌, inl, inr}
+use Rattle.std.proofs.Common.{ap, sym, ◌∙◌, arith, subst}
 use Rattle.std.proofs.lemmas.Int.{of_z-to_z}
 use Rattle.std.proofs.lemmas.Nat.Gcd.{dvd-zero}
 use Rattle.std.specs.Int.{Width, w8, w16, w32, w64, w128, ◌∣◌}
-use Rattle.std.proofs.Math.Nat.{add-mul-mod_self_left, dvd-add, dvd-mod_iff, dvd-mul_right_of_dvd, mod-eq_of_lt}
-use Rattle.std.proofs.Math.Nat.{dvd_of_mod-eq-zero, eq-one_of_dvd-one, pow-suc}
+use Rattle.std.proofs.Math.Nat.{add-mul-mod_self_left, dvd-add, dvd-mod_iff, dvd-mul_right_of_dvd}
+use Rattle.std.proofs.Math.Nat.{dvd_of_mod-eq-zero, eq-one_of_dvd-one, mod-eq_of_lt, pow-suc}
 use Rattle.std.proofs.Math.Pow.{pow_pos}
 use Rattle.std.proofs.lemmas.Bool.{cases_eq}
 use mir.Val.{bits}
@@ -61,9 +60,12 @@ odd_multiple n (suc k) odd =
           (y, t / 2, whole ∙ ap (λ x. 1 + p * x) half ∙ omega (arith, ap (λ x. x * (t / 2)) double))
       | inr other ↦
           let half : t + n ≡ 2 * ((t + n) / 2) = omega arith in
-          let more : n * (y + p) ≡ 1 + p * (t + n) = omega (arith, whole) in
-          (y + p, (t + n) / 2, more ∙ ap (λ x. 1 + p * x) half
-          ∙ omega (arith, ap (λ x. x * ((t + n) / 2)) double))
+          let more : n * (y + p) ≡ 1 + p * (t + n) = omega (arith, whole) in (
+            y + p,
+            (t + n) / 2,
+            more ∙ ap (λ x. 1 + p * x) half
+                ∙ omega (arith, ap (λ x. x * ((t + n) / 2)) double),
+          )
     ]
 
 module _ (w : Width) {T : Type 0} (f : T → Residue (2 ^ bits w))
@@ -75,10 +77,12 @@ module _ (w : Width) {T : Type 0} (f : T → Residue (2 ^ bits w))
   odd_unit c odd =
       let m = 2 ^ bits w in
       let multiple = odd_multiple c.number (bits w) odd in
-      let scalar = represented (residue m (pow_pos (bits w)) multiple.0) in
-      (scalar.0, ap (R.mul c) scalar.1 ∙ same_class m (pow_pos (bits w)) _ _
-      (mul-mod_right c.number multiple.0 m ∙ ap (λ x. x % m) multiple.2
-      ∙ add-mul-mod_self_left 1 m multiple.1))
+      let scalar = represented (residue m (pow_pos (bits w)) multiple.0) in (
+        scalar.0,
+        ap (R.mul c) scalar.1 ∙ same_class m (pow_pos (bits w)) _ _
+            (mul-mod_right c.number multiple.0 m ∙ ap (λ x. x % m) multiple.2
+            ∙ add-mul-mod_self_left 1 m multiple.1),
+      )
 
   unit_odd : (c : Residue (2 ^ bits w)) → HasInverse R f c → ¬ (2 ∣ c.number)
   unit_odd c inverse even =

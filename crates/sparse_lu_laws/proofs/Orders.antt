@@ -1,9 +1,9 @@
 -- An element c with c ^ n = 1, but for no exponent n / q with a divisor q of n, has the n different powers c ^ k with k
 -- below n. So a ring of residues with such an element has more than n residues.
-use Rattle.std.proofs.Common.{◌≡◌, ◌≢◌, ℕ, zero, suc, ◌+◌, ◌-◌, ◌*◌, ◌/◌, ◌%◌, ◌<◌, ◌≤◌, inl, inr}
-use Rattle.std.proofs.Common.{List, length, map, get_or, ap, sym, ◌∙◌, subst, refl, arith}
+use Rattle.std.proofs.Common.{◌≡◌, ◌≢◌, ℕ, ◌-◌, ◌*◌, ◌/◌, ◌<◌, ◌≤◌, inl, inr}
+use Rattle.std.proofs.Common.{List, length, map, get_or, ap, sym, ◌∙◌, subst, arith}
 use Rattle.std.specs.Int.{◌∣◌}
-use Rattle.std.proofs.Math.Nat.{div-mul_cancel, dvd-mul_right, mod-eq_of_lt, mul-div_cancel}
+use Rattle.std.proofs.Math.Nat.{div-mul_cancel, dvd-mul_right, mul-div_cancel}
 use Rattle.std.proofs.Math.Nat.{zero-mod}
 use Rattle.std.proofs.lemmas.List.{get_or-map, length-map}
 use Rattle.std.proofs.lemmas.Nat.Gcd.{le_of_dvd}
@@ -106,8 +106,8 @@ module _ (d : ℕ) (above : 1 < d) (c : Residue (modulus d)) (n : ℕ)
       let less : k < n = omega (arith, count) in
       record {
         below = omega (arith, count, numbers_at k less, number_below k less);
-        new = λ l before same. numbers_apart l k before less (sym (numbers_at l (omega arith)) ∙ same
-            ∙ numbers_at k less);
+        new = λ l before same. numbers_apart l k before less
+            (sym (numbers_at l (omega arith)) ∙ same ∙ numbers_at k less);
       }
 
   pub more_residues : n < d

@@ -1,6 +1,6 @@
 -- The residues modulo a prime are a field.
-use Rattle.std.proofs.Common.{◌≡◌, ◌≢◌, ℕ, zero, suc, ◌+◌, ◌*◌, ◌/◌, ◌%◌, ◌<◌, inl, inr, ap, sym, ◌∙◌}
-use Rattle.std.proofs.Common.{refl, arith}
+use Rattle.std.proofs.Common.{◌≡◌, ◌≢◌, ℕ, zero, suc, ◌*◌, ◌/◌, ◌%◌, ◌<◌, inl, inr, ap, sym, ◌∙◌}
+use Rattle.std.proofs.Common.{arith}
 use Rattle.std.proofs.Math.Nat.{div-add-mod', dvd_of_mod-eq-zero, mod-eq_of_lt, mod-lt, zero-mod}
 use Rattle.std.proofs.lemmas.Bool.{cases_eq}
 use Rattle.sparse_algebra.specs.Algebra.{CommRing}
@@ -62,10 +62,11 @@ module _ (m : ℕ) (prime : IsPrime m) where
         let rest = m % b in
         let smaller : rest < b = mod-lt m some in
         let positive = rest_positive b (omega arith) less in
-        let inverse = class_inverse n rest (omega arith) (omega arith) (omega arith) in
-        (R.neg (R.mul (mod_class m (m / b)) inverse.0),
-        combined_inverse R (mod_class m (m / b)) (mod_class m b) (mod_class m rest) inverse.0
-        (class_of_prime b) inverse.1)
+        let inverse = class_inverse n rest (omega arith) (omega arith) (omega arith) in (
+          R.neg (R.mul (mod_class m (m / b)) inverse.0),
+          combined_inverse R (mod_class m (m / b)) (mod_class m b) (mod_class m rest) inverse.0
+              (class_of_prime b) inverse.1,
+        )
   ]
 
   pub prime-field : IsField R (mod_value {m = m})
@@ -76,8 +77,10 @@ module _ (m : ℕ) (prime : IsPrime m) where
         (none ∙ sym (zero-mod (modulus m)))) in
         let found = class_inverse (suc e.number) e.number (omega arith) (omega arith)
         (omega (arith, e.below, modulus_is)) in
-        let scalar : Mod m = record { number = found.0.number; below = found.0.below } in
-        (scalar, ap (R.mul e) (residue_itself (modulus m) (modulus_pos m) found.0)
-        ∙ ap (λ c. R.mul c found.0) (sym (residue_itself (modulus m) (modulus_pos m) e))
-        ∙ found.1);
+        let scalar : Mod m = record { number = found.0.number; below = found.0.below } in (
+          scalar,
+          ap (R.mul e) (residue_itself (modulus m) (modulus_pos m) found.0)
+              ∙ ap (λ c. R.mul c found.0) (sym (residue_itself (modulus m) (modulus_pos m) e))
+              ∙ found.1,
+        );
   }

@@ -1,11 +1,10 @@
 -- The number of pivots is the rank.
-use Rattle.std.proofs.Common.{◌≡◌, ℕ, ◌<◌, ◌≤◌, inl, inr, true, List, length, get_or, ap, sym, ◌∙◌}
+use Rattle.std.proofs.Common.{◌≡◌, ℕ, ◌<◌, inl, inr, true, List, length, get_or, ap, sym, ◌∙◌}
 use Rattle.std.proofs.Common.{refl, arith}
 use Rattle.sparse_algebra.proofs.Cases.{lt_or_ge}
 use Rattle.sparse_algebra.specs.Algebra.{CommRing}
 use Rattle.sparse_algebra.specs.Sums.{sum_below}
 use Rattle.sparse_algebra.specs.Plain.{Plain}
-use Rattle.sparse_permutation.specs.Permutations.{IsInverse, IsOrder}
 use Rattle.sparse_permutation.proofs.Orders.{order_below, inverse_exists}
 use Rattle.sparse_lu_laws.specs.Lu.{IsLu}
 use Rattle.sparse_lu_laws.specs.Ranks.{IsFactoredThrough, IsLocal, HasRank}
@@ -30,24 +29,27 @@ module _ (R : CommRing) {T : Type 0} (f : T → R.Carrier) {a l u : Plain R} {p 
         cols = a.cols;
         has = λ k j. true;
         value = λ k j. u.value k (get_or back_q.0 j 0);
-      } in
-      (b, c, record {
-        rows = refl;
-        inner_cols = refl;
-        inner_rows = refl;
-        cols = refl;
-        equation = λ i j row col.
-            let count_p = lu.row_count in
-            let count_q = lu.col_count in
-            let in_p : get_or back_p.0 i 0 < length back_p.0 = order_below back_p.2 i
-            (omega (arith, back_p.1.count)) in
-            let in_q : get_or back_q.0 j 0 < length back_q.0 = order_below back_q.2 j
-            (omega (arith, back_q.1.count)) in
-            lu_at R f lu (get_or back_p.0 i 0) (get_or back_q.0 j 0)
-            (omega (arith, back_p.1.count)) (omega (arith, back_q.1.count))
-            ∙ ap (λ n. a.value n (get_or q (get_or back_q.0 j 0) 0))
-            (back_p.1.right i (omega arith)) ∙ ap (a.value i) (back_q.1.right j (omega arith));
-      })
+      } in (
+        b,
+        c,
+        record {
+          rows = refl;
+          inner_cols = refl;
+          inner_rows = refl;
+          cols = refl;
+          equation = λ i j row col.
+              let count_p = lu.row_count in
+              let count_q = lu.col_count in
+              let in_p : get_or back_p.0 i 0 < length back_p.0 = order_below back_p.2 i
+              (omega (arith, back_p.1.count)) in
+              let in_q : get_or back_q.0 j 0 < length back_q.0 = order_below back_q.2 j
+              (omega (arith, back_q.1.count)) in
+              lu_at R f lu (get_or back_p.0 i 0) (get_or back_q.0 j 0)
+              (omega (arith, back_p.1.count)) (omega (arith, back_q.1.count))
+              ∙ ap (λ n. a.value n (get_or q (get_or back_q.0 j 0) 0))
+              (back_p.1.right i (omega arith)) ∙ ap (a.value i) (back_q.1.right j (omega arith));
+        },
+      )
 
   -- the rows p 0 .. p (r - 1) and the columns q 0 .. q (r - 1) of a are a product of triangles
   triangles_product : (s : ℕ) (h : IsFactoredThrough R s a)

@@ -7,15 +7,21 @@ use Rattle.sparse_lu_laws.proofs.rings.wrapping_is_local_law.Goals as goal
 
 pub returns-clause-w32 : goal.returns-clause-w32
 returns-clause-w32 c = wrapping-local w32 w32_value
-    (λ a. (record { number = number_of w32 a; in_range = number_fits w32 a },
-    class_of-number_of w32 a))
+    (λ a. (
+      record { number = number_of w32 a; in_range = number_fits w32 a },
+      class_of-number_of w32 a,
+    ))
 
 pub returns-clause-w64 : goal.returns-clause-w64
 returns-clause-w64 c = wrapping-local w64 w64_value
-    (λ a. (record { number = number_of w64 a; in_range = number_fits w64 a },
-    class_of-number_of w64 a))
+    (λ a. (
+      record { number = number_of w64 a; in_range = number_fits w64 a },
+      class_of-number_of w64 a,
+    ))
 
 pub returns-clause-w128 : goal.returns-clause-w128
 returns-clause-w128 c = wrapping-local w128 w128_value
-    (λ a. (record { number = number_of w128 a; in_range = number_fits w128 a },
-    class_of-number_of w128 a))
+    (λ a. (
+      record { number = number_of w128 a; in_range = number_fits w128 a },
+      class_of-number_of w128 a,
+    ))
