@@ -29,7 +29,8 @@ module _ (R : CommRing) {T : Type 0} (f : T → R.Carrier) {a l u : Plain R} {p 
   unit_at k less = let inverse = lu.factors.units k less in (f inverse.0, inverse.1)
 
   module _ (full : r ≡ a.cols) (d : ℕ → R.Carrier)
-      (null : (i : ℕ) → i < a.rows → sum_below R a.cols (λ k. R.mul (a.value i k) (d k)) ≡ R.zero) where
+      (null : (i : ℕ) → i < a.rows
+      → sum_below R a.cols (λ k. R.mul (a.value i k) (d k)) ≡ R.zero) where
     -- d in the order of the columns of U
     abbrev moved : ℕ → R.Carrier
     moved k = d (get_or q k 0)

@@ -9,11 +9,11 @@ ghost use Rattle.sparse_algebra.specs.WrappingValues.{w32_value, w64_value, w128
 ghost use Rattle.sparse_lu_laws.specs.Primes.{IsPrime};
 ghost use Rattle.sparse_lu_laws.specs.Ranks.{IsField, IsLocal};
 
-use sparse_algebra::scalar::Units;
+use sparse_algebra::scalar::Ring;
 
 /// Every field is a local ring: a sum of zeros is zero (Atiyah and Macdonald, Introduction to Commutative Algebra,
 /// chapter 1).
-pub fn field_is_local_law<T: Units>()
+pub fn field_is_local_law<T: Ring>()
     ensures { IsField T.ring T.value → IsLocal T.ring T.value }
 {}
 
