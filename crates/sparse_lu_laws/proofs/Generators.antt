@@ -1,5 +1,5 @@
--- Lucas's test for primes: m is prime if a ^ (m - 1) = 1 modulo m, and a ^ ((m - 1) / q) - 1 has an inverse modulo m for
--- each prime q that divides m - 1.
+-- Lucas's test for primes: m is prime if a ^ (m - 1) = 1 modulo m, and a ^ ((m - 1) / q) - 1 has an inverse modulo m
+-- for each prime q that divides m - 1.
 use Rattle.std.proofs.Common.{◌≡◌, ◌≢◌, ℕ, zero, suc, ◌+◌, ◌*◌, ◌/◌, ◌%◌, ◌^◌, ◌<◌, ◌≤◌, inl, inr}
 use Rattle.std.proofs.Common.{List, [], ◌∷◌, ap, sym, ◌∙◌, subst, arith}
 use Rattle.std.specs.Prelude.{Bool, true, nat_eq}

@@ -1,4 +1,4 @@
--- With as many pivots as rows and columns, a right inverse is a left inverse: a (x a) = (a x) a = a = a 1, and a cancels.
+-- With as many pivots as rows and columns, a right inverse is a left inverse: a (x a) = (a x) a = a 1, and a cancels.
 use Rattle.std.proofs.Common.{◌≡◌, ◌≢◌, ℕ, ◌<◌, List, ap, sym, ◌∙◌, refl, arith}
 use Rattle.std.specs.Prelude.{nat_eq, nat_lt, ◌&&◌}
 use Rattle.std.proofs.lemmas.Bool.Decides.{Decides-eqb, Decides-ltb, nat_tests}
