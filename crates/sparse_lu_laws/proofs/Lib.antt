@@ -1,0 +1,16 @@
+mod Sums
+mod Refutations
+mod Combinations
+mod Triangles
+mod FullRank
+mod Inverses
+mod Eliminations
+mod InnerSizes
+mod RankBounds
+mod LocalRings
+mod PrimeFields
+mod TrialDivision
+mod ListedPrimes
+mod Powers
+mod Orders
+mod Generators

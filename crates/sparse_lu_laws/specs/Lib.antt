@@ -1,0 +1,5 @@
+pub mod Lu
+pub mod Ranks
+pub mod Kernels
+pub mod Refutations
+pub mod Primes
