@@ -1,4 +1,5 @@
-use Rattle.std.proofs.Common.{inr}
+use Rattle.std.proofs.Common.{ap, inr}
+use Rattle.sparse_parser.specs.Errors.{kind_of_cause}
 use Rattle.sparse_io.proofs.LineRuns.{fault_is}
 use Rattle.sparse_io.proofs.Parts.{read_no_header, read_header, Gives-along}
 use Rattle.sparse_io.proofs.reader.document.Goals as goal
@@ -7,7 +8,7 @@ pub returns-in-None : goal.returns-in-None
 returns-in-None g c =
     inr (fault_is (read_no_header g.T.MatrixMarketScalar.scalar c.args.text.now _ _ _
     c.after_space.ensures c.split_line.ensures.line c.split_line.ensures.rest c.in-None.ensures)
-    c.new.ensures)
+    (ap kind_of_cause c.new.ensures))
 
 pub returns-in-Some : goal.returns-in-Some
 returns-in-Some g c =

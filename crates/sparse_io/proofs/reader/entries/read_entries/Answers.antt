@@ -1,5 +1,6 @@
 use Rattle.std.proofs.Common.{map, ◌≢◌, length, refl, sym, ap, ◌∙◌, inr, arith}
 use Rattle.std.proofs.lemmas.Bool.{eqb-true, eqb-false}
+use Rattle.sparse_parser.specs.Errors.{kind_of_cause}
 use Rattle.sparse_parser.specs.Reads.{read_as}
 use Rattle.sparse_parser.specs.Meaning.{triplets_of, value_triplet, values_of}
 use Rattle.sparse_parser.specs.InnerReading.{line_words}
@@ -23,7 +24,7 @@ returns-in_default g c =
     inr (fault_is (read_refused g.T.MatrixMarketScalar.scalar c.args.header
     (c.args.size.rows, c.args.size.cols, c.args.size.count) c.loop-rest.invariant
     (line_refused c.loop-rest.rest.now c.loop-rest.invariant.begins (omega arith)
-    c.in_default.ensures)) c.new.ensures)
+    c.in_default.ensures)) (ap kind_of_cause c.new.ensures))
 
 pub returns-in-Err : goal.returns-in-Err
 returns-in-Err g c =
