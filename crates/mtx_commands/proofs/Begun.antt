@@ -20,6 +20,7 @@ use Rattle.sparse_expr.specs.declared.error.ExprError.{ExprError}
 use Rattle.sparse_expr.specs.declared.error.ExprError.TheVariants.{Input, Write, OutOfMemory}
 use Rattle.sparse_expr.specs.declared.error.ExprError.TheVariants.{NoSuchInput, Shape}
 use Rattle.sparse_expr.specs.declared.expr.Expr.{Expr}
+use Rattle.file_readings.specs.Readings.{Reading}
 use Rattle.mtx_commands.specs.Commands.{IsAnswered}
 use Rattle.mtx_commands.specs.Fills.{WritesPattern}
 use Rattle.mtx_commands.specs.Writes.{HasBegun}
@@ -130,8 +131,9 @@ begun_pattern pattern matrix old new has part = HasBegun-text old new _
 
 -- ---- after a flush
 
-module _ (words : List (List ℕ)) (old mid new : Option (List ℕ)) where
-  pub IsAnswered-kept : IsAnswered words old mid → Keeps mid new → IsAnswered words old new
+module _ (words : List (List ℕ)) (before after : List Reading) (old mid new : Option (List ℕ)) where
+  pub IsAnswered-kept : IsAnswered words before after old mid → Keeps mid new
+      → IsAnswered words before after old new
   IsAnswered-kept (inl (form, h)) then =
       let value = h.evaluated.written in
       inl (
@@ -155,25 +157,30 @@ module _ (words : List (List ℕ)) (old mid new : Option (List ℕ)) where
         },
       )
   IsAnswered-kept (inr h) then =
-      let filled = h.filled in
+      let (text, read, filled) = h.filled in
       inr (record {
         triangle = h.triangle;
         path = h.path;
         asked = h.asked;
-        filled = record {
-          symbolic = filled.symbolic;
-          read = filled.read;
-          factor = filled.factor;
-          written = record {
-            matrix = filled.written.matrix;
-            has = filled.written.has;
-            appended = Appends-kept old mid new _ filled.written.appended then;
-          };
-        };
+        filled = (
+          text,
+          read,
+          record {
+            symbolic = filled.symbolic;
+            read = filled.read;
+            factor = filled.factor;
+            written = record {
+              matrix = filled.written.matrix;
+              has = filled.written.has;
+              appended = Appends-kept old mid new _ filled.written.appended then;
+            };
+          },
+        );
       })
 
-  pub HasBegun-answered : IsAnswered words old mid → Keeps mid new
-      → HasBegun (IsAnswered words) old new
+  pub HasBegun-answered : IsAnswered words before after old mid → Keeps mid new
+      → HasBegun (IsAnswered words before after) old new
   HasBegun-answered (inl (form, h)) then = HasBegun-whole old mid new _ (inl (form, h))
       h.evaluated.written.appended then
-  HasBegun-answered (inr h) then = HasBegun-whole old mid new _ (inr h) h.filled.written.appended then
+  HasBegun-answered (inr h) then =
+      HasBegun-whole old mid new _ (inr h) h.filled.2.written.appended then

@@ -3,3 +3,4 @@ mod Unwritten
 mod Failures
 mod Begun
 mod Usage
+mod Ended

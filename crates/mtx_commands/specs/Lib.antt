@@ -3,4 +3,6 @@ pub mod TripletPatterns
 pub mod Inputs
 pub mod Writes
 pub mod Fills
+pub mod Failures
 pub mod Reports
+pub mod Outcomes

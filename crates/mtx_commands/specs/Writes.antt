@@ -22,11 +22,6 @@ IsUnwritten before after last (Refused OutOfMemory) = after ≡ before
 IsUnwritten before after last (Refused (Write kind)) = (after ≡ before + 1) × (last ≡ Some kind)
 IsUnwritten before after last failure = ⊥
 
--- the failure is a failed write exactly if a write failed: the last one, and with this kind
-abbrev pub NamesWrite : ℕ → ℕ → Option ErrorKind → Failure → Type 0
-NamesWrite before after last (Refused (Write kind)) = (after ≡ before + 1) × (last ≡ Some kind)
-NamesWrite before after last failure = after ≡ before
-
 -- a prefix of a text was appended with which the whole output would be an answer
 pub record WritesPart (Answer : Option (List ℕ) → Option (List ℕ) → Type 0) (old new : Option (List ℕ)) :
     Type 0 where

@@ -1,21 +1,26 @@
 //! Runs the command that the arguments of `mtx` give, and returns the program's exit status.
 
-ghost use Rattle.std.specs.Prelude.{◌≡◌, ◌≢◌, ◌≤◌, IfOk, IfErr, IsTrue, Err, drop, map};
-ghost use Rattle.std.specs.Prelude.{string_bytes};
+ghost use Rattle.std.specs.Prelude.{◌≡◌, ◌≢◌, ◌≤◌, ◌⊎◌, IfOk, IfErr, IsTrue, Err, List, [], drop};
+ghost use Rattle.std.specs.Prelude.{length, map, string_bytes};
 ghost use Rattle.std.specs.IoError.{error_kind};
 ghost use Rattle.std.specs.Process.{exit_status};
 ghost use Rattle.std.specs.Vec.Iter.{into_iter_items};
 ghost use Rattle.nalgebra_sparse.specs.PostfixWords.{texts};
+ghost use Rattle.nalgebra_sparse.specs.Run.{effect};
 ghost use Rattle.sparse_expr.specs.declared.error.ExprError.TheVariants.{OutOfMemory};
-ghost use Rattle.mtx_commands.specs.Commands.{status_of, argument_fault, IsAnswered, IsCommand};
+ghost use Rattle.file_readings.specs.Readings.{Reading};
+ghost use Rattle.mtx_commands.specs.Commands.{status_of, argument_fault, IsCommand};
+ghost use Rattle.mtx_commands.specs.Outcomes.{EndsProgram};
 ghost use Rattle.mtx_commands.specs.Reports.{IsReported};
-ghost use Rattle.mtx_commands.specs.Writes.{HasBegun};
 ghost use Rattle.mtx_commands.specs.declared.cli.Failure.TheVariants.{Refused};
 
-use crate::cli::{Failure, command, finish, report, views_of};
+use crate::cli::{Failure, command_over, finish};
+use crate::error_lines::report;
+use crate::inputs::Inputs;
+use file_readings::Texts;
 use nalgebra_sparse::expr::ExprError;
 use nalgebra_sparse::io::{Out, Sink};
-use std::alloc::Global;
+use std::alloc::{AllocError, Global};
 use std::env::Args;
 use std::io;
 use std::process::ExitCode;
@@ -26,8 +31,8 @@ use std::rt::Files;
 ///
 /// The first argument is the program's name. An argument that is not UTF-8 is wrong usage. At status 0 the result was
 /// written and the output flushed; a failed flush is reported as a failed write. At another status nothing or a part of
-/// the result was written, and a line to `err`, unless a write of it failed. The status is 2 only if the arguments are
-/// not a command.
+/// the result was written, and a line to `err`, unless a write of it failed. The status is 2 exactly if the arguments
+/// are not a command, unless an allocation failed before they were compared with the commands.
 pub fn answer<R, W, E>(
     rt: &R,
     arguments: io::Result<Args>,
@@ -39,24 +44,32 @@ where
     W: io::Write,
     E: Sink,
     ensures status { exit_status result ≤ 2 }
-    ensures answered { IfOk arguments (λ words. exit_status result ≡ 0
-        → IsAnswered (drop 1 (map string_bytes (into_iter_items words)))
-        (W.contents out.old.inner) (W.contents out.new.inner)) }
-    ensures begun { IfOk arguments (λ words. exit_status result ≢ 0
-        → HasBegun (IsAnswered (drop 1 (map string_bytes (into_iter_items words))))
-        (W.contents out.old.inner) (W.contents out.new.inner)) }
+    ensures ended { IfOk arguments (λ words. (after : List Reading)
+        × EndsProgram (drop 1 (map string_bytes (into_iter_items words))) [] after
+        (effect (W.contents out.old.inner) (W.contents out.new.inner)
+        out.old.failures out.new.failures out.new.last)
+        (effect (E.accepted err.old) (E.accepted err.new)
+        (E.failures err.old) (E.failures err.new) (E.last err.new)) (exit_status result)) }
     ensures usage { IfOk arguments (λ words. exit_status result ≡ 2
         → ¬ IsCommand (drop 1 (map string_bytes (into_iter_items words)))) }
+    ensures no_command { IfOk arguments (λ words.
+        ¬ IsCommand (drop 1 (map string_bytes (into_iter_items words)))
+        → (exit_status result ≡ 2) ⊎ ((exit_status result ≡ 1)
+        × IsReported (Refused OutOfMemory) (E.accepted err.old) (E.accepted err.new)
+        (E.failures err.old) (E.failures err.new))) }
     ensures flushed { exit_status result ≡ 0 → IsTrue out.new.flushed }
     ensures silent { exit_status result ≡ 0 → E.accepted err.new ≡ E.accepted err.old }
-    ensures reported { exit_status result ≢ 0 → IsReported (E.accepted err.old) (E.accepted err.new)
-        (E.failures err.old) (E.failures err.new) }
     ensures unanswered { exit_status result ≡ 2
         → W.contents out.new.inner ≡ W.contents out.old.inner }
     ensures unread { IfErr arguments
         (λ e. exit_status result ≡ status_of (argument_fault (error_kind e))) }
+    ensures unread_reported { IfErr arguments (λ e. IsReported (argument_fault (error_kind e))
+        (E.accepted err.old) (E.accepted err.new) (E.failures err.old) (E.failures err.new)) }
+    ensures unread_unanswered { IfErr arguments
+        (λ _. W.contents out.new.inner ≡ W.contents out.old.inner) }
 {
-    exit_code(run_args(rt, arguments, out, err))
+    let mut inputs = Inputs::new(rt);
+    exit_code(run_args(rt.alloc(), &mut inputs, arguments, out, err))
 }
 
 // Returns an exit status in the type of the runtime.
@@ -68,59 +81,89 @@ fn exit_code(status: u8) -> ExitCode
 
 // Runs the command that the arguments give, reports a failure, and returns the status. At status 0 the output was
 // flushed.
-fn run_args<R, W, E>(rt: &R, arguments: io::Result<Args>, out: &mut Out<W>, err: &mut E) -> u8
+fn run_args<T, W, E>(
+    alloc: Global,
+    inputs: &mut T,
+    arguments: io::Result<Args>,
+    out: &mut Out<W>,
+    err: &mut E,
+) -> u8
 where
-    R: Files + AllocGlobal,
+    T: Texts,
     W: io::Write,
     E: Sink,
     ensures status { result ≤ 2 }
-    ensures answered { IfOk arguments (λ words. result ≡ 0
-        → IsAnswered (drop 1 (map string_bytes (into_iter_items words)))
-        (W.contents out.old.inner) (W.contents out.new.inner)) }
-    ensures begun { IfOk arguments (λ words. result ≢ 0
-        → HasBegun (IsAnswered (drop 1 (map string_bytes (into_iter_items words))))
-        (W.contents out.old.inner) (W.contents out.new.inner)) }
+    ensures ended { IfOk arguments (λ words.
+        EndsProgram (drop 1 (map string_bytes (into_iter_items words)))
+        (T.readings inputs.old) (T.readings inputs.new)
+        (effect (W.contents out.old.inner) (W.contents out.new.inner)
+        out.old.failures out.new.failures out.new.last)
+        (effect (E.accepted err.old) (E.accepted err.new)
+        (E.failures err.old) (E.failures err.new) (E.last err.new)) result) }
     ensures usage { IfOk arguments (λ words. result ≡ 2
         → ¬ IsCommand (drop 1 (map string_bytes (into_iter_items words)))) }
+    ensures no_command { IfOk arguments (λ words.
+        ¬ IsCommand (drop 1 (map string_bytes (into_iter_items words)))
+        → (result ≡ 2) ⊎ ((result ≡ 1) × IsReported (Refused OutOfMemory) (E.accepted err.old)
+        (E.accepted err.new) (E.failures err.old) (E.failures err.new))) }
     ensures flushed { result ≡ 0 → IsTrue out.new.flushed }
     ensures silent { result ≡ 0 → E.accepted err.new ≡ E.accepted err.old }
-    ensures reported { result ≢ 0 → IsReported (E.accepted err.old) (E.accepted err.new)
-        (E.failures err.old) (E.failures err.new) }
     ensures unanswered { result ≡ 2 → W.contents out.new.inner ≡ W.contents out.old.inner }
     ensures unread { IfErr arguments (λ e. result ≡ status_of (argument_fault (error_kind e))) }
+    ensures unread_reported { IfErr arguments (λ e. IsReported (argument_fault (error_kind e))
+        (E.accepted err.old) (E.accepted err.new) (E.failures err.old) (E.failures err.new)) }
+    ensures unread_unanswered { IfErr arguments
+        (λ _. W.contents out.new.inner ≡ W.contents out.old.inner) }
 {
-    match given_words(rt.alloc(), arguments) {
-        Ok(words) => run_words(rt, &words, out, err),
-        Err(failure) => report(rt.alloc(), failure, err),
+    match given_words(alloc, arguments) {
+        Ok(words) => run_words(alloc, inputs, &words, out, err),
+        Err(failure) => report(alloc, failure, err),
     }
 }
 
 // Runs the command that the arguments give, of which the first is the program's name. At status 0 the output was
 // flushed.
-fn run_words<R, W, E>(rt: &R, words: &[String], out: &mut Out<W>, err: &mut E) -> u8
+fn run_words<T, W, E>(
+    alloc: Global,
+    inputs: &mut T,
+    words: &[String],
+    out: &mut Out<W>,
+    err: &mut E,
+) -> u8
 where
-    R: Files + AllocGlobal,
+    T: Texts,
     W: io::Write,
     E: Sink,
     ensures status { result ≤ 2 }
-    ensures answered { result ≡ 0 → IsAnswered (drop 1 (map string_bytes words.now))
-        (W.contents out.old.inner) (W.contents out.new.inner) }
-    ensures begun { result ≢ 0 → HasBegun (IsAnswered (drop 1 (map string_bytes words.now)))
-        (W.contents out.old.inner) (W.contents out.new.inner) }
+    ensures ended { EndsProgram (drop 1 (map string_bytes words.now))
+        (T.readings inputs.old) (T.readings inputs.new)
+        (effect (W.contents out.old.inner) (W.contents out.new.inner)
+        out.old.failures out.new.failures out.new.last)
+        (effect (E.accepted err.old) (E.accepted err.new)
+        (E.failures err.old) (E.failures err.new) (E.last err.new)) result }
     ensures usage { result ≡ 2 → ¬ IsCommand (drop 1 (map string_bytes words.now)) }
+    ensures no_command { ¬ IsCommand (drop 1 (map string_bytes words.now))
+        → (result ≡ 2) ⊎ ((result ≡ 1) × IsReported (Refused OutOfMemory) (E.accepted err.old)
+        (E.accepted err.new) (E.failures err.old) (E.failures err.new)) }
     ensures flushed { result ≡ 0 → IsTrue out.new.flushed }
     ensures silent { result ≡ 0 → E.accepted err.new ≡ E.accepted err.old }
-    ensures reported { result ≢ 0 → IsReported (E.accepted err.old) (E.accepted err.new)
-        (E.failures err.old) (E.failures err.new) }
     ensures unanswered { result ≡ 2 → W.contents out.new.inner ≡ W.contents out.old.inner }
 {
-    let Ok(views) = views_of(rt.alloc(), words) else {
-        return report(rt.alloc(), Failure::Refused(ExprError::OutOfMemory), err);
+    let Ok(views) = views_of(alloc, words) else {
+        return report(alloc, Failure::Refused(ExprError::OutOfMemory), err);
     };
-    match command(rt, after_name(&views), out, err) {
-        0 => finish(rt.alloc(), out, err),
+    match command_over(alloc, inputs, after_name(&views), out, err) {
+        0 => finish(alloc, out, err),
         status => status,
     }
+}
+
+// Returns the strings as a list of `&str`.
+fn views_of(alloc: Global, strings: &[String]) -> Result<Vec<&str>, AllocError>
+    ensures one_each { IfOk result (λ views. length views.items ≡ length strings.now) }
+    ensures same { IfOk result (λ views. texts views.items ≡ map string_bytes strings.now) }
+{
+    strings.iter().map(|text| text.as_str()).collect(alloc)
 }
 
 // Returns the words after the program's name, which is the first.

@@ -1,18 +1,23 @@
 //! The command `mtx fill`: the fill of the Cholesky factor of a pattern.
 
 ghost use Rattle.std.specs.Prelude.{◌≡◌, ◌≢◌, ℕ, ◌<◌, ◌↔◌, ◌⊎◌};
-ghost use Rattle.std.specs.Prelude.{All, Err, IfOk, IfErr, OnOk, OnErr, length};
+ghost use Rattle.std.specs.Prelude.{All, Err, IfOk, IfErr, OnOk, OnErr, length, string_bytes};
 ghost use Rattle.nalgebra_sparse.specs.Raw.{IsValid, IsEntry};
+ghost use Rattle.nalgebra_sparse.specs.Run.{effect};
 ghost use Rattle.nalgebra_sparse.specs.Symbolic.{IsFactorOf};
-ghost use Rattle.mtx_commands.specs.Fills.{IsRead, HasOblong, WritesPattern, WritesFill};
+ghost use Rattle.file_readings.specs.Reads.{ReadsOne};
+ghost use Rattle.mtx_commands.specs.Failures.{IsUnfilled};
+ghost use Rattle.mtx_commands.specs.Fills.{IsFillFault, MeansOblong, MeansPattern, WritesPattern};
+ghost use Rattle.mtx_commands.specs.Fills.{WritesFill};
 ghost use Rattle.mtx_commands.specs.TripletPatterns.{HasTriplet, HasOneEntryPerLane, AreNumbersTo};
 ghost use Rattle.sparse_expr.specs.declared.error.ExprError.TheVariants.{OutOfMemory};
 ghost use Rattle.mtx_commands.specs.Inputs.{IsMisread};
-ghost use Rattle.mtx_commands.specs.Writes.{write_fault, HasBegun, IsUnwritten, NamesWrite};
-ghost use Rattle.mtx_commands.specs.declared.cli.Failure.TheVariants.{Usage, NotSquare, Refused};
+ghost use Rattle.mtx_commands.specs.Writes.{write_fault, HasBegun, IsUnwritten};
+ghost use Rattle.mtx_commands.specs.declared.cli.Failure.TheVariants.{NotSquare, Refused};
 
 use crate::cli::Failure;
-use crate::inputs::read_triplets;
+use crate::inputs::{read_text, triplets_of};
+use file_readings::Texts;
 use nalgebra_sparse::expr::ExprError;
 use nalgebra_sparse::factorization::{CscSymbolicCholesky, Triangle};
 use nalgebra_sparse::io::{MatrixMarketErrorKind, Sink, save_to_matrix_market};
@@ -20,45 +25,70 @@ use nalgebra_sparse::ops::serial::spmm_csr_pattern;
 use nalgebra_sparse::pattern::SparsityPattern;
 use nalgebra_sparse::{CooMatrix, CscMatrix};
 use std::alloc::{AllocError, Global};
-use std::rt::Files;
 
 /// Reads the pattern of the matrix in a file, and writes the pattern of the Cholesky factor of this triangle of it,
 /// column by column.
 ///
 /// # Errors
 ///
-/// Returns `NotSquare` if the matrix is not square, and `Refused` if the file cannot be read, a write fails or an
-/// allocation fails.
-#[tactic(auto, using(crate::proofs::Failures::write_named_pattern, crate::proofs::Failures::write_named_unwritten, crate::proofs::Begun::not_begun))]
-pub fn fill<R, W>(rt: &R, triangle: Triangle, path: &str, out: &mut W) -> Result<(), Failure>
+/// Returns `NotSquare` if the matrix is not square, and `Refused` if the file cannot be read, its text is not that of a
+/// pattern, a write fails or an allocation fails.
+pub(crate) fn fill<T, W>(
+    alloc: Global,
+    inputs: &mut T,
+    triangle: Triangle,
+    path: &str,
+    out: &mut W,
+) -> Result<(), Failure>
 where
-    R: Files + AllocGlobal,
+    T: Texts,
     W: Sink,
-    ensures filled { OnOk result (WritesFill triangle (W.accepted out.old) (W.accepted out.new)) }
-    ensures begun { OnErr result
-        (HasBegun (WritesFill triangle) (W.accepted out.old) (W.accepted out.new)) }
+    ensures filled { OnOk result (ReadsOne path.now
+        (λ text. WritesFill triangle text (W.accepted out.old) (W.accepted out.new))
+        (T.readings inputs.old) (T.readings inputs.new)) }
+    ensures begun { OnErr result (HasBegun
+        (λ old new. ReadsOne path.now (λ text. WritesFill triangle text old new)
+        (T.readings inputs.old) (T.readings inputs.new))
+        (W.accepted out.old) (W.accepted out.new)) }
     ensures unfailed { OnOk result (W.failures out.new ≡ W.failures out.old) }
-    ensures refused { IfErr result (λ e. e ≡ Usage → ⊥) }
-    ensures not_square { IfErr result (λ e. e ≡ NotSquare → HasOblong) }
-    ensures writes { IfErr result
-        (NamesWrite (W.failures out.old) (W.failures out.new) (W.last out.new)) }
+    ensures failed { IfErr result (IsUnfilled path.now (T.readings inputs.old)
+        (T.readings inputs.new) (effect (W.accepted out.old) (W.accepted out.new)
+        (W.failures out.old) (W.failures out.new) (W.last out.new))) }
 {
-    let pattern = read_pattern(rt, path)?;
-    let factor = factor_of(rt.alloc(), pattern, triangle)?;
-    write_pattern(rt.alloc(), factor.l_pattern(), out)
+    let text = read_text(inputs, 1, path)?;
+    fill_text(alloc, triangle, text, out)
 }
 
-// Reads the pattern of the matrix in a file, which must be square, by columns.
-fn read_pattern<R: Files + AllocGlobal>(rt: &R, path: &str) -> Result<SparsityPattern, Failure>
-    ensures square { IfOk result (λ p. p.major_dim ≡ p.minor_dim) }
-    ensures read { IfOk result IsRead }
-    ensures refused { IfErr result (λ e. e ≡ Usage → ⊥) }
-    ensures unread { IfErr result
-        (λ e. (e ≡ Refused OutOfMemory) ⊎ ((e ≡ NotSquare) ⊎ IsMisread e)) }
-    ensures not_square { IfErr result (λ e. e ≡ NotSquare → HasOblong) }
+// Writes the pattern of the factor of this triangle of the pattern that a text means.
+fn fill_text<W: Sink>(
+    alloc: Global,
+    triangle: Triangle,
+    text: String,
+    out: &mut W,
+) -> Result<(), Failure>
+    ensures filled { OnOk result
+        (WritesFill triangle (string_bytes text) (W.accepted out.old) (W.accepted out.new)) }
+    ensures begun { OnErr result (HasBegun (WritesFill triangle (string_bytes text))
+        (W.accepted out.old) (W.accepted out.new)) }
+    ensures unfailed { OnOk result (W.failures out.new ≡ W.failures out.old) }
+    ensures failed { IfErr result (IsFillFault (string_bytes text)
+        (effect (W.accepted out.old) (W.accepted out.new)
+        (W.failures out.old) (W.failures out.new) (W.last out.new))) }
 {
-    let triplets = read_triplets(rt, path)?;
-    square_pattern_of(rt.alloc(), &triplets)
+    let pattern = pattern_in(alloc, text)?;
+    let factor = factor_of(alloc, pattern, triangle)?;
+    write_pattern(alloc, factor.l_pattern(), out)
+}
+
+// Returns the pattern by columns that a text means, which must be square.
+fn pattern_in(alloc: Global, text: String) -> Result<SparsityPattern, Failure>
+    ensures square { IfOk result (λ p. p.major_dim ≡ p.minor_dim) }
+    ensures meant { IfOk result (MeansPattern (string_bytes text)) }
+    ensures refused { IfErr result (λ e. IsMisread (string_bytes text) e
+        ⊎ (((e ≡ NotSquare) × MeansOblong (string_bytes text)) ⊎ (e ≡ Refused OutOfMemory))) }
+{
+    let triplets = triplets_of(alloc, text)?;
+    square_pattern_of(alloc, &triplets)
 }
 
 // Returns the pattern by columns of a list of triplets. If the list is not square, nothing is allocated.
@@ -89,8 +119,6 @@ fn write_pattern<W: Sink>(
     ensures begun { OnErr result
         (HasBegun (WritesPattern pattern.now) (W.accepted out.old) (W.accepted out.new)) }
     ensures unfailed { OnOk result (W.failures out.new ≡ W.failures out.old) }
-    ensures refused { IfErr result (λ e. e ≡ Usage → ⊥) }
-    ensures square { IfErr result (λ e. e ≡ NotSquare → ⊥) }
     ensures unwritten { IfErr result
         (IsUnwritten (W.failures out.old) (W.failures out.new) (W.last out.new)) }
 {

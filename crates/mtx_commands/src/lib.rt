@@ -3,8 +3,10 @@
 
 mod arguments;
 mod cli;
+mod error_lines;
+mod evaluate;
 mod fill;
 mod inputs;
 
 pub use arguments::answer;
-pub use cli::{Failure, command, finish};
+pub use cli::{Failure, command, command_over, finish};

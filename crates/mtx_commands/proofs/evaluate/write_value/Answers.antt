@@ -1,5 +1,5 @@
 use Rattle.mtx_commands.proofs.Begun.{OnErr-always, begun_run}
-use Rattle.mtx_commands.proofs.cli.write_value.Goals as goal
+use Rattle.mtx_commands.proofs.evaluate.write_value.Goals as goal
 
 pub returns-in_err-run_owned-clause-begun : goal.returns-in_err-run_owned-clause-begun
 returns-in_err-run_owned-clause-begun g c = OnErr-always c.from_residual.result

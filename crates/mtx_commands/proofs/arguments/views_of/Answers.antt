@@ -1,7 +1,7 @@
 use Rattle.std.proofs.Common.{rules, string_bytes}
 use Rattle.std.proofs.lemmas.Iterator.{YieldsList-from_map_by, YieldsList-from_slice}
 use Rattle.std.proofs.lemmas.Iterator.Consumers.{map_from_collect}
-use Rattle.mtx_commands.proofs.cli.views_of.Goals as goal
+use Rattle.mtx_commands.proofs.arguments.views_of.Goals as goal
 
 pub returns-clause-same : goal.returns-clause-same
 returns-clause-same c = map_from_collect _ c.collect.ensures.ran
