@@ -39,9 +39,10 @@
  * What is not proved. No contract says that OUT_OF_MEMORY is returned only if an allocation failed: by the contracts it
  * may be returned at any time. A test refuses each request for memory of small calls in turn
  * (bindings/c/test_refusals.c). Of several causes that apply to a call over handles it is proved that an empty handle
- * comes first, then SHAPE_MISMATCH for a matrix that is not square, then a wrong length, then the numbers of an order,
- * then SINGULAR; of other causes it is not proved which one decides. This header and the programs around the library
- * are checked by tests alone (bindings/test). The caller must ensure that
+ * comes first, then SHAPE_MISMATCH, then a wrong length, then the numbers of an order, then SINGULAR, and last
+ * TOO_SMALL; of other causes it is not proved which one decides. It is tested, too, that a freed handle gives back its
+ * memory. This header and the programs around the library are checked by tests alone (bindings/test). The caller must
+ * ensure that
  *   - each pointer is not null, even where the length is 0, is aligned, and has at least as many elements as the length
  *     says (the inline functions over structs take the null pointer of an empty std::vector, and pass another one);
  *   - no array for a result overlaps another array;
@@ -681,8 +682,9 @@ int32_t nalgebra_sparse_write(
  *   - each handle is used by one call at a time. Between calls a handle may be moved to another thread, and handles
  *     that share a matrix may be used by several threads at once.
  *
- * Statuses: OUT_OF_MEMORY; EMPTY_HANDLE exactly if an operand is empty, before each status but OUT_OF_MEMORY;
- * SHAPE_MISMATCH if the shapes of two operands do not fit; and those that a call names.
+ * Statuses: OUT_OF_MEMORY; EMPTY_HANDLE exactly if an operand is empty, before each status but OUT_OF_MEMORY; then
+ * SHAPE_MISMATCH exactly if the shapes of two operands do not fit, or a matrix is not square where a call says so; and
+ * those that a call names. So at status 0 no operand is empty, and the shapes fit.
  */
 typedef struct {
     void *matrix;
@@ -726,8 +728,8 @@ int32_t nalgebra_sparse_matrix_read(
     size_t *out_places);
 
 /* Writes the matrix behind `a` by rows as nalgebra_sparse_matrix_read does, with offsets and indices of 32 bits. They
- * are below 2^31, so that they may be read as int32_t, too. Statuses: INDEX_OUT_OF_BOUNDS if an offset or an index is
- * not below 2^31; TOO_SMALL.
+ * are below 2^31, so that they may be read as int32_t, too. Statuses: INDEX_OUT_OF_BOUNDS exactly if an offset or an
+ * index of the matrix is not below 2^31; TOO_SMALL, and then all of them are.
  */
 int32_t nalgebra_sparse_matrix_read_32(
     nalgebra_sparse_matrix *a,
@@ -793,8 +795,8 @@ int32_t nalgebra_sparse_matrix_to_text(nalgebra_sparse_matrix *a, uint8_t *out_t
  * the call allocates a copy of B and of the matrix.
  *
  * Statuses: SHAPE_MISMATCH if the matrix is not square; INVALID_STRUCTURE if B has another number of values; SINGULAR
- * if there is a column to solve for, and some diagonal entry is missing or even. At any status but 0 `values` is
- * unchanged.
+ * exactly if there is a column to solve for, and some diagonal entry is missing or even, even if some X solves the
+ * equation. At any status but 0 `values` is unchanged.
  */
 int32_t nalgebra_sparse_matrix_solve_lower(
     nalgebra_sparse_matrix *a, bool transposed,
@@ -828,17 +830,18 @@ typedef struct {
 
 /* Puts the factors of the symmetric matrix behind `out` whose entries on and above the diagonal are those of the matrix
  * behind `a`. Entries below the diagonal have no effect, and no call tests them: if nalgebra_sparse_matrix_subtract of
- * the matrix and its transpose has a value other than 0, the factors are those of another matrix. In addition the call
- * allocates a copy of the matrix. Statuses: SHAPE_MISMATCH if the matrix is not square; SINGULAR if no factorisation
- * exists.
+ * the matrix and its transpose has a value other than 0, the factors are those of another matrix. L has an entry for
+ * each place of the fill of the entries on and above the diagonal, and no other; its value may be 0. In addition the
+ * call allocates a copy of the matrix. Statuses: SHAPE_MISMATCH if the matrix is not square; SINGULAR if no
+ * factorisation exists.
  */
 int32_t nalgebra_sparse_matrix_factor(nalgebra_sparse_matrix *a, nalgebra_sparse_factors *out);
 
 /* Writes an order of the rows and columns of the square matrix behind `a` in which its factors have little fill: the
  * approximate minimum degree order (Amestoy, Davis and Duff 1996). out_order[k] is the index, from 0, of the row and
  * column that comes at k, so out_order needs a number for each row. The pattern is read as the union of itself and its
- * transpose: an entry below the diagonal counts, too. It is proved that the order is a permutation, and tested how
- * little fill it leaves. Statuses: SHAPE_MISMATCH if the matrix is not square; TOO_SMALL.
+ * transpose: an entry below the diagonal counts, too. It is proved that the order is a permutation, and tested that it
+ * is this order and how little fill it leaves. Statuses: SHAPE_MISMATCH if the matrix is not square; TOO_SMALL.
  */
 int32_t nalgebra_sparse_matrix_minimum_degree(nalgebra_sparse_matrix *a, size_t *out_order, size_t out_order_len);
 
@@ -849,7 +852,8 @@ int32_t nalgebra_sparse_matrix_reverse_cuthill_mckee(nalgebra_sparse_matrix *a, 
 
 /* Puts the factors of P A P^T behind `out`, with P: A is the symmetric matrix of nalgebra_sparse_matrix_factor, and P
  * takes its rows and columns in the given order, so that the entry (i, j) of P A P^T is that of A at (order[i],
- * order[j]). Any permutation may be given. In addition the call allocates some copies of the matrix.
+ * order[j]). Any permutation may be given. L has an entry for each place of the fill of P A P^T, and no other. In
+ * addition the call allocates some copies of the matrix.
  *
  * Statuses: SHAPE_MISMATCH if the matrix is not square; INVALID_STRUCTURE if order_len is not the number of its rows;
  * INDEX_OUT_OF_BOUNDS or DUPLICATE_ENTRY for the first number of the order that is too large, or that occurs before it;
@@ -907,8 +911,8 @@ void nalgebra_sparse_factors_free(nalgebra_sparse_factors *f);
  *     nalgebra_sparse_ring_matrix_free(&a), nalgebra_sparse_ring_matrix_free(&b);
  *
  * Statuses: OUT_OF_MEMORY; EMPTY_HANDLE exactly if an operand is empty, before each status but OUT_OF_MEMORY;
- * RING_MISMATCH if two operands have different moduli; then SHAPE_MISMATCH if their shapes do not fit; and those that a
- * call names.
+ * RING_MISMATCH if two operands have different moduli; then SHAPE_MISMATCH exactly if their shapes do not fit; and those
+ * that a call names. So at status 0 the moduli are equal, and the shapes fit.
  */
 typedef struct {
     void *matrix;

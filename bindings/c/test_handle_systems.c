@@ -308,6 +308,29 @@ static void check_texts(void) {
     nalgebra_sparse_matrix_free(&a);
 }
 
+/* Writes both orders of the pattern with these three entries. */
+static void order_both(const size_t *rows, const size_t *cols, size_t *degrees, size_t *breadth) {
+    int64_t ones[] = {1, 1, 1};
+    nalgebra_sparse_matrix a = NALGEBRA_SPARSE_NO_MATRIX;
+    CHECK(nalgebra_sparse_matrix_from_triplets(4, 4, rows, 3, cols, 3, ones, 3, &a) == 0);
+    CHECK(nalgebra_sparse_matrix_minimum_degree(&a, degrees, 4) == 0);
+    CHECK(nalgebra_sparse_matrix_reverse_cuthill_mckee(&a, breadth, 4) == 0);
+    nalgebra_sparse_matrix_free(&a);
+}
+
+/* Each call writes its own order: the contracts of both say only that it is a permutation. */
+static void check_orders(void) {
+    /* The star with the hub 0 and the leaves 1, 2 and 3, and the path 0 - 2 - 1 - 3. */
+    const size_t hub[] = {0, 0, 0}, leaves[] = {1, 2, 3}, from[] = {0, 1, 1}, to[] = {2, 2, 3};
+    const size_t hub_last[] = {3, 2, 1, 0}, along[] = {0, 2, 1, 3};
+    size_t degrees[4], breadth[4];
+    order_both(hub, leaves, degrees, breadth);
+    /* By breadth the hub comes before one leaf, so that no leaf is three rows away from it. */
+    CHECK(memcmp(degrees, hub_last, sizeof degrees) == 0 && breadth[2] == 0);
+    order_both(from, to, degrees, breadth);
+    CHECK(memcmp(breadth, along, sizeof breadth) == 0);
+}
+
 /* Empty handles, shapes that do not fit, and null pointers. */
 static void refuse(void) {
     nalgebra_sparse_matrix none = NALGEBRA_SPARSE_NO_MATRIX, wide = NALGEBRA_SPARSE_NO_MATRIX, one = NALGEBRA_SPARSE_NO_MATRIX;
@@ -370,7 +393,8 @@ int main(void) {
     }
     nalgebra_sparse_matrix_free(&a);
     check_texts();
+    check_orders();
     refuse();
-    printf("c: %d random solves, factors in their order and in others, dense products and texts over handles equal plain matrices, and each error is returned\n", (int)CASES);
+    printf("c: %d random solves, factors in their order and in others, orders, dense products and texts over handles equal plain matrices, and each error is returned\n", (int)CASES);
     return 0;
 }

@@ -1,10 +1,10 @@
 -- Solves in place, and the triangles of a matrix and of its transpose.
 -- - `plain_by_values-dense`: an array that is overwritten with all values of a dense matrix has its plain matrix
 -- - `SolvesInPlace-dense`: a dense solution written over its right-hand side satisfies `SolvesInPlace`
--- - `SolvesInPlace-triangle`: the same for a triangle of the matrix that a handle holds
+-- - `SolvesTriangle-dense`: the same for a triangle of the matrix that a handle holds, which satisfies `SolvesTriangle`
 -- - `triangle_of-transpose`: the upper triangle is the transpose of the lower triangle of the transpose
 -- - `rows-as_lower`, `cols-as_lower`: `as_lower` keeps the numbers of rows and columns of a square matrix
--- - `IsSingular-as_lower`: a triangle is singular if the lower triangle of the `as_lower` matrix is
+-- - `IsSingularSystem-of_lower`, `-to_lower`: a system is singular if and only if that of the `as_lower` matrix is
 use Rattle.std.proofs.Common.{◌≡◌, ℕ, ℤ, ◌<◌, ◌*◌, List, length, map, take, ap, sym}
 use Rattle.std.proofs.Common.{Bool, true, false, subst, ◌∙◌, refl, arith}
 use Rattle.std.specs.Prelude.{not, Option, Some}
@@ -22,9 +22,10 @@ use Rattle.sparse_compressed.specs.PlainOfLanes.{plain_of_rows}
 use Rattle.c_handles.specs.Held.{plain_held}
 use Rattle.c_handles.proofs.Done.{held}
 use Rattle.c_handles.specs.declared.solving.Triangle.{Triangle}
-use Rattle.c_handles.specs.Solved.{part_of, triangle_of, as_lower, SolvesInPlace}
+use Rattle.c_handles.specs.Solved.{as_lower, triangle_of, IsSingularSystem, SolvesInPlace}
+use Rattle.c_handles.specs.Solved.{SolvesTriangle}
 use Rattle.c_handles.specs.declared.solving.Triangle.TheVariants.{Lower, Upper}
-use Rattle.sparse_dense_ops.specs.Solutions.{IsSingular, IsSolution}
+use Rattle.sparse_dense_ops.specs.Solutions.{IsSolution}
 
 pub plain_by_values-dense : (x : Dense W64) (numbers : List ℤ) → length x.values ≡ length numbers
     → map (element_of ring64) (take (length x.values) numbers) ≡ map w64_value x.values
@@ -45,22 +46,27 @@ SolvesInPlace-dense t b x n m old new rows cols sized solved side written = reco
       (sym ((λ k. plain_by_values ring64 (sym rows k) (sym cols k) new) ∙ written)) solved ∙ side;
 }
 
-pub SolvesInPlace-triangle : (handle : Option (Compressed W64)) (m a : Compressed W64) → handle ≡ Some m
+pub SolvesTriangle-dense : (handle : Option (Compressed W64)) (m a : Compressed W64) → handle ≡ Some m
     → a ≡ m → (triangle : Triangle) (transposed : Bool) (x : Dense W64) (cols : ℕ)
-    (old new : List ℤ) → x.nrows ≡ a.pattern.major_dim → x.ncols ≡ cols
+    (old new : List ℤ) → a.pattern.major_dim ≡ a.pattern.minor_dim
+    → (IsSingularSystem triangle (plain_of_rows ring64 w64_value a) cols → ⊥)
+    → x.nrows ≡ a.pattern.major_dim → x.ncols ≡ cols
     → length old ≡ a.pattern.major_dim * cols
     → IsSolution ring64 (triangle_of triangle transposed (plain_of_rows ring64 w64_value a))
     (plain_of_dense ring64 w64_value x) (plain_by_values ring64 a.pattern.major_dim cols old)
     → plain_by_values ring64 x.nrows x.ncols new ≡ plain_of_dense ring64 w64_value x
-    → SolvesInPlace (triangle_of triangle transposed (plain_held handle))
-    (plain_held handle).rows cols old new
-SolvesInPlace-triangle handle m a is same triangle transposed x cols old new rows columns sized solved
-    written = subst (λ (h : Option (Compressed W64)). SolvesInPlace
-    (triangle_of triangle transposed (plain_held h)) (plain_held h).rows cols old new)
-    (held handle m a is same) (SolvesInPlace-dense
-    (triangle_of triangle transposed (plain_of_rows ring64 w64_value a))
-    (plain_by_values ring64 a.pattern.major_dim cols old) x a.pattern.major_dim cols old new rows
-    columns sized solved refl written)
+    → SolvesTriangle triangle transposed (plain_held handle) cols old new
+SolvesTriangle-dense handle m a is same triangle transposed x cols old new square regular rows columns
+    sized solved written = subst (λ (h : Option (Compressed W64)).
+    SolvesTriangle triangle transposed (plain_held h) cols old new)
+    (held handle m a is same) (record {
+      square = square;
+      regular = regular;
+      solved = SolvesInPlace-dense
+          (triangle_of triangle transposed (plain_of_rows ring64 w64_value a))
+          (plain_by_values ring64 a.pattern.major_dim cols old) x a.pattern.major_dim cols old new
+          rows columns sized solved refl written;
+    })
 
 pub triangle_of-transpose : (transposed : Bool) (a : Plain ring64)
     → triangle_of Lower (not transposed) (plain_transpose ring64 a) ≡ triangle_of Upper transposed a
@@ -77,8 +83,14 @@ pub cols-as_lower : (triangle : Triangle) (a : Plain ring64) → a.cols ≡ a.ro
 cols-as_lower Lower a square = square
 cols-as_lower Upper a square = refl
 
-pub IsSingular-as_lower : (triangle : Triangle) (a : Plain ring64) → a.cols ≡ a.rows
-    → IsSingular ring64 w64_value (part_of Lower (as_lower triangle a))
-    → IsSingular ring64 w64_value (part_of triangle a)
-IsSingular-as_lower Lower a square h = h
-IsSingular-as_lower Upper a square h = (h.0, subst (λ n. h.0 < n) square h.1, h.2)
+pub IsSingularSystem-of_lower : (triangle : Triangle) (a : Plain ring64) (m : ℕ) → a.cols ≡ a.rows
+    → IsSingularSystem Lower (as_lower triangle a) m → IsSingularSystem triangle a m
+IsSingularSystem-of_lower Lower a m square h = h
+IsSingularSystem-of_lower Upper a m square h =
+    (h.0, (h.1.0, subst (λ n. h.1.0 < n) square h.1.1, h.1.2))
+
+pub IsSingularSystem-to_lower : (triangle : Triangle) (a : Plain ring64) (m : ℕ) → a.cols ≡ a.rows
+    → IsSingularSystem triangle a m → IsSingularSystem Lower (as_lower triangle a) m
+IsSingularSystem-to_lower Lower a m square h = h
+IsSingularSystem-to_lower Upper a m square h =
+    (h.0, (h.1.0, subst (λ n. h.1.0 < n) (sym square) h.1.1, h.1.2))

@@ -17,6 +17,7 @@ use Rattle.c_handles.specs.declared.held_factors.HeldFactors.{HeldFactors}
 use Rattle.c_handles.specs.declared.held_factors.HeldFactors.TheVariants.{Natural, Ordered}
 use Rattle.sparse_factor.specs.Factorisations.{plain_symmetric, IsFactorisation}
 use Rattle.sparse_factor.specs.Factors.{diagonal, plain_of_factors, Factors}
+use Rattle.sparse_factor.specs.Fill.{InFill, PlainBase, StoresByColumns}
 use Rattle.sparse_factor.specs.OrderedFactors.{plain_of_ordered}
 
 abbrev pub zero64 : W64
@@ -67,11 +68,17 @@ abbrev pub d_held : Option HeldFactors → ℕ → ring64.Carrier
 d_held None = λ _. ring64.zero
 d_held (Some s) = diagonal ring64 w64_value zero64 (factors_in s).d
 
--- the handle holds factors L and D of the symmetric matrix whose entries on and above the diagonal are those of a
+-- the matrix is square, s has factors L and D of the symmetric matrix whose entries on and above the diagonal are those
+-- of a, and the entries of L are exactly the fill
+pub record AreFactors (a : Plain ring64) (s : Factors W64) : Type 0 where
+  pub square : IsSquare a
+  pub entries : StoresByColumns (InFill (PlainBase a)) s.l.pattern
+  pub factors : IsFactorisation ring64 w64_value (plain_symmetric ring64 a)
+      (plain_of_cols ring64 w64_value s.l) (diagonal ring64 w64_value zero64 s.d)
+
+-- the handle holds such factors
 abbrev pub HoldsFactors : Option HeldFactors → Plain ring64 → Type 0
-HoldsFactors handle a = (s : Factors W64) × (handle ≡ Some (Natural s))
-    × IsFactorisation ring64 w64_value (plain_symmetric ring64 a)
-    (plain_of_cols ring64 w64_value s.l) (diagonal ring64 w64_value zero64 s.d)
+HoldsFactors handle a = (s : Factors W64) × (handle ≡ Some (Natural s)) × AreFactors a s
 
 -- the error of a factorisation: the handle holds no square matrix, or else the symmetric matrix has no factors L and D
 abbrev pub IsUnfactored : Option (Compressed W64) → Refusal → Type 0

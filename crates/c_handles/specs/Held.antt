@@ -29,6 +29,25 @@ IsEmpty handle refusal = (refusal ≡ EmptyHandle) × (handle ≡ None)
 abbrev pub IsEitherEmpty : {T : Type 0} → Option T → Option T → Refusal → Type 0
 IsEitherEmpty a b refusal = IsEmpty a refusal ⊎ IsEmpty b refusal
 
+-- the matrices have the same shape
+abbrev pub HaveOneShape : Plain ring64 → Plain ring64 → Type 0
+HaveOneShape a b = (a.rows ≡ b.rows) × (a.cols ≡ b.cols)
+
+-- the product of the matrices is defined
+abbrev pub CanMultiply : Plain ring64 → Plain ring64 → Type 0
+CanMultiply a b = a.cols ≡ b.rows
+
+-- the matrices of two handles have the same shape, and a third handle holds their sum, their difference or a sum of
+-- their multiples, whose plain matrix is c
+abbrev pub HoldsSum : Option (Compressed W64) → Option (Compressed W64) → Plain ring64
+    → Option (Compressed W64) → Type 0
+HoldsSum a b c handle = HaveOneShape (plain_held a) (plain_held b) × Holds handle c
+
+-- the product of the matrices of two handles is defined, and a third handle holds it; its plain matrix is c
+abbrev pub HoldsProduct : Option (Compressed W64) → Option (Compressed W64) → Plain ring64
+    → Option (Compressed W64) → Type 0
+HoldsProduct a b c handle = CanMultiply (plain_held a) (plain_held b) × Holds handle c
+
 -- the error of a sum: a handle is empty, or the matrices have different shapes
 abbrev pub IsSumError : Option (Compressed W64) → Option (Compressed W64) → Refusal → Type 0
 IsSumError a b refusal = IsEitherEmpty a b refusal ⊎ ((refusal ≡ ShapeMismatch)

@@ -14,6 +14,7 @@ use Rattle.sparse_compressed.specs.PlainOfLanes.{plain_of_cols}
 use Rattle.sparse_dense_ops.specs.Solutions.{HasSameValues}
 use Rattle.sparse_factor.specs.Factorisations.{plain_symmetric, IsFactorisation}
 use Rattle.sparse_factor.specs.Factors.{diagonal}
+use Rattle.sparse_factor.specs.Fill.{InFill, PlainBase, StoresByColumns}
 use Rattle.sparse_factor.specs.OrderedFactors.{plain_of_ordered, OrderedFactors}
 use Rattle.sparse_permutation.specs.PermutationFaults.{IsFirstFault}
 use Rattle.sparse_permutation.specs.Permutations.{IsOrder}
@@ -35,6 +36,10 @@ pub record WritesOrder (order before after : List ℕ) : Type 0 where
 abbrev pub WritesSomeOrder : ℕ → List ℕ → List ℕ → Type 0
 WritesSomeOrder n before after = (order : List ℕ) × IsOrder order × (length order ≡ n)
     × WritesOrder order before after
+
+-- the matrix is square, and the array begins with some permutation of its rows
+abbrev pub WritesOrderOf : Plain ring64 → List ℕ → List ℕ → Type 0
+WritesOrderOf a before after = IsSquare a × WritesSomeOrder a.rows before after
 
 -- the error of an array that is shorter than an order of n numbers
 abbrev pub IsTooShort : ℕ → List ℕ → Refusal → Type 0
@@ -72,11 +77,14 @@ IsNoOrder n order refusal = ((refusal ≡ InvalidStructure) × (length order ≢
 abbrev pub permuted_symmetric : List ℕ → Plain ring64 → Plain ring64
 permuted_symmetric p a = plain_permuted ring64 p (plain_symmetric ring64 a)
 
--- p is a permutation of the rows of A, s has the factors of P A Pᵀ, and so A is Pᵀ L D Lᵀ P
+-- the matrix is square, p is a permutation of the rows of A, s has the factors of P A Pᵀ, where the entries of L are
+-- exactly the fill, and so A is Pᵀ L D Lᵀ P
 pub record AreFactorsInOrder (a : Plain ring64) (p : List ℕ) (s : OrderedFactors W64) : Type 0 where
+  pub square : IsSquare a
   pub valid : IsOrder p
   pub count : length p ≡ a.rows
   pub order : s.order ≡ p
+  pub entries : StoresByColumns (InFill (PlainBase (permuted_symmetric p a))) s.factors.l.pattern
   pub factors : IsFactorisation ring64 w64_value (permuted_symmetric p a)
       (plain_of_cols ring64 w64_value s.factors.l) (diagonal ring64 w64_value zero64 s.factors.d)
   pub equation : HasSameValues ring64 a.rows a.rows (plain_of_ordered ring64 w64_value zero64 s)

@@ -50,10 +50,21 @@ abbrev pub IsNoSystem : Option (Compressed W64) → ℕ → List ℤ → Refusal
 IsNoSystem a m b refusal = IsNoSquare a refusal
     ⊎ (IsSquare (plain_held a) × HasWrongLength (plain_held a).rows m b refusal)
 
--- the error Singular: there is a column to solve for, and some diagonal entry is missing or has no inverse
+-- there is a column to solve for, and some diagonal entry is missing or has no inverse
+abbrev pub IsSingularSystem : Triangle → Plain ring64 → ℕ → Type 0
+IsSingularSystem triangle a m = (0 < m) × IsSingular ring64 w64_value (part_of triangle a)
+
+-- the error Singular of such a system
 abbrev pub IsSingularPart : Triangle → Plain ring64 → ℕ → Refusal → Type 0
-IsSingularPart triangle a m refusal =
-    (refusal ≡ Singular) × (0 < m) × IsSingular ring64 w64_value (part_of triangle a)
+IsSingularPart triangle a m refusal = (refusal ≡ Singular) × IsSingularSystem triangle a m
+
+-- the matrix is square, the system is not singular, and the array has B before the call and X after it, where t X = B
+-- for the triangle t of the matrix, or its transpose if the flag is set
+pub record SolvesTriangle (triangle : Triangle) (transposed : Bool) (a : Plain ring64) (m : ℕ)
+    (before after : List ℤ) : Type 0 where
+  pub square : IsSquare a
+  pub regular : IsSingularSystem triangle a m → ⊥
+  pub solved : SolvesInPlace (triangle_of triangle transposed a) a.rows m before after
 
 -- the error of a triangular solve: the operands are not those of a square system, or else its triangle is singular
 abbrev pub IsUnsolved : Triangle → Option (Compressed W64) → ℕ → List ℤ → Refusal → Type 0

@@ -5,14 +5,12 @@ ghost use Rattle.sparse_algebra.specs.WrappingValues.{w64_value};
 ghost use Rattle.c_arrays.specs.Arrays.{ring64};
 ghost use Rattle.c_arrays.specs.Refused.{IsOutOfMemoryOr};
 ghost use Rattle.c_arrays.specs.declared.refusal.Refusal.TheVariants.{EmptyHandle};
-ghost use Rattle.sparse_compressed.specs.PlainOfLanes.{plain_of_cols, plain_of_rows};
+ghost use Rattle.sparse_compressed.specs.PlainOfLanes.{plain_of_rows};
 ghost use Rattle.c_handles.specs.Held.{plain_held};
 ghost use Rattle.c_handles.specs.Factored.{product_held, size_held, HasNoSystem};
-ghost use Rattle.c_handles.specs.Factored.{zero64, HoldsFactors, IsUnfactored};
+ghost use Rattle.c_handles.specs.Factored.{AreFactors, HoldsFactors, IsUnfactored};
 ghost use Rattle.c_handles.specs.Ordered.{AreFactorsInOrder, HoldsFactorsInOrder, IsUnfactoredInOrder};
 ghost use Rattle.c_handles.specs.Solved.{SolvesInPlace};
-ghost use Rattle.sparse_factor.specs.Factorisations.{plain_symmetric, IsFactorisation};
-ghost use Rattle.sparse_factor.specs.Factors.{diagonal};
 
 use crate::handle::{FactorHandle, MatrixHandle};
 use crate::held::{put, shared};
@@ -21,6 +19,7 @@ use crate::ordering::permutation_of;
 use crate::solving::{Triangle, columns_of, put_dense, size_of};
 use c_arrays::dense::dense_matrix_of;
 use c_arrays::refusal::Refusal;
+use sparse_algebra::recall;
 use sparse_algebra::scalar::W64;
 use sparse_csr_csc::csr::CsrMatrix;
 use sparse_factor::ldl::Ldl;
@@ -105,13 +104,12 @@ pub fn solve_factored(
 
 // Returns the factors of the symmetric matrix whose entries on and above the diagonal are those of `a`.
 fn factors_of(alloc: Global, a: &CsrMatrix<W64>) -> Result<Ldl<W64>, Refusal>
-    ensures factors { IfOk result (λ s. IsFactorisation ring64 w64_value
-        (plain_symmetric ring64 (plain_of_rows ring64 w64_value a.now))
-        (plain_of_cols ring64 w64_value s.l) (diagonal ring64 w64_value zero64 s.d)) }
+    ensures factors { IfOk result (AreFactors (plain_of_rows ring64 w64_value a.now)) }
     ensures fault { IfErr result (IsOutOfMemoryOr (IsUnfactored (Some a.now))) }
 {
     size_of(a)?;
     let columns = columns_of(alloc, a, Triangle::Lower)?;
+    recall(columns.values());
     let factors = Ldl::factor(alloc, &columns)?;
     Ok(factors)
 }

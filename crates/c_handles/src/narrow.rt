@@ -10,7 +10,8 @@ ghost use Rattle.c_arrays.specs.Rests.{KeepsRest};
 ghost use Rattle.c_arrays.specs.declared.refusal.Refusal.TheVariants.{EmptyHandle, TooSmall};
 ghost use Rattle.sparse_compressed.specs.PlainOfLanes.{plain_of_rows};
 ghost use Rattle.c_handles.specs.Held.{plain_held};
-ghost use Rattle.c_handles.specs.Narrow.{IsNarrow, IsTooWide, IsUnwrittenNarrow};
+ghost use Rattle.c_handles.specs.Narrow.{HasNarrowIndices, HoldsNarrow, IsNarrow};
+ghost use Rattle.c_handles.specs.Narrow.{IsTooWide, IsUnwrittenNarrow};
 
 use crate::handle::MatrixHandle;
 use crate::held::shared;
@@ -40,6 +41,7 @@ pub fn read_narrow(
 ) -> Result<(), Refusal>
     ensures kept { a.new.value ≡ a.old.value }
     ensures missing { a.old.value ≡ None → result ≡ Err EmptyHandle }
+    ensures narrow { OnOk result (HoldsNarrow a.old.value) }
     ensures written { OnOk result (HoldsRows (plain_held a.old.value)
         (output_arrays offsets.new indices.new values.new places.new)) }
     ensures rest { OnOk result (KeepsRest (plain_held a.old.value).rows
@@ -62,6 +64,7 @@ fn write_narrow(
     values: &mut [i64],
     places: &mut usize,
 ) -> Result<(), Refusal>
+    ensures narrow { OnOk result (HasNarrowIndices matrix.now) }
     ensures written { OnOk result (HoldsRows (plain_of_rows ring64 w64_value matrix.now)
         (output_arrays offsets.new indices.new values.new places.new)) }
     ensures rest { OnOk result (KeepsRest matrix.now.pattern.major_dim
@@ -69,7 +72,8 @@ fn write_narrow(
         (output_arrays offsets.new indices.new values.new places.new)) }
     ensures unchanged { OnErr result (output_arrays offsets.new indices.new values.new places.new
         ≡ output_arrays offsets.old indices.old values.old places.old) }
-    ensures fault { IfErr result (λ refusal. IsTooWide matrix.now refusal ⊎ ((refusal ≡ TooSmall)
+    ensures fault { IfErr result (λ refusal. IsTooWide matrix.now refusal
+        ⊎ (HasNarrowIndices matrix.now × (refusal ≡ TooSmall)
         × IsTooSmall (plain_of_rows ring64 w64_value matrix.now)
         (output_arrays offsets.old indices.old values.old places.old))) }
 {

@@ -10,7 +10,7 @@ ghost use Rattle.c_arrays.specs.Arrays.{ring64};
 ghost use Rattle.c_arrays.specs.Refused.{IsOutOfMemoryOr};
 ghost use Rattle.c_arrays.specs.declared.refusal.Refusal.TheVariants.{EmptyHandle};
 ghost use Rattle.c_handles.specs.Held.{plain_held, Holds, IsEmpty};
-ghost use Rattle.c_handles.specs.Held.{IsSumError, IsProductError};
+ghost use Rattle.c_handles.specs.Held.{HoldsProduct, HoldsSum, IsSumError, IsProductError};
 
 use crate::handle::MatrixHandle;
 use crate::held::{put, shared, shared_pair};
@@ -81,8 +81,9 @@ pub fn add(
     ensures first_missing { a.old.value ≡ None → result ≡ Err EmptyHandle }
     ensures second_missing { b.old.value ≡ None
         → IsErrAnd result (IsOutOfMemoryOr (IsEmpty b.old.value)) }
-    ensures done { OnOk result (Holds out.new.value
-        (plain_sum ring64 (plain_held a.old.value) (plain_held b.old.value))) }
+    ensures done { OnOk result (HoldsSum a.old.value b.old.value
+        (plain_sum ring64 (plain_held a.old.value) (plain_held b.old.value))
+        out.new.value) }
     ensures unchanged { OnErr result (out.new.value ≡ out.old.value) }
     ensures fault { IfErr result (IsOutOfMemoryOr (IsSumError a.old.value b.old.value)) }
 {
@@ -107,8 +108,9 @@ pub fn subtract(
     ensures first_missing { a.old.value ≡ None → result ≡ Err EmptyHandle }
     ensures second_missing { b.old.value ≡ None
         → IsErrAnd result (IsOutOfMemoryOr (IsEmpty b.old.value)) }
-    ensures done { OnOk result (Holds out.new.value
-        (plain_difference ring64 (plain_held a.old.value) (plain_held b.old.value))) }
+    ensures done { OnOk result (HoldsSum a.old.value b.old.value
+        (plain_difference ring64 (plain_held a.old.value) (plain_held b.old.value))
+        out.new.value) }
     ensures unchanged { OnErr result (out.new.value ≡ out.old.value) }
     ensures fault { IfErr result (IsOutOfMemoryOr (IsSumError a.old.value b.old.value)) }
 {
@@ -135,9 +137,9 @@ pub fn add_scaled(
     ensures first_missing { a.old.value ≡ None → result ≡ Err EmptyHandle }
     ensures second_missing { b.old.value ≡ None
         → IsErrAnd result (IsOutOfMemoryOr (IsEmpty b.old.value)) }
-    ensures done { OnOk result (Holds out.new.value
+    ensures done { OnOk result (HoldsSum a.old.value b.old.value
         (plain_sum ring64 (plain_scaled ring64 (element_of ring64 alpha) (plain_held a.old.value))
-        (plain_scaled ring64 (element_of ring64 beta) (plain_held b.old.value)))) }
+        (plain_scaled ring64 (element_of ring64 beta) (plain_held b.old.value))) out.new.value) }
     ensures unchanged { OnErr result (out.new.value ≡ out.old.value) }
     ensures fault { IfErr result (IsOutOfMemoryOr (IsSumError a.old.value b.old.value)) }
 {
@@ -163,8 +165,9 @@ pub fn multiply(
     ensures first_missing { a.old.value ≡ None → result ≡ Err EmptyHandle }
     ensures second_missing { b.old.value ≡ None
         → IsErrAnd result (IsOutOfMemoryOr (IsEmpty b.old.value)) }
-    ensures done { OnOk result (Holds out.new.value
-        (plain_product ring64 (plain_held a.old.value) (plain_held b.old.value))) }
+    ensures done { OnOk result (HoldsProduct a.old.value b.old.value
+        (plain_product ring64 (plain_held a.old.value) (plain_held b.old.value))
+        out.new.value) }
     ensures unchanged { OnErr result (out.new.value ≡ out.old.value) }
     ensures fault { IfErr result (IsOutOfMemoryOr (IsProductError a.old.value b.old.value)) }
 {

@@ -6,7 +6,7 @@ ghost use Rattle.c_arrays.specs.declared.refusal.Refusal.TheVariants.{EmptyHandl
 ghost use Rattle.c_handles.specs.Factored.{order_held};
 ghost use Rattle.c_handles.specs.Held.{plain_held};
 ghost use Rattle.c_handles.specs.Ordered.{IsNoOrder, IsOrderUnwritten, IsTooShort, IsUnordered};
-ghost use Rattle.c_handles.specs.Ordered.{refusal_of_order, WritesOrder, WritesSomeOrder};
+ghost use Rattle.c_handles.specs.Ordered.{refusal_of_order, WritesOrder, WritesOrderOf};
 ghost use Rattle.c_handles.specs.Solved.{IsNoSquare};
 ghost use Rattle.sparse_permutation.specs.Permutations.{IsOrder};
 
@@ -47,8 +47,7 @@ pub fn order(
 ) -> Result<(), Refusal>
     ensures kept { a.new.value ≡ a.old.value }
     ensures missing { a.old.value ≡ None → result ≡ Err EmptyHandle }
-    ensures written { OnOk result
-        (WritesSomeOrder (plain_held a.old.value).rows out.old out.new) }
+    ensures written { OnOk result (WritesOrderOf (plain_held a.old.value) out.old out.new) }
     ensures unchanged { OnErr result (out.new ≡ out.old) }
     ensures fault { IfErr result (IsOutOfMemoryOr (IsUnordered a.old.value out.old)) }
 {

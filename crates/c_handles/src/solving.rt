@@ -1,6 +1,6 @@
 //! Triangular solves with matrices held by handles, in place in the array of the right-hand side.
 
-ghost use Rattle.std.specs.Prelude.{◌≡◌, ◌≢◌, ◌<◌, ◌*◌, length, None, Some};
+ghost use Rattle.std.specs.Prelude.{◌≡◌, ◌≢◌, ◌*◌, length, None, Some};
 ghost use Rattle.std.specs.Prelude.{Err, IfOk, IfErr, OnOk, OnErr};
 ghost use Rattle.sparse_algebra.specs.Plain.{Plain};
 ghost use Rattle.sparse_algebra.specs.WrappingValues.{w64_value};
@@ -12,10 +12,10 @@ ghost use Rattle.c_arrays.specs.declared.refusal.Refusal.TheVariants.{EmptyHandl
 ghost use Rattle.c_arrays.specs.declared.refusal.Refusal.TheVariants.{ShapeMismatch};
 ghost use Rattle.sparse_compressed.specs.PlainOfLanes.{plain_of_cols, plain_of_rows};
 ghost use Rattle.c_handles.specs.Held.{plain_held};
-ghost use Rattle.c_handles.specs.Solved.{triangle_of, IsSingularPart};
-ghost use Rattle.c_handles.specs.Solved.{IsUnsolved, SolvesInPlace, as_lower};
+ghost use Rattle.c_handles.specs.Solved.{as_lower, triangle_of, IsSingularPart};
+ghost use Rattle.c_handles.specs.Solved.{IsSingularSystem, IsUnsolved, SolvesTriangle};
 ghost use Rattle.c_handles.specs.declared.solving.Triangle.TheVariants.{Lower};
-ghost use Rattle.sparse_dense_ops.specs.Solutions.{plain_lower, IsSingular, IsSolution};
+ghost use Rattle.sparse_dense_ops.specs.Solutions.{IsSolution};
 
 use crate::handle::MatrixHandle;
 use crate::held::shared;
@@ -60,9 +60,8 @@ pub fn solve_triangle(
 ) -> Result<(), Refusal>
     ensures kept { a.new.value ≡ a.old.value }
     ensures missing { a.old.value ≡ None → result ≡ Err EmptyHandle }
-    ensures solved { OnOk result (SolvesInPlace
-        (triangle_of triangle transposed (plain_held a.old.value)) (plain_held a.old.value).rows
-        cols values.old values.new) }
+    ensures solved { OnOk result (SolvesTriangle triangle transposed (plain_held a.old.value) cols
+        values.old values.new) }
     ensures unchanged { OnErr result (values.new ≡ values.old) }
     ensures fault { IfErr result (IsOutOfMemoryOr (IsUnsolved triangle a.old.value cols values.old)) }
 {
@@ -110,6 +109,9 @@ fn solution(
     ensures rows { IfOk result (λ x. x.nrows ≡ a.now.pattern.major_dim) }
     ensures cols { IfOk result (λ x. x.ncols ≡ cols) }
     ensures sized { OnOk result (length b.now ≡ a.now.pattern.major_dim * cols) }
+    ensures square { OnOk result (a.now.pattern.major_dim ≡ a.now.pattern.minor_dim) }
+    ensures regular { OnOk result
+        (IsSingularSystem triangle (plain_of_rows ring64 w64_value a.now) cols → ⊥) }
     ensures solved { IfOk result (λ x. IsSolution ring64
         (triangle_of triangle transposed (plain_of_rows ring64 w64_value a.now))
         (plain_of_dense ring64 w64_value x)
@@ -137,6 +139,8 @@ fn solve_part(
     ensures solved { OnOk result (IsSolution ring64
         (triangle_of triangle transposed (plain_of_rows ring64 w64_value a.now))
         (plain_of_dense ring64 w64_value b.new) (plain_of_dense ring64 w64_value b.old)) }
+    ensures regular { OnOk result
+        (IsSingularSystem triangle (plain_of_rows ring64 w64_value a.now) b.old.ncols → ⊥) }
     ensures fault { IfErr result (IsOutOfMemoryOr
         (IsSingularPart triangle (plain_of_rows ring64 w64_value a.now) b.old.ncols)) }
 {
@@ -188,9 +192,10 @@ fn substitute(
         (triangle_of Lower transposed (plain_of_cols ring64 w64_value l.now))
         (plain_of_dense ring64 w64_value b.new) (plain_of_dense ring64 w64_value b.old)) }
     ensures kind { IfErr result (λ e. e ≡ Singular) }
-    ensures some { OnErr result (0 < b.old.ncols) }
-    ensures singular { OnErr result (IsSingular ring64 w64_value
-        (plain_lower ring64 (plain_of_cols ring64 w64_value l.now))) }
+    ensures singular { OnErr result
+        (IsSingularSystem Lower (plain_of_cols ring64 w64_value l.now) b.old.ncols) }
+    ensures regular { OnOk result
+        (IsSingularSystem Lower (plain_of_cols ring64 w64_value l.now) b.old.ncols → ⊥) }
 {
     if transposed {
         spsolve_csc_lower_triangular(Op::Transpose(l), b)

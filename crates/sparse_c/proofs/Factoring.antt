@@ -8,7 +8,7 @@ use Rattle.sparse_algebra.specs.Plain.{Plain}
 use Rattle.sparse_compressed.specs.Compressed.{Compressed, IsSound}
 use Rattle.sparse_compressed.specs.PlainOfLanes.{plain_of_cols, plain_of_rows}
 use Rattle.sparse_factor.specs.Fill.{InFill, UpperBase, StoresByColumns}
-use Rattle.sparse_factor.specs.Factorisations.{plain_symmetric, IsUnitLower}
+use Rattle.sparse_factor.specs.Factorisations.{plain_symmetric, IsFactorisation, IsUnitLower}
 use Rattle.sparse_factor.specs.Factors.{Factors, diagonal, plain_of_factors}
 use Rattle.sparse_factor.specs.Factors.{symmetric_of, HavePivots}
 use Rattle.sparse_factor.proofs.FilledSets.{has_entry, entry_has}
@@ -17,6 +17,7 @@ use Rattle.sparse_dense_ops.specs.Solutions.{HasSameValues}
 use Rattle.sparse_c.proofs.ValidOperands.{matrix_error-not_too_small, matrix_sound}
 use Rattle.sparse_c.specs.Factors.{first_elements, AreFactors, AreFactorsTooLong, Factorises}
 use Rattle.sparse_c.specs.Factors.{HoldsFactors, IsFaultOfFactors, WritesFactors}
+use Rattle.sparse_c.specs.Symmetric.{symmetric_by_cols}
 use Rattle.c_arrays.proofs.Answering.{size_kept, size_needed}
 use Rattle.c_arrays.proofs.ValidStatuses.{FindsNoFault-sound}
 use Rattle.c_arrays.specs.Arrays.{place_count, plain_by_cols, output_arrays, OutputArrays}
@@ -36,25 +37,31 @@ module _ (R : CommRing) {T : Type 0} (f : T → R.Carrier) (z : T) (a : Compress
     (plain : plain_of_cols R f m ≡ plain_by_cols R a)
     (rows : s.l.pattern.minor_dim ≡ m.pattern.minor_dim)
     (count : length s.d ≡ m.pattern.minor_dim) where
+  pub IsFactorisation-arrays : IsUnitLower R (plain_of_cols R f s.l) → HavePivots R f z s.d
+      → HasSameValues R (length s.d) (length s.d) (plain_of_factors R f z s) (symmetric_of R f m)
+      → IsFactorisation R f (symmetric_by_cols R a) (plain_of_cols R f s.l) (diagonal R f z s.d)
+  IsFactorisation-arrays lower pivots equation =
+      let size = count ∙ ap (λ d. d.minor_dim) pattern in
+      let product = plain_of_factors R f z s in
+      record {
+        rows = rows ∙ ap (λ d. d.minor_dim) pattern;
+        lower = lower;
+        pivots = λ j lt. pivots j (subst (λ n. j < n) (sym size) lt);
+        equation = subst (λ (p : Plain R). HasSameValues R a.pattern.minor_dim a.pattern.minor_dim
+            product (plain_symmetric R p)) plain
+            (subst (λ n. HasSameValues R n n product (symmetric_of R f m)) size equation);
+      }
+
   pub AreFactors-arrays : IsSound s.l
       → StoresByColumns (InFill (UpperBase m.pattern)) s.l.pattern
       → IsUnitLower R (plain_of_cols R f s.l) → HavePivots R f z s.d
       → HasSameValues R (length s.d) (length s.d) (plain_of_factors R f z s) (symmetric_of R f m)
       → AreFactors R f a (plain_of_cols R f s.l) (diagonal R f z s.d)
   AreFactors-arrays sound places lower pivots equation =
-      let size = count ∙ ap (λ d. d.minor_dim) pattern in
-      let product = plain_of_factors R f z s in
       let stored = subst (λ (p : Raw). StoresByColumns (InFill (UpperBase p)) s.l.pattern) pattern
       places in
       record {
-        factors = record {
-          rows = rows ∙ ap (λ d. d.minor_dim) pattern;
-          lower = lower;
-          pivots = λ j lt. pivots j (subst (λ n. j < n) (sym size) lt);
-          equation = subst (λ (p : Plain R). HasSameValues R a.pattern.minor_dim a.pattern.minor_dim
-              product (plain_symmetric R p)) plain
-              (subst (λ n. HasSameValues R n n product (symmetric_of R f m)) size equation);
-        };
+        factors = IsFactorisation-arrays lower pivots equation;
         places = λ i j. (
           λ has. (stored i j).0 (has_entry R f s.l sound i j has),
           λ fill. entry_has R f s.l sound i j ((stored i j).1 fill),

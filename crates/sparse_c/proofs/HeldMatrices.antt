@@ -15,6 +15,7 @@ use Rattle.sparse_compressed.specs.declared.sorted.SortedFault.TheVariants.{Patt
 use Rattle.sparse_pattern.specs.PatternFaults.{HasFault, Rule, OffsetCount, FirstLast, LaneEnd}
 use Rattle.sparse_pattern.specs.PatternFaults.{Bound, Fall, Repeat}
 use Rattle.sparse_pattern.specs.Raw.{Raw, IsValid}
+use Rattle.sparse_c.specs.Combinations.{HaveShapesFor}
 use Rattle.sparse_c.specs.HeldRings.{IsNoOperand, IsNoPair}
 use Rattle.sparse_c.specs.Moduli.{IsFaultModulo, IsUnlisted}
 use Rattle.sparse_c.specs.Tasks.{IsFaultOfTask}
@@ -27,7 +28,7 @@ use Rattle.c_arrays.specs.Refused.{IsFaultOf, IsFaultOfPair}
 use Rattle.c_arrays.specs.Statuses.{number_of, FindsNoFault}
 use Rattle.c_arrays.specs.declared.refusal.Refusal.{Refusal}
 use Rattle.c_handles.specs.Held.{Answers}
-use Rattle.c_handles.specs.Rings.{modulus_held, residues_held, HoldsModulo}
+use Rattle.c_handles.specs.Rings.{arrays_held, modulus_held, residues_held, HoldsModulo}
 use Rattle.c_handles.specs.declared.ring_matrix.RingMatrix.{RingMatrix}
 
 -- ---- a sound matrix has no fault
@@ -101,11 +102,11 @@ no_pair : (l r : Compressed ℤ) → IsSound l → IsSound r → (e : Refusal) �
 no_pair l r sound valid e (inl fault) = no_fault l e sound fault
 no_pair l r sound valid e (inr fault) = no_fault r e valid fault.1
 
--- a fact that holds in any case
-together : {U Fact Done : Type 0} (Fault : Refusal → Type 0) {seen : ℤ} → Fact
-    → Answers seen Fault U Done → Answers seen Fault U (Fact × Done)
-together Fault fact (inl done) = inl (done.0, (fact, done.1))
-together Fault fact (inr refused) = inr refused
+-- two facts that hold in any case
+together : {U Fact Other Done : Type 0} (Fault : Refusal → Type 0) {seen : ℤ} → Fact → Other
+    → Answers seen Fault U Done → Answers seen Fault U (Fact × Other × Done)
+together Fault fact other (inl done) = inl (done.0, (fact, other, done.1))
+together Fault fact other (inr refused) = inr refused
 
 module _ {U : Type 0} (out : Option RingMatrix) {status seen : ℤ} (told : seen ≡ status) where
   pub computed_from_one : (op : (m : ℕ) → Plain (mod_ring m) → Plain (mod_ring m))
@@ -123,18 +124,21 @@ module _ {U : Type 0} (out : Option RingMatrix) {status seen : ℤ} (told : seen
   pub computed_from_two : (how : Combination)
       (op : (m : ℕ) → Plain (mod_ring m) → Plain (mod_ring m) → Plain (mod_ring m))
       → (a b : Option RingMatrix) (s t : RingMatrix) → a ≡ Some s → b ≡ Some t
-      → t.modulus ≡ s.modulus → IsSound s.matrix → IsSound t.matrix
+      → t.modulus ≡ s.modulus → HaveShapesFor how s.matrix t.matrix
+      → IsSound s.matrix → IsSound t.matrix
       → Answers status (IsFaultModulo s.modulus (IsFaultOfPair s.matrix t.matrix)) U
       ((IsSound s.matrix × IsSound t.matrix) × HoldsModulo s.modulus out
       (op s.modulus (residues_held s.modulus (Some s)) (residues_held s.modulus (Some t))))
       → Answers seen (IsNoPair how a b) U ((modulus_held b ≡ modulus_held a)
+      × HaveShapesFor how (arrays_held a) (arrays_held b)
       × HoldsModulo (modulus_held a) out (op (modulus_held a) (residues_held (modulus_held a) a)
       (residues_held (modulus_held a) b)))
-  computed_from_two how op a b s t is also same sound valid answer = subst
+  computed_from_two how op a b s t is also same fit sound valid answer = subst
       (λ (h : Option RingMatrix × Option RingMatrix). Answers seen (IsNoPair how h.0 h.1) U
-      ((modulus_held h.1 ≡ modulus_held h.0) × HoldsModulo (modulus_held h.0) out
+      ((modulus_held h.1 ≡ modulus_held h.0)
+      × HaveShapesFor how (arrays_held h.0) (arrays_held h.1) × HoldsModulo (modulus_held h.0) out
       (op (modulus_held h.0) (residues_held (modulus_held h.0) h.0)
       (residues_held (modulus_held h.0) h.1)))) (λ k. (sym is k, sym also k))
-      (together (IsNoPair how (Some s) (Some t)) same
+      (together (IsNoPair how (Some s) (Some t)) same fit
       (widened (IsFaultOfPair s.matrix t.matrix) (IsNoPair how (Some s) (Some t)) s.modulus told
       (no_pair s.matrix t.matrix sound valid) (λ e unlisted. inr (same, inr unlisted)) answer))

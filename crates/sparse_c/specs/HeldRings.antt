@@ -36,6 +36,7 @@ abbrev pub CombinesHeld : Combination → ((R : CommRing) → Plain R → Plain 
     → Option RingMatrix → Option RingMatrix → Option RingMatrix → Option RingMatrix → ℤ → Type 0
 CombinesHeld how f a b before after status = let m = modulus_held a in
     Answers status (IsNoPair how a b) (after ≡ before) ((modulus_held b ≡ m)
+    × HaveShapesFor how (arrays_held a) (arrays_held b)
     × HoldsModulo m after (f (mod_ring m) (residues_held m a) (residues_held m b)))
 
 -- the contract of a call that writes the matrix of a handle by rows, with the arrays before and after the call, and its

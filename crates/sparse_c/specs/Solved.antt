@@ -36,17 +36,9 @@ module _ (R : CommRing) where
     pub room : n * m ≤ length values
     pub holds : P (plain_by_values R n m (take (n * m) values))
 
-  -- the array starts with the values of an X with n rows and m columns, where t X = b
-  abbrev pub HoldsSolution : Plain R → Plain R → ℕ → ℕ → List ℤ → Type 0
-  HoldsSolution t b = HoldsMatrix (λ x. IsSolution R t x b)
-
   -- some matrix satisfies P, and the array is too short for n rows and m columns
   abbrev pub IsMatrixTooLong : (Plain R → Type 0) → ℕ → ℕ → List ℤ → Type 0
   IsMatrixTooLong P n m values = (x : Plain R) × P x × (length values < n * m)
-
-  -- some X satisfies t X = b, and the array is too short for n rows and m columns
-  abbrev pub IsSolutionTooLong : Plain R → Plain R → ℕ → ℕ → List ℤ → Type 0
-  IsSolutionTooLong t b = IsMatrixTooLong (λ x. IsSolution R t x b)
 
   -- q is the inverse of s, times a
   abbrev pub IsQuotientBy : R.Carrier → Plain R → Plain R → Type 0
@@ -68,12 +60,32 @@ module _ (R : CommRing) where
       × IsQuotientBy (element_of R divisor) q (plain_by_rows R a) × IsTooSmall q room
 
 module _ (R : CommRing) {T : Type 0} (f : T → R.Carrier) where
-  -- the error of the first fault of the CSC matrix or of the right-hand side; or Singular if they have none, there is a
-  -- column to solve for, and some diagonal entry is missing or has no inverse
+  -- there is a column to solve for, and some diagonal entry of the CSC matrix is missing or has no inverse
+  abbrev pub IsSingularLower : Compressed ℤ → ℕ → Type 0
+  IsSingularLower m cols = (0 < cols) × IsSingular R f (plain_lower R (plain_by_cols R m))
+
+  -- the system is not singular, and t x = b for the lower triangle t of the CSC matrix, or its transpose if the flag is
+  -- set
+  pub record SolvesLower (transposed : Bool) (m : Compressed ℤ) (cols : ℕ) (x b : Plain R)
+      : Type 0 where
+    pub regular : IsSingularLower m cols → ⊥
+    pub solves : IsSolution R (lower_of R transposed m) x b
+
+  -- the array starts with the values of such an x with this many rows and columns
+  abbrev pub HoldsSolution : Bool → Compressed ℤ → ℕ → ℕ → Plain R → List ℤ → Type 0
+  HoldsSolution transposed m rows cols b =
+      HoldsMatrix R (λ x. SolvesLower transposed m cols x b) rows cols
+
+  -- there is such an x, and the array is too short for it
+  abbrev pub IsSolutionTooLong : Bool → Compressed ℤ → ℕ → ℕ → Plain R → List ℤ → Type 0
+  IsSolutionTooLong transposed m rows cols b =
+      IsMatrixTooLong R (λ x. SolvesLower transposed m cols x b) rows cols
+
+  -- the error of the first fault of the CSC matrix or of the right-hand side; or Singular if they have none and the
+  -- system is singular
   abbrev pub IsFaultOfLower : Compressed ℤ → ℕ → ℕ → List ℤ → Refusal → Type 0
   IsFaultOfLower m size cols b refusal = IsFaultOfSystem m size cols b refusal
-      ⊎ (IsSystemSound m size cols b × (refusal ≡ Singular) × (0 < cols)
-      × IsSingular R f (plain_lower R (plain_by_cols R m)))
+      ⊎ (IsSystemSound m size cols b × (refusal ≡ Singular) × IsSingularLower m cols)
 
   -- the error of the first fault of the matrix, or Singular if it has none and the divisor has no inverse
   abbrev pub IsFaultOfQuotient : Compressed ℤ → ℤ → Refusal → Type 0

@@ -5,6 +5,7 @@ use Rattle.sparse_algebra.specs.Algebra.{CommRing}
 use Rattle.sparse_algebra.specs.Plain.{Plain, plain_product}
 use Rattle.sparse_compressed.specs.Compressed.{Compressed}
 use Rattle.sparse_factor.specs.Factorisations.{plain_symmetric, IsFactorisation}
+use Rattle.sparse_factor.specs.LeadingBlocks.{HasFactorisation}
 use Rattle.sparse_dense_ops.specs.Solutions.{HasSameValues}
 use Rattle.sparse_c.specs.Solved.{HoldsMatrix, IsMatrixTooLong}
 use Rattle.c_arrays.specs.Arrays.{plain_by_cols}
@@ -17,19 +18,20 @@ module _ (R : CommRing) where
   abbrev pub symmetric_by_cols : Compressed ℤ → Plain R
   symmetric_by_cols a = plain_symmetric R (plain_by_cols R a)
 
-  -- A x and b have the same values in the first n rows and m columns
-  abbrev pub SolvesSymmetric : Compressed ℤ → Plain R → Plain R → ℕ → ℕ → Type 0
-  SolvesSymmetric a x b n m = HasSameValues R n m (plain_product R (symmetric_by_cols a) x) b
+module _ (R : CommRing) {T : Type 0} (f : T → R.Carrier) where
+  -- A has a factorisation L D Lᵀ, and A x and b have the same values in the first n rows and m columns
+  pub record SolvesSymmetric (a : Compressed ℤ) (x b : Plain R) (n m : ℕ) : Type 0 where
+    pub factored : HasFactorisation R f (symmetric_by_cols R a)
+    pub solves : HasSameValues R n m (plain_product R (symmetric_by_cols R a) x) b
 
-  -- the array starts with the values of an X with n rows and m columns, where A X = b
+  -- the array starts with the values of such an x with n rows and m columns
   abbrev pub HoldsSymmetricSolution : Compressed ℤ → Plain R → ℕ → ℕ → List ℤ → Type 0
   HoldsSymmetricSolution a b n m = HoldsMatrix R (λ x. SolvesSymmetric a x b n m) n m
 
-  -- some X satisfies A X = b, and the array is too short for n rows and m columns
+  -- there is such an x, and the array is too short for n rows and m columns
   abbrev pub IsSymmetricSolutionTooLong : Compressed ℤ → Plain R → ℕ → ℕ → List ℤ → Type 0
   IsSymmetricSolutionTooLong a b n m = IsMatrixTooLong R (λ x. SolvesSymmetric a x b n m) n m
 
-module _ (R : CommRing) {T : Type 0} (f : T → R.Carrier) where
   -- A has no factorisation L D Lᵀ
   abbrev pub HasNoFactors : Compressed ℤ → Type 0
   HasNoFactors a = (l : Plain R) (d : ℕ → R.Carrier)

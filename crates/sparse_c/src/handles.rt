@@ -10,7 +10,7 @@ ghost use Rattle.c_arrays.specs.Rests.{KeepsRest};
 ghost use Rattle.c_arrays.specs.Statuses.{number_of};
 ghost use Rattle.c_arrays.specs.declared.refusal.Refusal.TheVariants.{EmptyHandle};
 ghost use Rattle.c_handles.specs.Held.{plain_held, Answers, Holds, IsEmpty, IsUnwritten};
-ghost use Rattle.c_handles.specs.Narrow.{IsUnwrittenNarrow};
+ghost use Rattle.c_handles.specs.Narrow.{HoldsNarrow, IsUnwrittenNarrow};
 
 pub(crate) mod operations;
 pub(crate) mod orders;
@@ -135,7 +135,7 @@ pub extern "C" fn nalgebra_sparse_matrix_read_32(
         output_arrays out_offsets.old out_indices.old out_values.old out_places.old in
         let after = output_arrays out_offsets.new out_indices.new out_values.new out_places.new in
         Answers result (IsUnwrittenNarrow a.old.value before) (after ≡ before)
-        (HoldsRows (plain_held a.old.value) after
+        (HoldsNarrow a.old.value × HoldsRows (plain_held a.old.value) after
         × KeepsRest (plain_held a.old.value).rows before after) }
 {
     status!(read_narrow(alloc, a, out_offsets, out_indices, out_values, out_places))

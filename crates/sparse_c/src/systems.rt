@@ -6,7 +6,7 @@ ghost use Rattle.sparse_coo_dense.specs.DensePlain.{plain_of_dense};
 ghost use Rattle.sparse_compressed.specs.PlainOfLanes.{plain_of_cols};
 ghost use Rattle.sparse_dense_ops.specs.Solutions.{plain_lower, IsSingular, IsSolution};
 ghost use Rattle.sparse_c.specs.InnerModulusLaws.{numbers_listed, numbers_unlisted};
-ghost use Rattle.sparse_c.specs.Solved.{lower_of, transposed_if, IsFaultOfLower};
+ghost use Rattle.sparse_c.specs.Solved.{transposed_if, IsFaultOfLower, SolvesLower};
 ghost use Rattle.sparse_c.specs.Symmetric.{IsFaultOfSymmetric, SolvesSymmetric};
 ghost use Rattle.sparse_c.specs.Systems.{IsFaultOfEquation, Solves, SolvesSystem};
 ghost use Rattle.c_arrays.specs.Arrays.{plain_by_values};
@@ -55,8 +55,8 @@ fn solution<T: Number>(alloc: Global, system: System<'_>) -> Result<DMatrix<T>, 
     requires cols { system.matrix.pattern.major_dim ≡ system.size }
     ensures rows { IfOk result (λ x. x.nrows ≡ system.entry.size) }
     ensures cols { IfOk result (λ x. x.ncols ≡ system.entry.cols) }
-    ensures solved { let s = system.entry in IfOk result (λ x. Solves T.ring s.equation s.matrix
-        (plain_of_dense T.ring T.value x) (plain_by_values T.ring s.size s.cols s.b.now)
+    ensures solved { let s = system.entry in IfOk result (λ x. Solves T.ring T.value s.equation
+        s.matrix (plain_of_dense T.ring T.value x) (plain_by_values T.ring s.size s.cols s.b.now)
         s.size s.cols) }
     ensures sound { let s = system.entry in
         OnOk result (IsSystemSound s.matrix s.size s.cols s.b.now) }
@@ -88,7 +88,7 @@ fn lower_solution<T: Number>(
     requires cols { l.pattern.major_dim ≡ shape.0 }
     ensures rows { IfOk result (λ x. x.nrows ≡ shape.0) }
     ensures cols { IfOk result (λ x. x.ncols ≡ shape.1) }
-    ensures solved { IfOk result (λ x. IsSolution T.ring (lower_of T.ring transposed l.entry)
+    ensures solved { IfOk result (λ x. SolvesLower T.ring T.value transposed l.entry shape.1
         (plain_of_dense T.ring T.value x)
         (plain_by_values T.ring shape.0 shape.1 b.now)) }
     ensures sound { OnOk result (IsSystemSound l.entry shape.0 shape.1 b.now) }
@@ -116,9 +116,10 @@ fn solve_triangle<T: Number>(
         (plain_lower T.ring (plain_of_cols T.ring T.value l.now)))
         (plain_of_dense T.ring T.value b.new) (plain_of_dense T.ring T.value b.old)) }
     ensures kind { IfErr result (λ e. e ≡ Singular) }
-    ensures some { OnErr result (0 < b.old.ncols) }
-    ensures singular { OnErr result (IsSingular T.ring T.value
+    ensures singular { OnErr result ((0 < b.old.ncols) × IsSingular T.ring T.value
         (plain_lower T.ring (plain_of_cols T.ring T.value l.now))) }
+    ensures regular { OnOk result ((0 < b.old.ncols) × IsSingular T.ring T.value
+        (plain_lower T.ring (plain_of_cols T.ring T.value l.now)) → ⊥) }
 {
     if transposed {
         spsolve_csc_lower_triangular(Op::Transpose(l), b)
@@ -139,7 +140,7 @@ fn symmetric_solution<T: Number>(
     requires cols { a.pattern.major_dim ≡ shape.0 }
     ensures rows { IfOk result (λ x. x.nrows ≡ shape.0) }
     ensures cols { IfOk result (λ x. x.ncols ≡ shape.1) }
-    ensures solved { IfOk result (λ x. SolvesSymmetric T.ring a.entry
+    ensures solved { IfOk result (λ x. SolvesSymmetric T.ring T.value a.entry
         (plain_of_dense T.ring T.value x)
         (plain_by_values T.ring shape.0 shape.1 b.now) shape.0 shape.1) }
     ensures sound { OnOk result (IsSystemSound a.entry shape.0 shape.1 b.now) }

@@ -10,8 +10,8 @@ ghost use Rattle.c_arrays.specs.Rests.{KeepsBehind};
 ghost use Rattle.c_arrays.specs.Statuses.{number_of};
 ghost use Rattle.c_arrays.specs.declared.refusal.Refusal.TheVariants.{EmptyHandle, OutOfMemory};
 ghost use Rattle.c_handles.specs.Held.{plain_held, Answers, IsEmpty};
+ghost use Rattle.c_handles.specs.Held.{Holds, HoldsProduct, HoldsSum};
 ghost use Rattle.c_handles.specs.Held.{IsSumError, IsProductError};
-ghost use Rattle.c_handles.specs.Held.{Holds};
 ghost use Rattle.c_handles.specs.Dense.{dense_product, IsDenseProductError};
 
 use crate::status::status;
@@ -65,8 +65,9 @@ pub extern "C" fn nalgebra_sparse_matrix_add(
     ensures second_missing { b.old.value ≡ None
         → (result ≡ number_of EmptyHandle) ⊎ (result ≡ number_of OutOfMemory) }
     ensures answer { Answers result (IsSumError a.old.value b.old.value)
-        (out.new.value ≡ out.old.value) (Holds out.new.value
-        (plain_sum ring64 (plain_held a.old.value) (plain_held b.old.value))) }
+        (out.new.value ≡ out.old.value) (HoldsSum a.old.value b.old.value
+        (plain_sum ring64 (plain_held a.old.value) (plain_held b.old.value))
+        out.new.value) }
 {
     status!(operations::add(alloc, a, b, out))
 }
@@ -84,8 +85,9 @@ pub extern "C" fn nalgebra_sparse_matrix_subtract(
     ensures second_missing { b.old.value ≡ None
         → (result ≡ number_of EmptyHandle) ⊎ (result ≡ number_of OutOfMemory) }
     ensures answer { Answers result (IsSumError a.old.value b.old.value)
-        (out.new.value ≡ out.old.value) (Holds out.new.value
-        (plain_difference ring64 (plain_held a.old.value) (plain_held b.old.value))) }
+        (out.new.value ≡ out.old.value) (HoldsSum a.old.value b.old.value
+        (plain_difference ring64 (plain_held a.old.value) (plain_held b.old.value))
+        out.new.value) }
 {
     status!(operations::subtract(alloc, a, b, out))
 }
@@ -105,9 +107,9 @@ pub extern "C" fn nalgebra_sparse_matrix_add_scaled(
     ensures second_missing { b.old.value ≡ None
         → (result ≡ number_of EmptyHandle) ⊎ (result ≡ number_of OutOfMemory) }
     ensures answer { Answers result (IsSumError a.old.value b.old.value)
-        (out.new.value ≡ out.old.value) (Holds out.new.value
+        (out.new.value ≡ out.old.value) (HoldsSum a.old.value b.old.value
         (plain_sum ring64 (plain_scaled ring64 (element_of ring64 alpha) (plain_held a.old.value))
-        (plain_scaled ring64 (element_of ring64 beta) (plain_held b.old.value)))) }
+        (plain_scaled ring64 (element_of ring64 beta) (plain_held b.old.value))) out.new.value) }
 {
     status!(operations::add_scaled(alloc, alpha, a, beta, b, out))
 }
@@ -125,8 +127,9 @@ pub extern "C" fn nalgebra_sparse_matrix_multiply(
     ensures second_missing { b.old.value ≡ None
         → (result ≡ number_of EmptyHandle) ⊎ (result ≡ number_of OutOfMemory) }
     ensures answer { Answers result (IsProductError a.old.value b.old.value)
-        (out.new.value ≡ out.old.value) (Holds out.new.value
-        (plain_product ring64 (plain_held a.old.value) (plain_held b.old.value))) }
+        (out.new.value ≡ out.old.value) (HoldsProduct a.old.value b.old.value
+        (plain_product ring64 (plain_held a.old.value) (plain_held b.old.value))
+        out.new.value) }
 {
     status!(operations::multiply(alloc, a, b, out))
 }

@@ -8,7 +8,7 @@ ghost use Rattle.c_arrays.specs.declared.refusal.Refusal.TheVariants.{EmptyHandl
 ghost use Rattle.c_handles.specs.Held.{plain_held, Answers, IsEmpty};
 ghost use Rattle.c_handles.specs.Factored.{l_held, product_held, size_held};
 ghost use Rattle.c_handles.specs.Factored.{HasNoSystem, HoldsFactors, IsUnfactored};
-ghost use Rattle.c_handles.specs.Solved.{triangle_of, IsUnsolved, SolvesInPlace};
+ghost use Rattle.c_handles.specs.Solved.{IsUnsolved, SolvesInPlace, SolvesTriangle};
 ghost use Rattle.c_handles.specs.declared.solving.Triangle.TheVariants.{Lower, Upper};
 ghost use Rattle.sparse_c.specs.Factors.{WritesHeldFactors};
 
@@ -35,9 +35,9 @@ pub extern "C" fn nalgebra_sparse_matrix_solve_lower(
 ) -> i32
     ensures kept { a.new.value ≡ a.old.value }
     ensures missing { a.old.value ≡ None → result ≡ number_of EmptyHandle }
-    ensures answer { let m = plain_held a.old.value in
-        Answers result (IsUnsolved Lower a.old.value cols values.old) (values.new ≡ values.old)
-        (SolvesInPlace (triangle_of Lower transposed m) m.rows cols values.old values.new) }
+    ensures answer { Answers result (IsUnsolved Lower a.old.value cols values.old)
+        (values.new ≡ values.old)
+        (SolvesTriangle Lower transposed (plain_held a.old.value) cols values.old values.new) }
 {
     status!(solve_triangle(alloc, a, Triangle::Lower, transposed, cols, values))
 }
@@ -56,9 +56,9 @@ pub extern "C" fn nalgebra_sparse_matrix_solve_upper(
 ) -> i32
     ensures kept { a.new.value ≡ a.old.value }
     ensures missing { a.old.value ≡ None → result ≡ number_of EmptyHandle }
-    ensures answer { let m = plain_held a.old.value in
-        Answers result (IsUnsolved Upper a.old.value cols values.old) (values.new ≡ values.old)
-        (SolvesInPlace (triangle_of Upper transposed m) m.rows cols values.old values.new) }
+    ensures answer { Answers result (IsUnsolved Upper a.old.value cols values.old)
+        (values.new ≡ values.old)
+        (SolvesTriangle Upper transposed (plain_held a.old.value) cols values.old values.new) }
 {
     status!(solve_triangle(alloc, a, Triangle::Upper, transposed, cols, values))
 }

@@ -8,7 +8,7 @@ ghost use Rattle.sparse_compressed.specs.Compressed.{arrays_of};
 ghost use Rattle.sparse_c.specs.Dense.{WritesValues};
 ghost use Rattle.sparse_c.specs.Moduli.{moduli, IsFaultModulo, IsNoneOf};
 ghost use Rattle.sparse_c.specs.Rooms.{Shows};
-ghost use Rattle.sparse_c.specs.Solved.{lower_of, HoldsSolution, IsFaultOfLower, IsSolutionTooLong};
+ghost use Rattle.sparse_c.specs.Solved.{HoldsSolution, IsFaultOfLower, IsSolutionTooLong};
 ghost use Rattle.c_arrays.specs.Arrays.{plain_by_values, ring64};
 ghost use Rattle.c_arrays.specs.Reduced.{IsReduced};
 ghost use Rattle.c_arrays.specs.Refused.{IsSystemSound};
@@ -37,11 +37,11 @@ pub extern "C" fn nalgebra_sparse_solve_lower(
     out_values: &mut [i64],
 ) -> i32
     ensures answered { let l = arrays_of size size offsets.now indices.now values.now in
-        let t = lower_of ring64 transposed l in
         let b = plain_by_values ring64 size cols b_values.now in
         WritesValues (IsSystemSound l size cols b_values.now)
         (IsFaultOfLower ring64 w64_value l size cols b_values.now)
-        (HoldsSolution ring64 t b size cols) (IsSolutionTooLong ring64 t b size cols)
+        (HoldsSolution ring64 w64_value transposed l size cols b)
+        (IsSolutionTooLong ring64 w64_value transposed l size cols b)
         (size * cols) out_values.old out_values.new result }
 {
     let system = System {
@@ -71,11 +71,12 @@ pub extern "C" fn nalgebra_sparse_solve_lower_mod(
 ) -> i32
     ensures answered { let l = arrays_of size size offsets.now indices.now values.now in
         let ring = mod_ring modulus in
-        let t = lower_of ring transposed l in
+        let value = mod_value {m = modulus} in
         let b = plain_by_values ring size cols b_values.now in
-        WritesValues (IsSystemSound l size cols b_values.now) (IsFaultModulo modulus
-        (IsFaultOfLower ring (mod_value {m = modulus}) l size cols b_values.now))
-        (HoldsSolution ring t b size cols) (IsSolutionTooLong ring t b size cols)
+        WritesValues (IsSystemSound l size cols b_values.now)
+        (IsFaultModulo modulus (IsFaultOfLower ring value l size cols b_values.now))
+        (HoldsSolution ring value transposed l size cols b)
+        (IsSolutionTooLong ring value transposed l size cols b)
         (size * cols) out_values.old out_values.new result }
     ensures reduced { Shows (IsReduced modulus) (size * cols) out_values.new result }
     ensures unlisted { IsNoneOf moduli modulus → result ≡ number_of UnknownChoice }

@@ -40,8 +40,8 @@ pub extern "C" fn nalgebra_sparse_solve_symmetric(
         let b = plain_by_values ring64 size cols b_values.now in
         WritesValues (IsSystemSound a size cols b_values.now)
         (IsFaultOfSymmetric ring64 w64_value a size cols b_values.now)
-        (HoldsSymmetricSolution ring64 a b size cols)
-        (IsSymmetricSolutionTooLong ring64 a b size cols)
+        (HoldsSymmetricSolution ring64 w64_value a b size cols)
+        (IsSymmetricSolutionTooLong ring64 w64_value a b size cols)
         (size * cols) out_values.old out_values.new result }
 {
     let system = System {
@@ -70,11 +70,12 @@ pub extern "C" fn nalgebra_sparse_solve_symmetric_mod(
 ) -> i32
     ensures answered { let a = arrays_of size size offsets.now indices.now values.now in
         let ring = mod_ring modulus in
+        let value = mod_value {m = modulus} in
         let b = plain_by_values ring size cols b_values.now in
-        WritesValues (IsSystemSound a size cols b_values.now) (IsFaultModulo modulus
-        (IsFaultOfSymmetric ring (mod_value {m = modulus}) a size cols b_values.now))
-        (HoldsSymmetricSolution ring a b size cols)
-        (IsSymmetricSolutionTooLong ring a b size cols)
+        WritesValues (IsSystemSound a size cols b_values.now)
+        (IsFaultModulo modulus (IsFaultOfSymmetric ring value a size cols b_values.now))
+        (HoldsSymmetricSolution ring value a b size cols)
+        (IsSymmetricSolutionTooLong ring value a b size cols)
         (size * cols) out_values.old out_values.new result }
     ensures reduced { Shows (IsReduced modulus) (size * cols) out_values.new result }
     ensures unlisted { IsNoneOf moduli modulus → result ≡ number_of UnknownChoice }

@@ -13,8 +13,9 @@ returns-in-Ok-clause-factors c =
     let p = c.in_ok-permutation.ensures in
     let s = c.in-Ok.ensures in
     AreFactorsInOrder-plain (plain_of_rows ring64 w64_value c.args.a.now) c.in_ok-columns.columns
-    c.args.order.now c.in_ok-permutation.permutation c.in-Ok.factors c.in_ok-columns.ensures p.valid
-    p.order s.order s.rows s.factors s.equation
+    c.args.order.now c.in_ok-permutation.permutation c.in-Ok.factors c.in_ok-columns.ensures
+    (sym c.in_ok-size.ensures.rows ∙ c.in_ok-size.ensures.cols) p.valid p.order s.order s.rows
+    s.entries s.factors s.equation
 
 pub returns-in-Err-Singular-clause-fault : goal.returns-in-Err-Singular-clause-fault
 returns-in-Err-Singular-clause-fault c =

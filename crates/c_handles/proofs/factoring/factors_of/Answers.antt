@@ -6,13 +6,15 @@ use Rattle.c_arrays.specs.Arrays.{ring64}
 use Rattle.c_arrays.specs.Statuses.{refusal_of_operation}
 use Rattle.sparse_compressed.specs.PlainOfLanes.{plain_of_rows}
 use Rattle.sparse_factor.specs.Factorisations.{plain_symmetric, IsFactorisation}
-use Rattle.c_handles.proofs.HeldFactors.{IsFactorisation-plain}
+use Rattle.c_handles.proofs.HeldFactors.{AreFactors-plain}
 use Rattle.c_handles.proofs.factoring.factors_of.Goals as goal
 
 pub returns-clause-factors : goal.returns-clause-factors
 returns-clause-factors c =
     let s = c.in_ok-factors.ensures in
-    IsFactorisation-plain (plain_of_rows ring64 w64_value c.args.a.now) _ _ c.in_ok-columns.ensures s.rows s.count
+    AreFactors-plain (plain_of_rows ring64 w64_value c.args.a.now) c.in_ok-columns.columns _
+    c.values.ensures.sound c.in_ok-columns.ensures
+    (sym c.in_ok-size_of.ensures.rows ∙ c.in_ok-size_of.ensures.cols) s.rows s.count s.entries
     s.unit_diagonal s.pivots s.equation
 
 pub returns-in_err-factors-clause-fault : goal.returns-in_err-factors-clause-fault

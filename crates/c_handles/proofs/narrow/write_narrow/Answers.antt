@@ -1,4 +1,4 @@
-use Rattle.std.proofs.Common.{◌<◌, ◌≡◌, length, inl, inr, ap, sym, subst, ◌∙◌, map, refl, take}
+use Rattle.std.proofs.Common.{◌<◌, ◌≡◌, length, inl, inr, ap, sym, subst, ◌∙◌, map, refl, rules, take}
 use Rattle.sparse_algebra.specs.Integers.{element_of}
 use Rattle.sparse_algebra.specs.WrappingValues.{w64_value}
 use Rattle.c_arrays.proofs.Holding.{HoldsRows-put}
@@ -8,6 +8,7 @@ use Rattle.c_handles.proofs.narrow.write_narrow.Goals as goal
 
 pub returns-then-indices-count-clause-fault : goal.returns-then-indices-count-clause-fault
 returns-then-indices-count-clause-fault c = inr (
+  search rules,
   refl,
   inr (inl (subst
       (λ n. length c.args.indices.now < n) (ap length c.csr_data.ensures.values
@@ -17,6 +18,7 @@ returns-then-indices-count-clause-fault c = inr (
 
 pub returns-then-values-count-clause-fault : goal.returns-then-values-count-clause-fault
 returns-then-values-count-clause-fault c = inr (
+  search rules,
   refl,
   inr (inr (subst
       (λ n. length c.args.values.now < n) (ap length c.csr_data.ensures.values

@@ -6,10 +6,11 @@ use Rattle.sparse_coo_dense.specs.DensePlain.{plain_of_dense}
 use Rattle.c_arrays.specs.Arrays.{ring64}
 use Rattle.c_arrays.specs.Statuses.{refusal_of_operation}
 use Rattle.sparse_compressed.specs.PlainOfLanes.{plain_of_rows}
-use Rattle.c_handles.specs.Solved.{part_of, triangle_of}
+use Rattle.c_handles.specs.Solved.{triangle_of, IsSingularSystem}
 use Rattle.c_handles.specs.declared.solving.Triangle.TheVariants.{Lower}
-use Rattle.sparse_dense_ops.specs.Solutions.{IsSingular, IsSolution}
-use Rattle.c_handles.proofs.Triangles.{IsSingular-as_lower, cols-as_lower, rows-as_lower}
+use Rattle.sparse_dense_ops.specs.Solutions.{IsSolution}
+use Rattle.c_handles.proofs.Triangles.{cols-as_lower, rows-as_lower}
+use Rattle.c_handles.proofs.Triangles.{IsSingularSystem-of_lower, IsSingularSystem-to_lower}
 use Rattle.c_handles.proofs.solving.solve_part.Goals as goal
 
 pub substitute-requires : goal.substitute-requires
@@ -36,8 +37,13 @@ returns-in_err-substitute-clause-fault c =
     let e = c.in_err-substitute.ensures in
     rw p.1 (inr (
       p.2 ∙ ap refusal_of_operation e.kind,
-      e.some,
-      IsSingular-as_lower c.args.triangle (plain_of_rows ring64 w64_value c.args.a.now)
-          c.requires.square (subst (λ (p : Plain ring64). IsSingular ring64 w64_value
-          (part_of Lower p)) c.in_ok-columns.ensures e.singular),
+      IsSingularSystem-of_lower c.args.triangle (plain_of_rows ring64 w64_value c.args.a.now) c.args.b.now.ncols
+          c.requires.square (subst (λ (p : Plain ring64). IsSingularSystem Lower p c.args.b.now.ncols)
+          c.in_ok-columns.ensures e.singular),
     ))
+
+pub returns-clause-regular : goal.returns-clause-regular
+returns-clause-regular c = λ singular. c.in_ok-substitute.ensures.regular
+    (subst (λ (p : Plain ring64). IsSingularSystem Lower p c.args.b.now.ncols)
+    (sym c.in_ok-columns.ensures) (IsSingularSystem-to_lower c.args.triangle
+    (plain_of_rows ring64 w64_value c.args.a.now) c.args.b.now.ncols c.requires.square singular))

@@ -4,9 +4,10 @@ use Rattle.sparse_algebra.specs.Plain.{Plain}
 use Rattle.sparse_coo_dense.specs.DensePlain.{plain_of_dense}
 use Rattle.sparse_compressed.specs.PlainOfLanes.{plain_of_cols}
 use Rattle.sparse_factor.specs.Factorisations.{plain_symmetric, IsFactorisation}
-use Rattle.sparse_factor.specs.Factors.{plain_of_factors}
+use Rattle.sparse_factor.specs.Factors.{diagonal, plain_of_factors}
 use Rattle.sparse_dense_ops.specs.Solutions.{HasSameValues}
 use Rattle.sparse_c.specs.Symmetric.{symmetric_by_cols}
+use Rattle.sparse_c.proofs.Factoring.{IsFactorisation-arrays}
 use Rattle.sparse_c.proofs.Solving.{solved_as}
 use Rattle.c_arrays.specs.Arrays.{plain_by_values}
 use Rattle.c_arrays.specs.Statuses.{refusal_of_operation}
@@ -29,9 +30,17 @@ returns-clause-solved g c =
     c.in_ok-a.ensures.plain
     (subst (λ k. HasSameValues R k k factors (plain_symmetric R (plain_of_cols R f c.in_ok-a.a)))
     (c.in_ok-factors.ensures.count ∙ size) c.in_ok-factors.ensures.equation) in
-    solved_as R (symmetric_by_cols R c.args.a) factors x b n m c.requires.cols
-    (c.in_ok-factors.ensures.rows ∙ size) equation
-    (c.solve_mut.ensures.solved ∙ c.in_ok-x.ensures.plain)
+    let made = c.in_ok-factors.ensures in
+    record {
+      factored = (
+        plain_of_cols R f s.l,
+        diagonal R f z s.d,
+        IsFactorisation-arrays R f z c.args.a c.in_ok-a.a s c.in_ok-a.ensures.pattern
+            c.in_ok-a.ensures.plain made.rows made.count made.unit_diagonal made.pivots made.equation,
+      );
+      solves = solved_as R (symmetric_by_cols R c.args.a) factors x b n m c.requires.cols
+          (made.rows ∙ size) equation (c.solve_mut.ensures.solved ∙ c.in_ok-x.ensures.plain);
+    }
 
 pub returns-in_err-factors-clause-fault : goal.returns-in_err-factors-clause-fault
 returns-in_err-factors-clause-fault g c =

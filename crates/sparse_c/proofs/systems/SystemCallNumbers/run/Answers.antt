@@ -14,7 +14,7 @@ returns g c =
     let s = c.args.self in
     let ensured = c.solution.ensures in
     let ended = c.finish_dense.ensures in
-    numbers_answered c.solution.result s.size s.cols ensured.rows ensured.cols R f (IsSolved R s)
+    numbers_answered c.solution.result s.size s.cols ensured.rows ensured.cols R f (IsSolved R f s)
     ensured.solved _ _ status _ same refl ensured.sound ensured.fault
     (equation_sound R f s.equation s.matrix s.size s.cols s.b.now) ended.written ended.shown
     ended.rest ended.untouched ended.refused
