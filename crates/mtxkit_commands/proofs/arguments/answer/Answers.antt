@@ -10,8 +10,7 @@ returns-clause-answered g c = λ done.
     let readings = readings_of c.run_args.new.texts in
     let savings = savings_of c.run_args.new.files in
     let old = g.W.Write.contents c.args.out.now.inner in
-    let new = g.W.Write.contents c.run_args.new.out.inner in
-    (
+    let new = g.W.Write.contents c.run_args.new.out.inner in (
       readings,
       savings,
       subst (λ (none : List Reading). HasFlushedAnswer none readings [] savings old new)
